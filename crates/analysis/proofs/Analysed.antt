@@ -26,11 +26,13 @@ event_taken old new event left out out' last whole takes writes g = record {
       ∙ append_assoc out (timed g.now event) (all_timed (with_event g.now event) left) ∙ g.rest;
 }
 
-pub events_kept : (analyser : Analyser) (out : List TimedEvent) (last : AnalysisState) (whole : List TimedEvent) → Going analyser [] out last whole → IsAnalysed analyser last
+pub events_kept : (analyser : Analyser) (out : List TimedEvent) (last : AnalysisState) (whole : List TimedEvent) → Going analyser [] out last whole →
+    IsAnalysed analyser last
 unfolding with_events
 events_kept analyser out last whole g = subst (IsAnalysed analyser) g.kept g.is
 
-pub events_written : (analyser : Analyser) (out : List TimedEvent) (last : AnalysisState) (whole : List TimedEvent) → Going analyser [] out last whole → out ≡ whole
+pub events_written : (analyser : Analyser) (out : List TimedEvent) (last : AnalysisState) (whole : List TimedEvent) → Going analyser [] out last whole →
+    out ≡ whole
 unfolding all_timed
 events_written analyser out last whole g = sym (append-nil out) ∙ g.rest
 
@@ -43,8 +45,10 @@ pub record Settled (analyser : Analyser) (packets : List (List ℕ)) (events : L
   pub kept : after_all now packets ≡ last
   pub rest : events ++ events_all now packets ≡ whole
 
-pub one_taken : (old new : Analyser) (packet : List ℕ) (packets : List (List ℕ)) (events events' : List TimedEvent) (last : AnalysisState) (whole : List TimedEvent) →
-    ((s : AnalysisState) → IsAnalysed old s → IsAnalysed new (after_packet s packet)) → ((s : AnalysisState) → IsAnalysed old s → events' ≡ events ++ events_at s packet) →
+pub one_taken : (old new : Analyser) (packet : List ℕ) (packets : List (List ℕ)) (events events' : List TimedEvent) (last : AnalysisState)
+    (whole : List TimedEvent) →
+    ((s : AnalysisState) → IsAnalysed old s → IsAnalysed new (after_packet s packet)) →
+    ((s : AnalysisState) → IsAnalysed old s → events' ≡ events ++ events_at s packet) →
     Settled old (packet ∷ packets) events last whole → Settled new packets events' last whole
 unfolding after_all events_all
 one_taken old new packet packets events events' last whole takes writes s = record {
@@ -55,10 +59,12 @@ one_taken old new packet packets events events' last whole takes writes s = reco
       ∙ append_assoc events (events_at s.now packet) (events_all (after_packet s.now packet) packets) ∙ s.rest;
 }
 
-pub all_kept : (analyser : Analyser) (events : List TimedEvent) (last : AnalysisState) (whole : List TimedEvent) → Settled analyser [] events last whole → IsAnalysed analyser last
+pub all_kept : (analyser : Analyser) (events : List TimedEvent) (last : AnalysisState) (whole : List TimedEvent) → Settled analyser [] events last whole →
+    IsAnalysed analyser last
 unfolding after_all
 all_kept analyser events last whole s = subst (IsAnalysed analyser) s.kept s.is
 
-pub all_settled : (analyser : Analyser) (events : List TimedEvent) (last : AnalysisState) (whole : List TimedEvent) → Settled analyser [] events last whole → events ≡ whole
+pub all_settled : (analyser : Analyser) (events : List TimedEvent) (last : AnalysisState) (whole : List TimedEvent) → Settled analyser [] events last whole →
+    events ≡ whole
 unfolding events_all
 all_settled analyser events last whole s = sym (append-nil events) ∙ s.rest

@@ -131,7 +131,8 @@ impl Analyser {
         window_in(self.span, self.window, window_of(event)) && fault_in(self.span, fault)
     }
 
-    /// Takes an event of the part that is asked for, and appends it with the moment of its packet; leaves out any other.
+    /// Takes an event of the part that is asked for, and appends it with the moment of its packet; leaves out any
+    /// other.
     pub fn take_event(
         &mut self,
         event: Event,
@@ -211,8 +212,8 @@ impl Analyser {
         self.view.is_crowded()
     }
 
-    /// Ends the stream, `left` bytes after its last whole packet, and appends the last events. Returns whether nothing is wrong in
-    /// the stream by its view.
+    /// Ends the stream, `left` bytes after its last whole packet, and appends the last events. Returns whether nothing
+    /// is wrong in the stream by its view.
     pub fn end(&mut self, left: usize, events: &mut Vec<TimedEvent>) -> Result<bool, AllocError>
         ensures analysed { (s : AnalysisState) → IsAnalysed self.old s → OnOk result (IsAnalysed self.new (spec.ended s left)) }
         ensures found { (s : AnalysisState) → IsAnalysed self.old s →

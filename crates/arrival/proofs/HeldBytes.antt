@@ -1,5 +1,6 @@
 -- The line of a byte is known once the reference after it has come.
-use Rattle.std.proofs.Common.{◌≡◌, ◌∙◌, ℕ, ◌+◌, ◌-◌, ◌<◌, ◌≤◌, Bool, true, false, is_some, List, [], ◌∷◌, ◌++◌, Option, Some, None, if◌then◌else◌, refl, ap, arith}
+use Rattle.std.proofs.Common.{◌≡◌, ◌∙◌, ℕ, ◌+◌, ◌-◌, ◌<◌, ◌≤◌, Bool, true, false, is_some, List, [], ◌∷◌, ◌++◌, Option, Some, None, if◌then◌else◌, refl, ap}
+use Rattle.std.proofs.Common.{arith}
 use Rattle.std.proofs.lemmas.Bool.{le-leb, lt-leb}
 use Rattle.std.specs.Option.{option_or}
 use Rattle.arrival.specs.declared.clock.PcrSample.{PcrSample}
@@ -43,12 +44,15 @@ unfolding line_by LiesAfter last_of step_after line_in
 after_it next [] before i after = or_none next
 after_it next (e ∷ earlier) before i after = rw (le-leb (first_after (e ∷ earlier) before) i after) refl
 
-between : (next : Option Line) (earlier : List PcrSample) (before sample : PcrSample) (i : ℕ) → LiesAfter earlier before i → i < first_after (before ∷ earlier) sample →
+between : (next : Option Line) (earlier : List PcrSample) (before sample : PcrSample) (i : ℕ) → LiesAfter earlier before i →
+    i < first_after (before ∷ earlier) sample →
     line_by next (sample ∷ before ∷ earlier) i ≡ option_or (line_to (before ∷ earlier) sample) (line_to earlier before)
-between next earlier before sample i after below = before_it next earlier before sample i below ∙ after_it (line_to (before ∷ earlier) sample) earlier before i after
+between next earlier before sample i after below = before_it next earlier before sample i below
+    ∙ after_it (line_to (before ∷ earlier) sample) earlier before i after
 
 -- what comes later changes nothing
-later_same : (later earlier : List PcrSample) (next : Option Line) (before sample : PcrSample) (i : ℕ) → AreLater sample.byte later → LiesAfter earlier before i →
+later_same : (later earlier : List PcrSample) (next : Option Line) (before sample : PcrSample) (i : ℕ) → AreLater sample.byte later →
+    LiesAfter earlier before i →
     i < first_after (before ∷ earlier) sample →
     line_by next (later ++ sample ∷ before ∷ earlier) i ≡ option_or (line_to (before ∷ earlier) sample) (line_to earlier before)
 unfolding AreLater

@@ -20,7 +20,8 @@ constant_row drain i (suc n) =
     rw (div-one (i * drain), next) (ap (λ (ts : List ℕ). i * drain ∷ ts) (constant_row drain (suc i) n))
 
 -- in a row the bytes after the first a
-pub row-append : (from pace parts a b : ℕ) → times_in_row from pace parts (a + b) ≡ times_in_row from pace parts a ++ times_in_row (from + a * pace) pace parts b
+pub row-append : (from pace parts a b : ℕ) → times_in_row from pace parts (a + b) ≡ times_in_row from pace parts a
+    ++ times_in_row (from + a * pace) pace parts b
 unfolding times_in_row
 row-append from pace parts zero b = let e : from + 0 * pace ≡ from = omega arith in rw (zero-add b, e) refl
 row-append from pace parts (suc a) b =
@@ -34,7 +35,8 @@ split_rows row count le =
     sym (rw e at (row-append row.from row.pace row.parts count (row.bytes - count)))
 
 -- bytes before a moment
-pub all_before : (moment from pace parts n : ℕ) → 0 < parts → ((j : ℕ) → j < n → j * pace < moment * parts - from) → All (λ t. t < moment) (times_in_row from pace parts n)
+pub all_before : (moment from pace parts n : ℕ) → 0 < parts → ((j : ℕ) → j < n → j * pace < moment * parts - from) →
+    All (λ t. t < moment) (times_in_row from pace parts n)
 unfolding times_in_row
 all_before moment from pace parts zero some room = All-nil (λ t. t < moment)
 all_before moment from pace parts (suc n) some room =

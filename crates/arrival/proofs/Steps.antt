@@ -33,7 +33,8 @@ begins None sample step moment is m = rw is tt
 begins (Some before) sample step moment is m = rw is (begins_by before sample moment (goes_on before.sample sample) sample.discontinuity refl refl m)
 
 -- and the next reference comes no later than a second for each packet between
-soon : (byte byte' moment ticks : ℕ) (a b : Bool) → (a && nat_le (byte + 188) byte' && b && nat_le ticks 27000000) ≡ true → IsMoment byte moment → IsMoment byte' (moment + ticks)
+soon : (byte byte' moment ticks : ℕ) (a b : Bool) → (a && nat_le (byte + 188) byte' && b && nat_le ticks 27000000) ≡ true → IsMoment byte moment →
+    IsMoment byte' (moment + ticks)
 soon byte byte' moment ticks a b e is =
     let apart : byte + 188 ≤ byte' = grind (arith, nat_tests) in
     let short : ticks ≤ 27000000 = grind (arith, nat_tests) in
@@ -43,7 +44,8 @@ ends_by : (before : TimedSample) (sample : PcrSample) (moment : ℕ) (on anew : 
     IsMoment before.sample.byte moment → IfGoesOn (step_from before sample) (λ line. IsMoment sample.byte (moment + line.ticks))
 unfolding step_from IfGoesOn
 ends_by before sample moment true anew e f is =
-    rw e (soon before.sample.byte sample.byte moment (elapsed before.sample.ticks sample.ticks) (not sample.discontinuity) (nat_lt 0 (elapsed before.sample.ticks sample.ticks)) e is)
+    rw e (soon before.sample.byte sample.byte moment (elapsed before.sample.ticks sample.ticks) (not sample.discontinuity)
+    (nat_lt 0 (elapsed before.sample.ticks sample.ticks)) e is)
 ends_by before sample moment false true e f is = rw (e, f) tt
 ends_by before sample moment false false e f is = rw (e, f) tt
 

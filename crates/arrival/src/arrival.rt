@@ -47,8 +47,8 @@ impl ClockLines {
 }
 
 impl Arrival {
-    /// Returns how long a byte takes to leave a buffer at its rate: a buffer that is drained at `r` bits a second counts time in units of `1
-    /// / (r * step)` of 8 seconds.
+    /// Returns how long a byte takes to leave a buffer at its rate: a buffer that is drained at `r` bits a second
+    /// counts time in units of `1 / (r * step)` of 8 seconds.
     #[tactic(auto, unfolding(crate::specs::Arrivals::step_of))]
     pub fn step(&self) -> u64
         ensures step { result ≡ spec.step_of self.now }
@@ -79,7 +79,8 @@ impl Arrival {
         }
     }
 
-    /// Returns how many bytes of the packet from byte `byte` on lie on the first of two lines, where the second begins within it.
+    /// Returns how many bytes of the packet from byte `byte` on lie on the first of two lines, where the second begins
+    /// within it.
     #[tactic(auto, unfolding(crate::specs::Arrivals::lead_of))]
     pub fn lead(&self, byte: u64) -> u64
         requires { byte ≤ 2 ^ 41 }
@@ -97,8 +98,8 @@ impl Arrival {
         }
     }
 
-    /// Returns the arrivals of `count` bytes from byte `byte` on, all on the line of the first of them, at a buffer that is drained at
-    /// `drain` bits a second.
+    /// Returns the arrivals of `count` bytes from byte `byte` on, all on the line of the first of them, at a buffer
+    /// that is drained at `drain` bits a second.
     #[tactic(auto, unfolding(crate::specs::Arrivals::has_times, crate::specs::Arrivals::times_at))]
     pub fn row(&self, drain: u64, byte: u64, count: u64) -> Row
         requires drain { drain ≤ 200000000 }

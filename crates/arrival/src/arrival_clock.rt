@@ -8,8 +8,8 @@ use crate::clock_line::ClockLine;
 use crate::line::Line;
 use std::marker::Model;
 
-/// The clock of a stream's arrival: the program's clock, the moment of its last reference, and the last line, which continues where
-/// the clock restarts.
+/// The clock of a stream's arrival: the program's clock, the moment of its last reference, and the last line, which
+/// continues where the clock restarts.
 #[derive(Clone, Copy)]
 pub struct ArrivalClock {
     clock: ProgramClock,

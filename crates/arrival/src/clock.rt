@@ -14,8 +14,8 @@ pub const PCR_PERIOD: u64 = 300 << 33;
 /// that ISO/IEC 13818-1, 2.7.2, allows.
 pub const LONGEST_INTERVAL: u64 = 27_000_000;
 
-/// A program clock reference: the byte of the stream that ends its base (byte 10 of its packet), its value in ticks, and
-/// the discontinuity_indicator beside it.
+/// A program clock reference: the byte of the stream that ends its base (byte 10 of its packet), its value in ticks,
+/// and the discontinuity_indicator beside it.
 #[derive(Clone, Copy)]
 pub struct PcrSample {
     pub byte: u64,

@@ -1,5 +1,5 @@
-//! Laws of arrivals. Each is a function that does nothing: its contract is the law, over the definitions of `specs/` alone, and a
-//! caller may cite it.
+//! Laws of arrivals. Each is a function that does nothing: its contract is the law, over the definitions of `specs/`
+//! alone, and a caller may cite it.
 ghost use Rattle.arrival.specs.Laws.{ConstantMoments, ConstantRow, ConstantScale};
 ghost use Rattle.arrival.specs.Laws.{LineBegins, LineEnds, LinesMeet, LineRises, Rounded, ReachLaw};
 ghost use Rattle.arrival.specs.Laws.{MomentLaw, HeldLaw, StateLaw};
@@ -11,8 +11,8 @@ pub fn constant_rate()
     ensures scale { ConstantScale }
 {}
 
-/// States that a line goes through both its references, so that the next line begins where it ends; no byte arrives before an
-/// earlier one; and an arrival is less than a unit early.
+/// States that a line goes through both its references, so that the next line begins where it ends; no byte arrives
+/// before an earlier one; and an arrival is less than a unit early.
 pub fn lines()
     ensures begins { LineBegins }
     ensures ends { LineEnds }

@@ -16,8 +16,8 @@ pub struct Line {
 }
 
 impl Line {
-    /// Returns the arrivals of `count` bytes of the stream from byte `byte` on, at a buffer that is drained at `drain` bits a
-    /// second.
+    /// Returns the arrivals of `count` bytes of the stream from byte `byte` on, at a buffer that is drained at `drain`
+    /// bits a second.
     #[tactic(auto, using(crate::proofs::Lines::row_on, crate::proofs::Lines::reaches))]
     pub fn row(&self, drain: u64, byte: u64, count: u64) -> Row
         requires line { IsClockLine self.now }

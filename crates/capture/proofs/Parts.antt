@@ -1,12 +1,15 @@
 -- The parts of a capture, one by one.
-use Rattle.std.proofs.Common.{◌≡◌, ◌≤◌, ◌<◌, ℕ, zero, suc, ◌+◌, ◌*◌, ◌-◌, ◌/◌, nat_lt, Bool, true, false, refl, sym, ap, ap₂, subst, arith, ◌∙◌, List, [], ◌∷◌, ◌++◌, length, length-append, length-drop, map, take, drop, slice_range, Option, None, Some, append_assoc, append-nil, drop-drop, take-add}
+use Rattle.std.proofs.Common.{◌≡◌, ◌≤◌, ◌<◌, ℕ, zero, suc, ◌+◌, ◌*◌, ◌-◌, ◌/◌, nat_lt, Bool, true, false, refl, sym, ap, ap₂, subst, arith, ◌∙◌, List, [], ◌∷◌}
+use Rattle.std.proofs.Common.{◌++◌, length, length-append, length-drop, map, take, drop, slice_range, Option, None, Some, append_assoc, append-nil, drop-drop}
+use Rattle.std.proofs.Common.{take-add}
 use Rattle.std.proofs.lemmas.List.{drop_all, drop-append-le, take-append-le, map-append}
 use Rattle.events.specs.declared.input_event.FileForm.{FileForm}
 use Rattle.packet_sync.specs.Slips.{slip_size}
 use Rattle.packet_sync.specs.declared.packet_sizes.OtherPackets.{OtherPackets}
 use Rattle.packet_sync.specs.declared.packet_sizes.OtherPackets.TheVariants.{Timed, Corrected}
 use Rattle.packet_sync.proofs.Stretches.{slip_later, slip_some}
-use Rattle.capture.specs.Captures.{Capture, IsPacket, NextPart, Part, after_packets, after_slip, capture_from, capture_in, capture_then, least_size, next_of, next_part, no_parts, packet_in, plain_next, size_of, slip_at, with_parts}
+use Rattle.capture.specs.Captures.{Capture, IsPacket, NextPart, Part, after_packets, after_slip, capture_from, capture_in, capture_then, least_size, next_of}
+use Rattle.capture.specs.Captures.{next_part, no_parts, packet_in, plain_next, size_of, slip_at, with_parts}
 use Rattle.capture.specs.declared.place.Place.{Place}
 
 -- 1. However many steps there may be
@@ -27,7 +30,8 @@ next_some None p bs = plain_some (slip_size bs 0) p bs refl
 next_some (Some other) p bs = size_some other
 
 -- a part is there where the bytes are enough
-there_by : (other : Option OtherPackets) (p : Place) (bs : List ℕ) (x : NextPart) (b : Bool) → nat_lt (length bs) (least_size other) ≡ b → next_part other p bs ≡ Some x → 1 ≤ x.size
+there_by : (other : Option OtherPackets) (p : Place) (bs : List ℕ) (x : NextPart) (b : Bool) → nat_lt (length bs) (least_size other) ≡ b →
+    next_part other p bs ≡ Some x → 1 ≤ x.size
 unfolding next_part
 there_by other p bs x true is e = let none : next_part other p bs ≡ None = rw is refl in absurd (let both : None ≡ Some x = sym none ∙ e in cc)
 there_by other p bs x false is e =
@@ -38,14 +42,16 @@ there_by other p bs x false is e =
 there : (other : Option OtherPackets) (p : Place) (bs : List ℕ) (x : NextPart) → next_part other p bs ≡ Some x → 1 ≤ x.size
 there other p bs x e = there_by other p bs x (nat_lt (length bs) (least_size other)) refl e
 
-fuel_then : (n m : ℕ) (form : FileForm) (other : Option OtherPackets) (bs : List ℕ) (o : Option NextPart) → length bs ≤ suc n → length bs ≤ suc m → ((x : NextPart) → o ≡ Some x → 1 ≤ x.size) →
+fuel_then : (n m : ℕ) (form : FileForm) (other : Option OtherPackets) (bs : List ℕ) (o : Option NextPart) → length bs ≤ suc n → length bs ≤ suc m →
+    ((x : NextPart) → o ≡ Some x → 1 ≤ x.size) →
     ((p : Place) (bs : List ℕ) → length bs ≤ n → length bs ≤ m → capture_in n form other p bs ≡ capture_in m form other p bs) →
     capture_then o form bs (capture_in n form other) ≡ capture_then o form bs (capture_in m form other)
 unfolding capture_then
 fuel_then n m form other bs None some more least rest = refl
 fuel_then n m form other bs (Some x) some more least rest =
     let one : 1 ≤ x.size = least x refl in
-    ap (with_parts (x.part ∷ [])) (rest x.place (drop x.size bs) (omega (arith, length-drop x.size bs, some, one)) (omega (arith, length-drop x.size bs, more, one)))
+    ap (with_parts (x.part ∷ []))
+    (rest x.place (drop x.size bs) (omega (arith, length-drop x.size bs, some, one)) (omega (arith, length-drop x.size bs, more, one)))
 
 least_some : (other : Option OtherPackets) → 1 ≤ least_size other
 unfolding least_size
@@ -56,12 +62,14 @@ short_none : (other : Option OtherPackets) (p : Place) (bs : List ℕ) → lengt
 unfolding next_part
 short_none other p bs short = let e : nat_lt (length bs) (least_size other) ≡ true = search (arith, short) in rw e refl
 
-pub few : (n : ℕ) (form : FileForm) (other : Option OtherPackets) (p : Place) (bs : List ℕ) → length bs < least_size other → capture_in n form other p bs ≡ no_parts form bs
+pub few : (n : ℕ) (form : FileForm) (other : Option OtherPackets) (p : Place) (bs : List ℕ) → length bs < least_size other →
+    capture_in n form other p bs ≡ no_parts form bs
 unfolding capture_in capture_then
 few zero form other p bs short = refl
 few (suc n) form other p bs short = rw (short_none other p bs short) refl
 
-same_fuel : (n m : ℕ) (form : FileForm) (other : Option OtherPackets) (p : Place) (bs : List ℕ) → length bs ≤ n → length bs ≤ m → capture_in n form other p bs ≡ capture_in m form other p bs
+same_fuel : (n m : ℕ) (form : FileForm) (other : Option OtherPackets) (p : Place) (bs : List ℕ) → length bs ≤ n → length bs ≤ m →
+    capture_in n form other p bs ≡ capture_in m form other p bs
 unfolding capture_in
 same_fuel zero m form other p bs some more = sym (few m form other p bs (omega (arith, some, least_some other)))
 same_fuel (suc n) zero form other p bs some more = few (suc n) form other p bs (omega (arith, more, least_some other))
@@ -78,7 +86,8 @@ one_part form other p bs x some e =
     let fewer : length (drop x.size bs) ≤ length bs = omega (arith, length-drop x.size bs) in
     let more : length bs ≤ suc (length bs) = omega arith in
     let all : length bs ≤ length bs = omega arith in
-    let step : capture_in (suc (length bs)) form other p bs ≡ with_parts (x.part ∷ []) (capture_in (length bs) form other x.place (drop x.size bs)) = rw e refl in
+    let step : capture_in (suc (length bs)) form other p bs ≡ with_parts (x.part ∷ []) (capture_in (length bs) form other x.place (drop x.size bs)) =
+    rw e refl in
     same_fuel (length bs) (suc (length bs)) form other p bs all more ∙ step
     ∙ ap (with_parts (x.part ∷ [])) (same_fuel (length bs) (length (drop x.size bs)) form other x.place (drop x.size bs) fewer (omega arith))
 
@@ -110,7 +119,8 @@ pub plain_few : (form : FileForm) (p : Place) (bs : List ℕ) → length bs < 18
 unfolding least_size
 plain_few form p bs short = few (length bs) form None p bs short
 
-pub other_few : (form : FileForm) (other : OtherPackets) (p : Place) (bs : List ℕ) → length bs < size_of other → capture_from form (Some other) p bs ≡ no_parts form bs
+pub other_few : (form : FileForm) (other : OtherPackets) (p : Place) (bs : List ℕ) → length bs < size_of other →
+    capture_from form (Some other) p bs ≡ no_parts form bs
 unfolding least_size
 other_few form other p bs short = few (length bs) form (Some other) p bs short
 

@@ -1,5 +1,7 @@
 -- The parts that bytes settle, however the input goes on.
-use Rattle.std.proofs.Common.{◌≡◌, ◌≤◌, ◌<◌, ◌⊎◌, inl, inr, ℕ, zero, suc, ◌+◌, ◌*◌, ◌-◌, ◌/◌, ◌%◌, ◌==◌, min, nat_lt, Bool, true, false, if◌then◌else◌, refl, sym, ap, ap₂, subst, arith, ◌∙◌, List, [], ◌∷◌, ◌++◌, length, length-append, length-drop, length-take-le, map, take, drop, slice_range, Option, None, Some, Result, Ok, Err, append_assoc, append-nil, drop-drop, take-add}
+use Rattle.std.proofs.Common.{◌≡◌, ◌≤◌, ◌<◌, ◌⊎◌, inl, inr, ℕ, zero, suc, ◌+◌, ◌*◌, ◌-◌, ◌/◌, ◌%◌, ◌==◌, min, nat_lt, Bool, true, false, if◌then◌else◌, refl}
+use Rattle.std.proofs.Common.{sym, ap, ap₂, subst, arith, ◌∙◌, List, [], ◌∷◌, ◌++◌, length, length-append, length-drop, length-take-le, map, take, drop}
+use Rattle.std.proofs.Common.{slice_range, Option, None, Some, Result, Ok, Err, append_assoc, append-nil, drop-drop, take-add}
 use Rattle.std.proofs.lemmas.List.{drop_at, drop-append-le, take_all, take-append-drop, take-append-le}
 use Rattle.std.specs.Prelude.{IfOk, OnOk}
 use Rattle.events.specs.declared.input_event.FileForm.{FileForm}
@@ -13,9 +15,11 @@ use Rattle.packet_sync.proofs.FrontBytes.{other_front}
 use Rattle.packet_sync.proofs.Stretches.{Steady, slip_later}
 use Rattle.ts_packet.specs.PidList.{cut_packets}
 use Rattle.ts_packet.proofs.Listing.{first_cut}
-use Rattle.capture.specs.Captures.{Capture, IsPacket, Part, after_packets, after_slip, capture_at, capture_from, front_of, no_parts, packet_in, size_of, size_parts, slip_at, with_parts}
+use Rattle.capture.specs.Captures.{Capture, IsPacket, Part, after_packets, after_slip, capture_at, capture_from, front_of, no_parts, packet_in, size_of}
+use Rattle.capture.specs.Captures.{size_parts, slip_at, with_parts}
 use Rattle.capture.specs.FrontForms.{form_in, form_of}
-use Rattle.capture.specs.Reading.{IsLast, ReaderView, Settles, SettlesFrom, Takes, TakesLast, after_stretch, capture_after, capture_by, capture_left, decisive, front_in, known_form, place_if, slip_parts, stretch_parts, stretch_size, whole_size, with_front}
+use Rattle.capture.specs.Reading.{IsLast, ReaderView, Settles, SettlesFrom, Takes, TakesLast, after_stretch, capture_after, capture_by, capture_left, decisive}
+use Rattle.capture.specs.Reading.{front_in, known_form, place_if, slip_parts, stretch_parts, stretch_size, whole_size, with_front}
 use Rattle.capture.specs.declared.place.Place.{Place}
 use Rattle.capture.specs.declared.reader.CaptureEnd.{CaptureEnd}
 use Rattle.capture.specs.declared.settled.Front.{Front}
@@ -51,7 +55,8 @@ after_more k p =
     ap₂ place e f
 
 pub steady_parts : (k : ℕ) (form : FileForm) (p : Place) (bs : List ℕ) → 188 * k ≤ length bs → Steady bs (188 * k) →
-    capture_from form None p bs ≡ with_parts (map IsPacket (cut_packets (take (188 * k) bs))) (capture_from form None (after_packets (188 * k) p) (drop (188 * k) bs))
+    capture_from form None p bs ≡ with_parts (map IsPacket (cut_packets (take (188 * k) bs)))
+    (capture_from form None (after_packets (188 * k) p) (drop (188 * k) bs))
 steady_parts zero form p bs within steady = ap (λ (q : Place). capture_from form None q bs) (sym (after_none p))
 steady_parts (suc k) form p bs within steady =
     let long : 188 ≤ length bs = omega (arith, within) in
@@ -69,16 +74,20 @@ steady_parts (suc k) form p bs within steady =
     (ap₂ (λ (q : Place) (r : List ℕ). capture_from form None q r) (after_more k p) (drop-drop (188 * k) 188 bs ∙ ap (λ (n : ℕ). drop n bs) h))
 
 in_step_parts : (form : FileForm) (p : Place) (bytes more : List ℕ) (at k : ℕ) → at ≡ 188 * k → at ≤ length bytes → Steady (bytes ++ more) at →
-    capture_from form None p (bytes ++ more) ≡ with_parts (map IsPacket (cut_packets (take at bytes))) (capture_from form None (after_packets at p) (drop at bytes ++ more))
+    capture_from form None p (bytes ++ more) ≡ with_parts (map IsPacket (cut_packets (take at bytes)))
+    (capture_from form None (after_packets at p) (drop at bytes ++ more))
 in_step_parts form p bytes more at k e within steady =
     let all : at ≤ length (bytes ++ more) = omega (arith, within, length-append bytes more) in
     steady_parts k form p (bytes ++ more) (subst (λ (n : ℕ). n ≤ length (bytes ++ more)) e all) (subst (λ (n : ℕ). Steady (bytes ++ more) n) e steady)
-    ∙ ap (λ (n : ℕ). with_parts (map IsPacket (cut_packets (take n (bytes ++ more)))) (capture_from form None (after_packets n p) (drop n (bytes ++ more)))) (sym e)
-    ∙ ap₂ (λ (x y : List ℕ). with_parts (map IsPacket (cut_packets x)) (capture_from form None (after_packets at p) y)) (take-append-le at bytes more within) (drop-append-le at bytes more within)
+    ∙ ap (λ (n : ℕ). with_parts (map IsPacket (cut_packets (take n (bytes ++ more)))) (capture_from form None (after_packets n p) (drop n (bytes ++ more))))
+    (sym e)
+    ∙ ap₂ (λ (x y : List ℕ). with_parts (map IsPacket (cut_packets x)) (capture_from form None (after_packets at p) y)) (take-append-le at bytes more within)
+    (drop-append-le at bytes more within)
 
 -- 2. A slip after them
 
-slip_by : (form : FileForm) (p : Place) (rest : List ℕ) (size : ℕ) → (0 < size → (188 ≤ length rest) × (slip_size rest 0 ≡ Some size)) → (b : Bool) → (size == 0) ≡ b →
+slip_by : (form : FileForm) (p : Place) (rest : List ℕ) (size : ℕ) → (0 < size → (188 ≤ length rest) × (slip_size rest 0 ≡ Some size)) → (b : Bool) →
+    (size == 0) ≡ b →
     capture_from form None p rest ≡ with_parts (slip_parts size p) (capture_from form None (place_if size p) (drop size rest))
 slip_by form p rest size lost true is =
     let none : size ≡ 0 = search (arith, is) in
@@ -97,7 +106,8 @@ whole_is : (length_is : ℕ) (ended : Bool) (s : Stretch) → IsOfPackets length
 whole_is length_is ended s (inl n) some = omega (arith, n.1)
 whole_is length_is ended s (inr all) some = absurd (let no : ⊥ = omega (arith, all.2, some) in no)
 
-lost_after : (bytes more : List ℕ) (ended : Bool) (s : Stretch) → IsStepped (bytes ++ more) s → IsOfPackets (length bytes) ended s → whole_size s.in_step ≤ length bytes → 0 < s.slipped →
+lost_after : (bytes more : List ℕ) (ended : Bool) (s : Stretch) → IsStepped (bytes ++ more) s → IsOfPackets (length bytes) ended s →
+    whole_size s.in_step ≤ length bytes → 0 < s.slipped →
     (188 ≤ length (drop (whole_size s.in_step) bytes ++ more)) × (slip_size (drop (whole_size s.in_step) bytes ++ more) 0 ≡ Some s.slipped)
 lost_after bytes more ended s stepped whole within some =
     let at = whole_size s.in_step in
@@ -113,8 +123,10 @@ lost_after bytes more ended s stepped whole within some =
 steady_whole : (bs : List ℕ) (s : Stretch) → IsStepped bs s → Steady bs (whole_size s.in_step)
 steady_whole bs s stepped = λ k less. stepped.steady k (omega (arith, less))
 
-pub stretch_step : (form : FileForm) (p : Place) (bytes more : List ℕ) (ended : Bool) (s : Stretch) → IsStepped (bytes ++ more) s → IsOfPackets (length bytes) ended s → s.in_step + s.slipped ≤ length bytes →
-    capture_from form None p (bytes ++ more) ≡ with_parts (stretch_parts bytes s p) (capture_from form None (after_stretch s p) (drop (stretch_size s) bytes ++ more))
+pub stretch_step : (form : FileForm) (p : Place) (bytes more : List ℕ) (ended : Bool) (s : Stretch) → IsStepped (bytes ++ more) s →
+    IsOfPackets (length bytes) ended s → s.in_step + s.slipped ≤ length bytes →
+    capture_from form None p (bytes ++ more) ≡ with_parts (stretch_parts bytes s p)
+    (capture_from form None (after_stretch s p) (drop (stretch_size s) bytes ++ more))
 stretch_step form p bytes more ended s stepped whole within =
     let at = whole_size s.in_step in
     let front : at ≤ length bytes = omega (arith, within) in
@@ -122,13 +134,16 @@ stretch_step form p bytes more ended s stepped whole within =
     let q = after_packets at p in
     let fits : s.slipped ≤ length (drop at bytes) = omega (arith, within, length-drop at bytes) in
     in_step_parts form p bytes more at (s.in_step / 188) e front (steady_whole (bytes ++ more) s stepped)
-    ∙ ap (with_parts (map IsPacket (cut_packets (take at bytes)))) (slip_after form q (drop at bytes ++ more) s.slipped (lost_after bytes more ended s stepped whole front))
-    ∙ both_parts (map IsPacket (cut_packets (take at bytes))) (slip_parts s.slipped q) (capture_from form None (place_if s.slipped q) (drop s.slipped (drop at bytes ++ more)))
+    ∙ ap (with_parts (map IsPacket (cut_packets (take at bytes))))
+    (slip_after form q (drop at bytes ++ more) s.slipped (lost_after bytes more ended s stepped whole front))
+    ∙ both_parts (map IsPacket (cut_packets (take at bytes))) (slip_parts s.slipped q)
+    (capture_from form None (place_if s.slipped q) (drop s.slipped (drop at bytes ++ more)))
     ∙ ap (λ (r : List ℕ). with_parts (stretch_parts bytes s p) (capture_from form None (after_stretch s p) r))
     (drop-append-le s.slipped (drop at bytes) more fits ∙ ap (λ (r : List ℕ). r ++ more) (drop-drop s.slipped at bytes))
 
 -- a stretch of enough bytes has some
-pub some_size : (size : ℕ) (ended : Bool) (s : Stretch) → IsOfPackets size ended s → (if ended then 188 else 1128) ≤ size → ((if ended then 1 else 1128) ≤ size → 0 < s.in_step + s.slipped) → 0 < stretch_size s
+pub some_size : (size : ℕ) (ended : Bool) (s : Stretch) → IsOfPackets size ended s → (if ended then 188 else 1128) ≤ size →
+    ((if ended then 1 else 1128) ≤ size → 0 < s.in_step + s.slipped) → 0 < stretch_size s
 some_size size true s (inl n) long some = let k : 0 < s.in_step + s.slipped = some (omega (arith, long)) in omega (arith, n.1, k)
 some_size size true s (inr all) long some = omega (arith, all.1, long)
 some_size size false s (inl n) long some = let k : 0 < s.in_step + s.slipped = some (omega (arith, long)) in omega (arith, n.1, k)
@@ -136,12 +151,15 @@ some_size size false s (inr all) long some = absurd (let e : false ≡ true = al
 
 -- 3. Parts one after another
 
-pub from_none : (HasTaken : List Part → Type 0) (other : Option OtherPackets) (p : Place) (bytes : List ℕ) (ended : Bool) → HasTaken [] → SettlesFrom HasTaken other p bytes ended p 0
+pub from_none : (HasTaken : List Part → Type 0) (other : Option OtherPackets) (p : Place) (bytes : List ℕ) (ended : Bool) → HasTaken [] →
+    SettlesFrom HasTaken other p bytes ended p 0
 from_none HasTaken other p bytes ended taken = record { found = []; taken = taken; is = λ form more last. refl }
 
-pub from_more : (HasTaken Onward : List Part → Type 0) (other : Option OtherPackets) (old mid new : Place) (bytes : List ℕ) (ended : Bool) (at size : ℕ) (parts : List Part) →
+pub from_more : (HasTaken Onward : List Part → Type 0) (other : Option OtherPackets) (old mid new : Place) (bytes : List ℕ) (ended : Bool) (at size : ℕ)
+    (parts : List Part) →
     SettlesFrom HasTaken other old bytes ended mid at → ((found : List Part) → HasTaken found → Onward (found ++ parts)) →
-    ((form : FileForm) (more : List ℕ) → (ended ≡ true → more ≡ []) → capture_from form other mid (drop at bytes ++ more) ≡ with_parts parts (capture_from form other new (drop (at + size) bytes ++ more))) →
+    ((form : FileForm) (more : List ℕ) → (ended ≡ true → more ≡ []) →
+    capture_from form other mid (drop at bytes ++ more) ≡ with_parts parts (capture_from form other new (drop (at + size) bytes ++ more))) →
     SettlesFrom Onward other old bytes ended new (at + size)
 from_more HasTaken Onward other old mid new bytes ended at size parts s onward step = record {
   found = s.found ++ parts;
@@ -155,29 +173,36 @@ abbrev pub Keeps : {T : Type 0} → (T → List Part → T → Type 0) → Optio
 Keeps {T} HasTaken other old bytes ended before new after used =
     (first : T) (parts : List Part) → HasTaken first parts before → SettlesFrom (λ found. HasTaken first (parts ++ found) after) other old bytes ended new used
 
-pub keeps_none : {T : Type 0} (HasTaken : T → List Part → T → Type 0) (other : Option OtherPackets) (p : Place) (bytes : List ℕ) (ended : Bool) (t : T) → Keeps HasTaken other p bytes ended t p t 0
+pub keeps_none : {T : Type 0} (HasTaken : T → List Part → T → Type 0) (other : Option OtherPackets) (p : Place) (bytes : List ℕ) (ended : Bool) (t : T) →
+    Keeps HasTaken other p bytes ended t p t 0
 keeps_none {T} HasTaken other p bytes ended t = λ first parts taken.
     from_none (λ found. HasTaken first (parts ++ found) t) other p bytes ended (subst (λ (q : List Part). HasTaken first q t) (sym (append-nil parts)) taken)
 
-pub keeps_more : {T : Type 0} (HasTaken : T → List Part → T → Type 0) (other : Option OtherPackets) (old mid new : Place) (bytes : List ℕ) (ended : Bool) (before middle after : T) (at size : ℕ) (parts : List Part) →
+pub keeps_more : {T : Type 0} (HasTaken : T → List Part → T → Type 0) (other : Option OtherPackets) (old mid new : Place) (bytes : List ℕ) (ended : Bool)
+    (before middle after : T) (at size : ℕ) (parts : List Part) →
     Keeps HasTaken other old bytes ended before mid middle at →
     ((first : T) (some : List Part) → HasTaken first some middle → HasTaken first (some ++ parts) after) →
-    ((form : FileForm) (more : List ℕ) → (ended ≡ true → more ≡ []) → capture_from form other mid (drop at bytes ++ more) ≡ with_parts parts (capture_from form other new (drop (at + size) bytes ++ more))) →
+    ((form : FileForm) (more : List ℕ) → (ended ≡ true → more ≡ []) →
+    capture_from form other mid (drop at bytes ++ more) ≡ with_parts parts (capture_from form other new (drop (at + size) bytes ++ more))) →
     Keeps HasTaken other old bytes ended before new after (at + size)
 keeps_more {T} HasTaken other old mid new bytes ended before middle after at size parts keeps onward step = λ first some taken.
-    from_more (λ found. HasTaken first (some ++ found) middle) (λ found. HasTaken first (some ++ found) after) other old mid new bytes ended at size parts (keeps first some taken)
+    from_more (λ found. HasTaken first (some ++ found) middle) (λ found. HasTaken first (some ++ found) after) other old mid new bytes ended at size parts
+    (keeps first some taken)
     (λ found t. subst (λ (q : List Part). HasTaken first q after) (append_assoc some found parts) (onward first (some ++ found) t)) step
 
 -- the rest of the bytes at a place
 pub rest_at : (at : ℕ) (bytes : List ℕ) → take (length bytes - at) (drop at bytes) ≡ drop at bytes
 rest_at at bytes = take_all (length bytes - at) (drop at bytes) (omega (arith, length-drop at bytes))
 
-pub stretch_rest : (form : FileForm) (p : Place) (bytes more : List ℕ) (at : ℕ) (ended : Bool) (s : Stretch) → at ≤ length bytes → IsStepped (drop at bytes ++ more) s →
+pub stretch_rest : (form : FileForm) (p : Place) (bytes more : List ℕ) (at : ℕ) (ended : Bool) (s : Stretch) → at ≤ length bytes →
+    IsStepped (drop at bytes ++ more) s →
     IsOfPackets (length (drop at bytes)) ended s → s.in_step + s.slipped ≤ length (drop at bytes) →
-    capture_from form None p (drop at bytes ++ more) ≡ with_parts (stretch_parts (drop at bytes) s p) (capture_from form None (after_stretch s p) (drop (at + stretch_size s) bytes ++ more))
+    capture_from form None p (drop at bytes ++ more) ≡ with_parts (stretch_parts (drop at bytes) s p)
+    (capture_from form None (after_stretch s p) (drop (at + stretch_size s) bytes ++ more))
 stretch_rest form p bytes more at ended s within stepped whole fits =
     stretch_step form p (drop at bytes) more ended s stepped whole fits
-    ∙ ap (λ (r : List ℕ). with_parts (stretch_parts (drop at bytes) s p) (capture_from form None (after_stretch s p) (r ++ more))) (drop-drop (stretch_size s) at bytes)
+    ∙ ap (λ (r : List ℕ). with_parts (stretch_parts (drop at bytes) s p) (capture_from form None (after_stretch s p) (r ++ more)))
+    (drop-drop (stretch_size s) at bytes)
 
 -- a packet of another size
 front_within : (other : OtherPackets) → front_of other + 188 ≤ size_of other
@@ -194,7 +219,8 @@ packet_front other bs more long =
     ap (take (f + 188 - f)) (drop-append-le f bs more front) ∙ take-append-le (f + 188 - f) (drop f bs) more rest
 
 pub other_rest : (form : FileForm) (other : OtherPackets) (p : Place) (bytes more : List ℕ) (at : ℕ) → at + size_of other ≤ length bytes →
-    capture_from form (Some other) p (drop at bytes ++ more) ≡ with_parts (IsPacket (packet_in other (drop at bytes)) ∷ []) (capture_from form (Some other) p (drop (at + size_of other) bytes ++ more))
+    capture_from form (Some other) p (drop at bytes ++ more) ≡ with_parts (IsPacket (packet_in other (drop at bytes)) ∷ [])
+    (capture_from form (Some other) p (drop (at + size_of other) bytes ++ more))
 other_rest form other p bytes more at within =
     let rest = drop at bytes in
     let long : size_of other ≤ length rest = omega (arith, within, length-drop at bytes) in
@@ -204,7 +230,8 @@ other_rest form other p bytes more at within =
     (drop-append-le (size_of other) rest more long ∙ ap (λ (r : List ℕ). r ++ more) (drop-drop (size_of other) at bytes))
 
 -- the bytes of a packet from a place on
-pub packet_at : (other : OtherPackets) (bytes : List ℕ) (at : ℕ) → slice_range bytes (at + front_of other) (at + front_of other + 188) ≡ packet_in other (drop at bytes)
+pub packet_at : (other : OtherPackets) (bytes : List ℕ) (at : ℕ) →
+    slice_range bytes (at + front_of other) (at + front_of other + 188) ≡ packet_in other (drop at bytes)
 packet_at other bytes at =
     let f = front_of other in
     let e : at + f + 188 - (at + f) ≡ f + 188 - f = omega arith in
@@ -224,7 +251,8 @@ known_of : (f : Option Front) (front : Front) (p : Place) (bs : List ℕ) → f 
 unfolding capture_by
 known_of f front p bs e = rw e refl
 
-pub known : (HasTaken : List Part → Type 0) (old new : Settled) (front : Front) (other : Option OtherPackets) (bytes : List ℕ) (ended : Bool) (used : ℕ) → old.front ≡ Some front → new.front ≡ Some front → front.other ≡ other →
+pub known : (HasTaken : List Part → Type 0) (old new : Settled) (front : Front) (other : Option OtherPackets) (bytes : List ℕ) (ended : Bool) (used : ℕ) →
+    old.front ≡ Some front → new.front ≡ Some front → front.other ≡ other →
     SettlesFrom HasTaken other old.place bytes ended new.place used → Settles HasTaken old bytes ended new used
 known HasTaken old new front other bytes ended used before after is s = record {
   found = s.found;
@@ -245,9 +273,11 @@ plain_last s front bs e is short =
     known_of s.front front s.place bs e ∙ ap (λ (o : Option OtherPackets). capture_from front.form o s.place bs) is ∙ plain_few front.form s.place bs short
     ∙ ap (λ (f : FileForm). no_parts f bs) (sym (form_of_known s.front front e))
 
-pub other_last : (s : Settled) (front : Front) (other : OtherPackets) (bs : List ℕ) → s.front ≡ Some front → front.other ≡ Some other → length bs < size_of other → IsLast s bs
+pub other_last : (s : Settled) (front : Front) (other : OtherPackets) (bs : List ℕ) → s.front ≡ Some front → front.other ≡ Some other →
+    length bs < size_of other → IsLast s bs
 other_last s front other bs e is short =
-    known_of s.front front s.place bs e ∙ ap (λ (o : Option OtherPackets). capture_from front.form o s.place bs) is ∙ other_few front.form other s.place bs short
+    known_of s.front front s.place bs e ∙ ap (λ (o : Option OtherPackets). capture_from front.form o s.place bs) is
+    ∙ other_few front.form other s.place bs short
     ∙ ap (λ (f : FileForm). no_parts f bs) (sym (form_of_known s.front front e))
 
 same_size : (bytes more : List ℕ) → (1128 ≤ length bytes) ⊎ (more ≡ []) → other_packets (bytes ++ more) ≡ other_packets bytes
@@ -262,14 +292,16 @@ begun_by : (f : Option Front) (p : Place) (bytes more : List ℕ) → f ≡ None
     capture_by f p (bytes ++ more) ≡ with_parts (size_parts (other_packets bytes)) (capture_by (Some (front_in bytes)) p (bytes ++ more))
 unfolding capture_by
 begun_by f p bytes more e enough =
-    rw e (ap₂ (λ (o : Option OtherPackets) (form : FileForm). with_parts (size_parts o) (capture_from form o p (bytes ++ more))) (same_size bytes more enough) (same_form bytes more enough))
+    rw e (ap₂ (λ (o : Option OtherPackets) (form : FileForm). with_parts (size_parts o) (capture_from form o p (bytes ++ more))) (same_size bytes more enough)
+    (same_form bytes more enough))
 
 -- where the bytes are enough, or are all
 pub enough : (ended : Bool) (bytes more : List ℕ) → (ended ≡ false → 1128 ≤ length bytes) → (ended ≡ true → more ≡ []) → (1128 ≤ length bytes) ⊎ (more ≡ [])
 enough true bytes more long last = inr (last refl)
 enough false bytes more long last = inl (long refl)
 
-pub begun : (HasTaken Onward : List Part → Type 0) (old new : Settled) (bytes : List ℕ) (ended : Bool) (used : ℕ) → old.front ≡ None → (ended ≡ false → 1128 ≤ length bytes) →
+pub begun : (HasTaken Onward : List Part → Type 0) (old new : Settled) (bytes : List ℕ) (ended : Bool) (used : ℕ) → old.front ≡ None →
+    (ended ≡ false → 1128 ≤ length bytes) →
     ((found : List Part) → Onward found → HasTaken (size_parts (other_packets bytes) ++ found)) →
     Settles Onward (with_front old (front_in bytes)) bytes ended new used → Settles HasTaken old bytes ended new used
 begun HasTaken Onward old new bytes ended used none long onward s = record {
@@ -287,7 +319,8 @@ none_yet HasTaken s bytes ended taken = record { found = []; taken = taken; is =
 -- 5. A piece
 
 -- none of the bytes after those that are kept is settled
-pub kept_all : (HasTaken : List Part → Type 0) (old : ReaderView) (new : Settled) (piece : List ℕ) (size used : ℕ) → size ≡ min (length piece) 1315 → length (old.kept ++ take size piece) < used + 1128 →
+pub kept_all : (HasTaken : List Part → Type 0) (old : ReaderView) (new : Settled) (piece : List ℕ) (size used : ℕ) → size ≡ min (length piece) 1315 →
+    length (old.kept ++ take size piece) < used + 1128 →
     used < length old.kept → Settles HasTaken old.settled (old.kept ++ take size piece) false new used →
     Takes HasTaken old piece (record { settled = new; kept = drop used (old.kept ++ take size piece) })
 kept_all HasTaken old new piece size used is most less s =
@@ -312,7 +345,8 @@ settled_rest kept piece more size used within past all =
     let fits : d ≤ length piece = omega (arith, part, both, all, within) in
     let joined : (kept ++ take size piece) ++ (drop size piece ++ more) ≡ kept ++ (piece ++ more) =
     append_assoc kept (take size piece) (drop size piece ++ more)
-    ∙ ap (λ (r : List ℕ). kept ++ r) (sym (append_assoc (take size piece) (drop size piece) more) ∙ ap (λ (r : List ℕ). r ++ more) (take-append-drop size piece)) in
+    ∙ ap (λ (r : List ℕ). kept ++ r)
+    (sym (append_assoc (take size piece) (drop size piece) more) ∙ ap (λ (r : List ℕ). r ++ more) (take-append-drop size piece)) in
     sym (drop-append-le used (kept ++ take size piece) (drop size piece ++ more) all)
     ∙ ap (drop used) joined
     ∙ ap (λ (n : ℕ). drop n (kept ++ (piece ++ more))) (sym e)
@@ -321,9 +355,11 @@ settled_rest kept piece more size used within past all =
     ∙ drop-append-le d piece more fits
 
 -- all kept bytes are settled, and the rest of the piece comes after them
-pub kept_none : (HasTaken Onward Last : List Part → Type 0) (old new : ReaderView) (mid : Settled) (piece : List ℕ) (size used : ℕ) → size ≡ min (length piece) 1315 → length old.kept ≤ used →
+pub kept_none : (HasTaken Onward Last : List Part → Type 0) (old new : ReaderView) (mid : Settled) (piece : List ℕ) (size used : ℕ) →
+    size ≡ min (length piece) 1315 → length old.kept ≤ used →
     used ≤ length (old.kept ++ take size piece) → (s : Settles HasTaken old.settled (old.kept ++ take size piece) false mid used) →
-    Takes Onward (record { settled = mid; kept = [] }) (drop (used - length old.kept) piece) new → ((found : List Part) → Onward found → Last (s.found ++ found)) → Takes Last old piece new
+    Takes Onward (record { settled = mid; kept = [] }) (drop (used - length old.kept) piece) new →
+    ((found : List Part) → Onward found → Last (s.found ++ found)) → Takes Last old piece new
 kept_none HasTaken Onward Last old new mid piece size used is past all s rest last =
     let within : size ≤ length piece = omega (arith, is) in
     record {
@@ -345,12 +381,15 @@ rest_kept HasTaken old new rest used s = record { found = s.found; taken = s.tak
 
 -- 6. The end
 
-last_is : (HasTaken : List Part → Type 0) (old : ReaderView) (new : Settled) (used : ℕ) → (s : Settles HasTaken old.settled old.kept true new used) → IsLast new (drop used old.kept) →
+last_is : (HasTaken : List Part → Type 0) (old : ReaderView) (new : Settled) (used : ℕ) → (s : Settles HasTaken old.settled old.kept true new used) →
+    IsLast new (drop used old.kept) →
     capture_left old [] ≡ with_parts s.found (no_parts (known_form new.front) (drop used old.kept))
 last_is HasTaken old new used s last =
-    s.is [] (λ (e : true ≡ true). refl) ∙ ap (λ (r : List ℕ). with_parts s.found (capture_after new r)) (append-nil (drop used old.kept)) ∙ ap (with_parts s.found) last
+    s.is [] (λ (e : true ≡ true). refl) ∙ ap (λ (r : List ℕ). with_parts s.found (capture_after new r)) (append-nil (drop used old.kept))
+    ∙ ap (with_parts s.found) last
 
-pub ends : (HasTaken : List Part → Type 0) (old : ReaderView) (new : Settled) (used : ℕ) (end : CaptureEnd) → (s : Settles HasTaken old.settled old.kept true new used) → IsLast new (drop used old.kept) →
+pub ends : (HasTaken : List Part → Type 0) (old : ReaderView) (new : Settled) (used : ℕ) (end : CaptureEnd) →
+    (s : Settles HasTaken old.settled old.kept true new used) → IsLast new (drop used old.kept) →
     end.left ≡ length old.kept - used → end.form ≡ known_form new.front → TakesLast HasTaken (capture_left old []) end
 ends HasTaken old new used end s last left form =
     let e = last_is HasTaken old new used s last in

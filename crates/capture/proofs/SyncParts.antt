@@ -1,5 +1,7 @@
 -- The parts of packets of 188 bytes are the carried bytes and the slips of packet_sync, and a stream in step is read as it is.
-use Rattle.std.proofs.Common.{◌≡◌, ◌≤◌, ◌<◌, ◌⊎◌, inl, inr, ℕ, zero, suc, ◌+◌, ◌*◌, ◌-◌, ◌/◌, ◌%◌, ◌&&◌, nat_lt, Bool, true, false, refl, sym, ap, ap₂, subst, arith, ◌∙◌, List, [], ◌∷◌, ◌++◌, length, length-append, length-drop, length-take-le, map, take, drop, get_or, slice_get, Option, None, Some, append_assoc, append-nil, drop-drop}
+use Rattle.std.proofs.Common.{◌≡◌, ◌≤◌, ◌<◌, ◌⊎◌, inl, inr, ℕ, zero, suc, ◌+◌, ◌*◌, ◌-◌, ◌/◌, ◌%◌, ◌&&◌, nat_lt, Bool, true, false, refl, sym, ap, ap₂, subst}
+use Rattle.std.proofs.Common.{arith, ◌∙◌, List, [], ◌∷◌, ◌++◌, length, length-append, length-drop, length-take-le, map, take, drop, get_or, slice_get, Option}
+use Rattle.std.proofs.Common.{None, Some, append_assoc, append-nil, drop-drop}
 use Rattle.std.proofs.lemmas.List.{take-append-drop}
 use Rattle.std.proofs.lemmas.Option.{slice_get_cases, slice_get_past}
 use Rattle.events.specs.declared.input_event.FileForm.{FileForm}
@@ -46,7 +48,8 @@ carried_step n form p bs some long (Some size) is rest =
     let least = slip_some bs 0 size is in
     let fewer : length (drop size bs) ≤ n = omega (arith, length-drop size bs, some, long, least) in
     let q : Place = record { packet = p.packet; start = p.start + size } in
-    ap held (slip_first form p bs size long is) ∙ held_slip size p (capture_from form None q (drop size bs)) ∙ rest q (drop size bs) fewer ∙ sym (carried_slip bs size long is)
+    ap held (slip_first form p bs size long is) ∙ held_slip size p (capture_from form None q (drop size bs)) ∙ rest q (drop size bs) fewer
+    ∙ sym (carried_slip bs size long is)
 
 carried_by : (n : ℕ) (form : FileForm) (p : Place) (bs : List ℕ) → length bs ≤ suc n → (b : Bool) → nat_lt (length bs) 188 ≡ b →
     ((p : Place) (bs : List ℕ) → length bs ≤ n → held (capture_from form None p bs) ≡ carried bs) → held (capture_from form None p bs) ≡ carried bs
@@ -66,7 +69,8 @@ among_packet : (bytes : List ℕ) (c : Capture) → slips_among (with_parts (IsP
 unfolding slips_among
 among_packet bytes c = refl
 
-among_slip : (size : ℕ) (p : Place) (c : Capture) → slips_among (with_parts (slip_at size p ∷ []) c).parts ≡ record { packet = p.packet; start = p.start; size = size } ∷ slips_among c.parts
+among_slip : (size : ℕ) (p : Place) (c : Capture) →
+    slips_among (with_parts (slip_at size p ∷ []) c).parts ≡ record { packet = p.packet; start = p.start; size = size } ∷ slips_among c.parts
 unfolding slips_among
 among_slip size p c = refl
 
@@ -78,9 +82,11 @@ abbrev place : ℕ → ℕ → Place
 place i j = record { packet = i; start = j }
 
 abbrev SameSlips : FileForm → List ℕ → ℕ → Type 0
-SameSlips form bs n = (packet at : ℕ) → length bs ≤ n + at → slips_among (capture_from form None (place packet at) (drop at bs)).parts ≡ slips_from n bs packet at
+SameSlips form bs n = (packet at : ℕ) → length bs ≤ n + at →
+    slips_among (capture_from form None (place packet at) (drop at bs)).parts ≡ slips_from n bs packet at
 
-slips_step : (n : ℕ) (form : FileForm) (bs : List ℕ) (packet at : ℕ) → length bs ≤ suc n + at → at + 188 ≤ length bs → (o : Option ℕ) → slip_size bs at ≡ o → SameSlips form bs n →
+slips_step : (n : ℕ) (form : FileForm) (bs : List ℕ) (packet at : ℕ) → length bs ≤ suc n + at → at + 188 ≤ length bs → (o : Option ℕ) → slip_size bs at ≡ o →
+    SameSlips form bs n →
     slips_among (capture_from form None (place packet at) (drop at bs)).parts ≡ slips_from (suc n) bs packet at
 slips_step n form bs packet at some long None is rest =
     let many : 188 ≤ length (drop at bs) = omega (arith, length-drop at bs, long) in
@@ -100,15 +106,19 @@ slips_step n form bs packet at some long (Some size) is rest =
     ap (λ (c : Capture). slips_among c.parts) (slip_first form (place packet at) (drop at bs) size many here)
     ∙ among_slip size (place packet at) (capture_from form None (place packet (at + size)) (drop size (drop at bs)))
     ∙ ap (λ (ss : List Slip). record { packet = packet; start = at; size = size } ∷ ss)
-    (ap (λ (r : List ℕ). slips_among (capture_from form None (place packet (at + size)) r).parts) (drop-drop size at bs) ∙ rest packet (at + size) (omega (arith, some, least)))
+    (ap (λ (r : List ℕ). slips_among (capture_from form None (place packet (at + size)) r).parts) (drop-drop size at bs)
+    ∙ rest packet (at + size) (omega (arith, some, least)))
     ∙ sym (one_slip n bs packet at size long is)
 
-slips_short : (n : ℕ) (form : FileForm) (bs : List ℕ) (packet at : ℕ) → length bs < at + 188 → slips_among (capture_from form None (place packet at) (drop at bs)).parts ≡ slips_from n bs packet at
+slips_short : (n : ℕ) (form : FileForm) (bs : List ℕ) (packet at : ℕ) → length bs < at + 188 →
+    slips_among (capture_from form None (place packet at) (drop at bs)).parts ≡ slips_from n bs packet at
 slips_short n form bs packet at short =
     let few : length (drop at bs) < 188 = omega (arith, length-drop at bs, short) in
-    ap (λ (c : Capture). slips_among c.parts) (plain_few form (place packet at) (drop at bs) few) ∙ among_none form (drop at bs) ∙ sym (at_end n bs packet at short)
+    ap (λ (c : Capture). slips_among c.parts) (plain_few form (place packet at) (drop at bs) few) ∙ among_none form (drop at bs)
+    ∙ sym (at_end n bs packet at short)
 
-slips_by : (n : ℕ) (form : FileForm) (bs : List ℕ) (packet at : ℕ) → length bs ≤ suc n + at → (b : Bool) → nat_lt (length bs) (at + 188) ≡ b → SameSlips form bs n →
+slips_by : (n : ℕ) (form : FileForm) (bs : List ℕ) (packet at : ℕ) → length bs ≤ suc n + at → (b : Bool) → nat_lt (length bs) (at + 188) ≡ b →
+    SameSlips form bs n →
     slips_among (capture_from form None (place packet at) (drop at bs)).parts ≡ slips_from (suc n) bs packet at
 slips_by n form bs packet at some true is rest = let short : length bs < at + 188 = search (arith, is) in slips_short (suc n) form bs packet at short
 slips_by n form bs packet at some false is rest =
@@ -133,7 +143,9 @@ carried_and_slips_are bs e = record {
 
 -- 4. In step
 
-next_begins : (bs : List ℕ) (i : ℕ) → IsInStep bs → ((x : ℕ) × (i * 188 + 188 < length bs) × (slice_get bs (i * 188 + 188) ≡ Some x) × (get_or bs (i * 188 + 188) x ≡ x)) ⊎ ((length bs ≤ i * 188 + 188) × (slice_get bs (i * 188 + 188) ≡ None)) →
+next_begins : (bs : List ℕ) (i : ℕ) → IsInStep bs →
+    ((x : ℕ) × (i * 188 + 188 < length bs) × (slice_get bs (i * 188 + 188) ≡ Some x) × (get_or bs (i * 188 + 188) x ≡ x)) ⊎
+    ((length bs ≤ i * 188 + 188) × (slice_get bs (i * 188 + 188) ≡ None)) →
     is_next bs (i * 188 + 188) ≡ true
 unfolding is_next
 next_begins bs i step (inl one) =
@@ -228,7 +240,8 @@ in_step_capture bs step =
     let short : length (drop (188 * k) bs) < 188 = omega (arith, length-drop (188 * k) bs) in
     plain_of bs (in_step_plain bs step)
     ∙ steady_parts k (form_of bs) first_place bs (omega arith) (steady_in_step bs (188 * k) step)
-    ∙ ap₂ (λ (x : List (List ℕ)) (c : Capture). with_parts (map IsPacket x) c) (whole_cut bs) (plain_few (form_of bs) (after_packets (188 * k) first_place) (drop (188 * k) bs) short)
+    ∙ ap₂ (λ (x : List (List ℕ)) (c : Capture). with_parts (map IsPacket x) c) (whole_cut bs)
+    (plain_few (form_of bs) (after_packets (188 * k) first_place) (drop (188 * k) bs) short)
 
 pub in_step_is : InStepAsItIs
 in_step_is bs step =

@@ -36,7 +36,8 @@ abbrev pub after_stretch : Stretch → Place → Place
 after_stretch s p = place_if s.slipped (after_packets (whole_size s.in_step) p)
 
 -- of packets of a size: parts were taken that the first `used` bytes settle, however the input goes on
-pub record SettlesFrom (HasTaken : List Part → Type 0) (other : Option OtherPackets) (old : Place) (bytes : List ℕ) (ended : Bool) (new : Place) (used : ℕ) : Type 0 where
+pub record SettlesFrom (HasTaken : List Part → Type 0) (other : Option OtherPackets) (old : Place) (bytes : List ℕ) (ended : Bool) (new : Place)
+    (used : ℕ) : Type 0 where
   pub found : List Part
   pub taken : HasTaken found
   pub is : (form : FileForm) (more : List ℕ) → (ended ≡ true → more ≡ []) →

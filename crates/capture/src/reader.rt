@@ -10,8 +10,8 @@ use packet_sync::REACH;
 use std::alloc::{AllocError, Global};
 use std::marker::Model;
 
-/// So many bytes after those that are kept settle all that are kept: the bytes of a packet less one, and those that decide what comes
-/// after it.
+/// So many bytes after those that are kept settle all that are kept: the bytes of a packet less one, and those that
+/// decide what comes after it.
 const ENOUGH: usize = 187 + REACH;
 
 /// A capture so far: what is known of it, and its last bytes, which are not settled.
@@ -98,7 +98,8 @@ impl CaptureReader {
         self.kept.extend_from_slice(&rest[used..])
     }
 
-    /// Takes the next bytes of a capture, and gives the taker the parts that they settle: all but those of less than 1,128 bytes.
+    /// Takes the next bytes of a capture, and gives the taker the parts that they settle: all but those of less than
+    /// 1,128 bytes.
     pub fn take<T: PartTaker>(&mut self, piece: &[u8], taker: &mut T) -> Result<(), AllocError>
         ensures few { OnOk result (length self.new.kept < 1128) }
         ensures taken { (first : T) (parts : List Part) → T.has_taken first parts taker.old →

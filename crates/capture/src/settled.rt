@@ -6,7 +6,8 @@ use crate::place::Place;
 use events::FileForm;
 use packet_sync::OtherPackets;
 
-/// What the first bytes of a capture show: the size of its packets, if it is not 188, and what it is if it is no transport stream.
+/// What the first bytes of a capture show: the size of its packets, if it is not 188, and what it is if it is no
+/// transport stream.
 #[derive(Clone, Copy)]
 pub struct Front {
     pub other: Option<OtherPackets>,

@@ -231,7 +231,8 @@ impl Settled {
         self.settle_known(front, bytes, ended, taker)
     }
 
-    /// Gives the taker the parts that the bytes settle, and returns how many bytes these are; `ended`: whether no more bytes follow.
+    /// Gives the taker the parts that the bytes settle, and returns how many bytes these are; `ended`: whether no more
+    /// bytes follow.
     pub(crate) fn settle<T: PartTaker>(
         &mut self,
         bytes: &[u8],

@@ -18,12 +18,14 @@ unfolding after_records
 none_read xs left e = e
 
 -- one record more is read
-pub one_read : (xs : List ℕ) (index id min_next_dts : ℕ) (left : Option (List ℕ)) (unit : AccessUnit) → ReadsNext id min_next_dts (after_records index xs) left (Ok (Some unit)) →
+pub one_read : (xs : List ℕ) (index id min_next_dts : ℕ) (left : Option (List ℕ)) (unit : AccessUnit) →
+    ReadsNext id min_next_dts (after_records index xs) left (Ok (Some unit)) →
     left ≡ Some (after_records (index + 1) xs)
 one_read xs index id min_next_dts left unit r = r.1 ∙ ap Some (sym (after_more index xs))
 
 -- none was
-pub stop_leaves : (xs : List ℕ) (index id min_next_dts : ℕ) (left : Option (List ℕ)) (stop : Stop) → ReadsNext id min_next_dts (after_records index xs) left (Err stop) →
+pub stop_leaves : (xs : List ℕ) (index id min_next_dts : ℕ) (left : Option (List ℕ)) (stop : Stop) →
+    ReadsNext id min_next_dts (after_records index xs) left (Err stop) →
     LeavesAt xs left index (Some stop)
 stop_leaves xs index id min_next_dts left (Refused cause) r = r.rest ∙ ap Some (sym (after_more index xs))
 stop_leaves xs index id min_next_dts left (Unread Cut) r = r.1
@@ -38,7 +40,8 @@ unfolding after_records
 start_leaves xs left e = record { read = 0; within = omega arith; some = omega arith; rest = e }
 
 -- the same of the answer
-pub answer_leaves : (xs : List ℕ) (left : Option (List ℕ)) (index sent : ℕ) (stop : Option Stop) → LeavesAt xs left index stop → Leaves xs left (answer_of index stop sent)
+pub answer_leaves : (xs : List ℕ) (left : Option (List ℕ)) (index sent : ℕ) (stop : Option Stop) → LeavesAt xs left index stop →
+    Leaves xs left (answer_of index stop sent)
 answer_leaves xs left index sent None l = l
 answer_leaves xs left index sent (Some (Refused cause)) l = l
 answer_leaves xs left index sent (Some (Unread fault)) l = l

@@ -1,5 +1,6 @@
 -- A run over records, record by record.
-use Rattle.std.proofs.Common.{◌≡◌, ℕ, suc, ◌+◌, ◌-◌, ◌%◌, ◌≤◌, Bool, List, [], ◌∷◌, ◌++◌, length, take, drop, Option, Some, None, Ok, Err, refl, sym, ap, ◌∙◌, subst, arith, append_assoc, append-nil, take_at, take_all}
+use Rattle.std.proofs.Common.{◌≡◌, ℕ, suc, ◌+◌, ◌-◌, ◌%◌, ◌≤◌, Bool, List, [], ◌∷◌, ◌++◌, length, take, drop, Option, Some, None, Ok, Err, refl, sym, ap, ◌∙◌}
+use Rattle.std.proofs.Common.{subst, arith, append_assoc, append-nil, take_at, take_all}
 use Rattle.std.proofs.lemmas.List.{length-append, length-drop, take-append-drop}
 use Rattle.std.proofs.lemmas.Grind.{flat_map-append}
 use Rattle.pes_packet.specs.AccessUnits.{AccessUnit}
@@ -39,7 +40,8 @@ stream_packets-append pid id n [] vs = let none : n + 0 ≡ n = omega arith in r
 stream_packets-append pid id n (u ∷ us) vs =
     let place : (n + unit_count id u) + packet_number id us ≡ n + (unit_count id u + packet_number id us) = omega arith in
     ap (λ (t : List (List ℕ)). unit_packets pid id n u ++ t) (stream_packets-append pid id (n + unit_count id u) us vs)
-    ∙ sym (append_assoc (unit_packets pid id n u) (stream_packets pid id (n + unit_count id u) us) (stream_packets pid id ((n + unit_count id u) + packet_number id us) vs))
+    ∙ sym (append_assoc (unit_packets pid id n u) (stream_packets pid id (n + unit_count id u) us)
+    (stream_packets pid id ((n + unit_count id u) + packet_number id us) vs))
     ∙ ap (λ (m : ℕ). (unit_packets pid id n u ++ stream_packets pid id (n + unit_count id u) us) ++ stream_packets pid id m vs) place
 
 stream_packets_one : (pid id n : ℕ) (u : AccessUnit) → stream_packets pid id n (u ∷ []) ≡ unit_packets pid id n u
@@ -71,7 +73,8 @@ run_ended : (n id min_next_dts : ℕ) (xs : List ℕ) → record_at xs ≡ Ok No
 unfolding run_from run_step
 run_ended n id min_next_dts xs e = rw e refl
 
-run_unread : (n id min_next_dts : ℕ) (xs : List ℕ) (fault : UnitFileError) → record_at xs ≡ Err fault → run_from (suc n) id min_next_dts xs ≡ record { units = []; ending = FileRefused fault }
+run_unread : (n id min_next_dts : ℕ) (xs : List ℕ) (fault : UnitFileError) → record_at xs ≡ Err fault →
+    run_from (suc n) id min_next_dts xs ≡ record { units = []; ending = FileRefused fault }
 unfolding run_from run_step
 run_unread n id min_next_dts xs fault e = rw e refl
 
@@ -86,7 +89,8 @@ unfolding run_from run_step judged
 run_more n id min_next_dts xs unit h = rw (h.record_is, h.judged_is) refl
 
 -- records of xs that are carried, those that are left, and what their packets became
-pub record Midway (pid id : ℕ) (hex : Bool) (xs : List ℕ) (min_next_dts index counter : ℕ) (left start now : Option (List ℕ)) (packets : Buffered) (all : List ℕ) : Type 0 where
+pub record Midway (pid id : ℕ) (hex : Bool) (xs : List ℕ) (min_next_dts index counter : ℕ) (left start now : Option (List ℕ)) (packets : Buffered)
+    (all : List ℕ) : Type 0 where
   pub done : List AccessUnit
   pub rest : List ℕ
   pub spare : ℕ
@@ -114,10 +118,12 @@ midway_start pid id hex xs left start now packets all e h =
     }
 
 before_before : (us : List AccessUnit) (u : AccessUnit) (run : Run) → before us (before (u ∷ []) run) ≡ before (us ++ u ∷ []) run
-before_before us u run = ap (λ (units : List AccessUnit). let r : Run = record { units = units; ending = run.ending } in r) (sym (append_assoc us (u ∷ []) run.units))
+before_before us u run =
+    ap (λ (units : List AccessUnit). let r : Run = record { units = units; ending = run.ending } in r) (sym (append_assoc us (u ∷ []) run.units))
 
 -- one record more is carried
-pub midway_more : (pid id : ℕ) (hex now_hex : Bool) (xs : List ℕ) (min_next_dts index counter next : ℕ) (left later start now after : Option (List ℕ)) (packets packets_after : Buffered) (all : List ℕ) (unit : AccessUnit)
+pub midway_more : (pid id : ℕ) (hex now_hex : Bool) (xs : List ℕ) (min_next_dts index counter next : ℕ) (left later start now after : Option (List ℕ))
+    (packets packets_after : Buffered) (all : List ℕ) (unit : AccessUnit)
     (w : Midway pid id hex xs min_next_dts index counter left start now packets all)
     → ReadsNext id min_next_dts w.rest later (Ok (Some unit)) → now_hex ≡ hex
     → (next ≡ (packet_number id w.done + unit_count id unit) % 16)
@@ -148,7 +154,8 @@ midway_more pid id hex now_hex xs min_next_dts index counter next left later sta
     }
 
 -- the writer failed at a record
-pub midway_failed : (pid id : ℕ) (hex now_hex : Bool) (xs : List ℕ) (min_next_dts index counter sent : ℕ) (left later start now after : Option (List ℕ)) (packets : Buffered) (all : List ℕ) (unit : AccessUnit)
+pub midway_failed : (pid id : ℕ) (hex now_hex : Bool) (xs : List ℕ) (min_next_dts index counter sent : ℕ) (left later start now after : Option (List ℕ))
+    (packets : Buffered) (all : List ℕ) (unit : AccessUnit)
     (w : Midway pid id hex xs min_next_dts index counter left start now packets all)
     → ReadsNext id min_next_dts w.rest later (Ok (Some unit)) → now_hex ≡ hex
     → Took start after sent ((all ++ carried hex pid id w.done) ++ formatted_all now_hex (unit_packets pid id (packet_number id w.done) unit))
@@ -171,7 +178,8 @@ midway_failed pid id hex now_hex xs min_next_dts index counter sent left later s
     (took_longer start after sent (all ++ carried hex pid id (w.done ++ unit ∷ [])) front.0 so_far)
 
 -- what is carried is the output of the records so far
-pub midway_holds : (pid id : ℕ) (hex : Bool) (xs : List ℕ) (min_next_dts index counter : ℕ) (left start now : Option (List ℕ)) (packets : Buffered) (all : List ℕ)
+pub midway_holds : (pid id : ℕ) (hex : Bool) (xs : List ℕ) (min_next_dts index counter : ℕ) (left start now : Option (List ℕ)) (packets : Buffered)
+    (all : List ℕ)
     → Midway pid id hex xs min_next_dts index counter left start now packets all
     → (index ≤ length (run_of id xs).units) × IsOutput start now packets (all ++ carried hex pid id (take index (run_of id xs).units))
 midway_holds pid id hex xs min_next_dts index counter left start now packets all w =
@@ -182,7 +190,8 @@ midway_holds pid id hex xs min_next_dts index counter left start now packets all
       subst (λ (u : List AccessUnit). IsOutput start now packets (all ++ carried hex pid id u)) (sym so_far) w.holds,
     )
 
-ends : (pid id : ℕ) (hex : Bool) (xs : List ℕ) (min_next_dts index counter : ℕ) (left start now : Option (List ℕ)) (packets : Buffered) (all : List ℕ) (ending : Ending)
+ends : (pid id : ℕ) (hex : Bool) (xs : List ℕ) (min_next_dts index counter : ℕ) (left start now : Option (List ℕ)) (packets : Buffered) (all : List ℕ)
+    (ending : Ending)
     (w : Midway pid id hex xs min_next_dts index counter left start now packets all)
     → run_from (suc w.spare) id min_next_dts w.rest ≡ record { units = []; ending = ending }
     → ((run_of id xs).ending ≡ ending) × (index ≡ length (run_of id xs).units)
@@ -192,18 +201,21 @@ ends pid id hex xs min_next_dts index counter left start now packets all ending 
     (ap (λ (r : Run). r.ending) is, w.index_is ∙ ap (length {A = AccessUnit}) (sym units))
 
 -- the input is at its end
-pub midway_ended : (pid id : ℕ) (hex : Bool) (xs : List ℕ) (min_next_dts index counter : ℕ) (left start now : Option (List ℕ)) (packets : Buffered) (all : List ℕ)
+pub midway_ended : (pid id : ℕ) (hex : Bool) (xs : List ℕ) (min_next_dts index counter : ℕ) (left start now : Option (List ℕ)) (packets : Buffered)
+    (all : List ℕ)
     (w : Midway pid id hex xs min_next_dts index counter left start now packets all)
     → record_at w.rest ≡ Ok None → EndsRun (run_of id xs) index None
 midway_ended pid id hex xs min_next_dts index counter left start now packets all w e =
     ends pid id hex xs min_next_dts index counter left start now packets all Finished w (run_ended w.spare id min_next_dts w.rest e)
 
 -- no record was accepted
-pub midway_stopped : (pid id : ℕ) (hex : Bool) (xs : List ℕ) (min_next_dts index counter : ℕ) (left later start now : Option (List ℕ)) (packets : Buffered) (all : List ℕ) (stop : Stop)
+pub midway_stopped : (pid id : ℕ) (hex : Bool) (xs : List ℕ) (min_next_dts index counter : ℕ) (left later start now : Option (List ℕ)) (packets : Buffered)
+    (all : List ℕ) (stop : Stop)
     (w : Midway pid id hex xs min_next_dts index counter left start now packets all)
     → ReadsNext id min_next_dts w.rest later (Err stop) → EndsRun (run_of id xs) index (Some stop)
 midway_stopped pid id hex xs min_next_dts index counter left later start now packets all (Refused cause) w r =
-    ends pid id hex xs min_next_dts index counter left start now packets all (UnitRefused cause) w (run_refused w.spare id min_next_dts w.rest r.unit cause r.stands)
+    ends pid id hex xs min_next_dts index counter left start now packets all (UnitRefused cause) w
+    (run_refused w.spare id min_next_dts w.rest r.unit cause r.stands)
 midway_stopped pid id hex xs min_next_dts index counter left later start now packets all (Unread Cut) w r =
     ends pid id hex xs min_next_dts index counter left start now packets all (FileRefused Cut) w (run_unread w.spare id min_next_dts w.rest Cut r.0)
 midway_stopped pid id hex xs min_next_dts index counter left later start now packets all (Unread Size) w r =

@@ -1,5 +1,6 @@
 -- A unit's packets, one payload after the other.
-use Rattle.std.proofs.Common.{◌≡◌, ℕ, zero, suc, ◌+◌, ◌-◌, ◌*◌, ◌%◌, ◌<◌, ◌≤◌, Bool, true, false, List, [], ◌∷◌, ◌++◌, length, take, drop, Option, refl, sym, ap, ◌∙◌, subst, arith, append_assoc, append-nil, cond, ◌==◌}
+use Rattle.std.proofs.Common.{◌≡◌, ℕ, zero, suc, ◌+◌, ◌-◌, ◌*◌, ◌%◌, ◌<◌, ◌≤◌, Bool, true, false, List, [], ◌∷◌, ◌++◌, length, take, drop, Option, refl, sym}
+use Rattle.std.proofs.Common.{ap, ◌∙◌, subst, arith, append_assoc, append-nil, cond, ◌==◌}
 use Rattle.std.proofs.lemmas.Bool.{ltb-false, ne_eqb}
 use Rattle.std.proofs.lemmas.List.{length-drop, drop-drop}
 use Rattle.ts_packet.specs.declared.start.Start.{Start}
@@ -66,7 +67,8 @@ left_none access at pes short =
 
 packets_more : (pid number : ℕ) (start : Start) (access : Bool) (at : ℕ) (pes : List ℕ) → 0 < length pes → 184 * at < field_size access + length pes
     → payload_packets pid start number (left_pieces access at pes)
-    ≡ payload_packet pid start (number % 16) (part_of (field_size access) (184 * at) pes) ∷ payload_packets pid Continues (number + 1) (left_pieces access (suc at) pes)
+    ≡ payload_packet pid start (number % 16) (part_of (field_size access) (184 * at) pes) ∷ payload_packets pid Continues (number + 1)
+    (left_pieces access (suc at) pes)
 unfolding payload_packets
 packets_more pid number start access at pes some inside = rw (left_more access at pes some inside) refl
 
@@ -84,7 +86,8 @@ piece_is pid counter number start bytes packet some count is =
     is ∙ ap packet_of (some_is pid counter start bytes some) ∙ ap (λ (c : ℕ). payload_packet pid start c bytes) same
 
 -- so many packets of a unit have left, and `sent` bytes with them
-pub record PartWay (pid number : ℕ) (hex access : Bool) (pes : List ℕ) (sent counter : ℕ) (start now : Option (List ℕ)) (packets : Buffered) (all : List ℕ) : Type 0 where
+pub record PartWay (pid number : ℕ) (hex access : Bool) (pes : List ℕ) (sent counter : ℕ) (start now : Option (List ℕ)) (packets : Buffered)
+    (all : List ℕ) : Type 0 where
   pub at : ℕ
   pub written : List ℕ
   pub some : 0 < length pes
@@ -110,14 +113,16 @@ part_start pid number hex access pes counter start now packets all some h e =
     }
 
 -- the packet that is next
-packet_is : (pid counter : ℕ) (access : Bool) (pes packet : List ℕ) (sent at : ℕ) → sent ≡ 184 * at → packet ≡ packet_of (part_content pid counter access pes sent)
+packet_is : (pid counter : ℕ) (access : Bool) (pes packet : List ℕ) (sent at : ℕ) → sent ≡ 184 * at →
+    packet ≡ packet_of (part_content pid counter access pes sent)
     → packet ≡ packet_of (payload_or_null pid counter (start_by (at == 0) access) (part_of (field_size access) (184 * at) pes))
 packet_is pid counter access pes packet sent at e is =
     is ∙ ap (λ (s : ℕ). packet_of (part_content pid counter access pes s)) e
     ∙ ap (λ (b : Bool). packet_of (payload_or_null pid counter (start_by b access) (part_of (field_size access) (184 * at) pes))) (start_same at)
 
 -- the output so far, the next packet and those after it
-part_output : (pid number : ℕ) (hex now_hex access : Bool) (pes packet : List ℕ) (sent counter : ℕ) (start now : Option (List ℕ)) (packets : Buffered) (all : List ℕ)
+part_output : (pid number : ℕ) (hex now_hex access : Bool) (pes packet : List ℕ) (sent counter : ℕ) (start now : Option (List ℕ)) (packets : Buffered)
+    (all : List ℕ)
     (w : PartWay pid number hex access pes sent counter start now packets all) → sent < field_size access + length pes → now_hex ≡ hex
     → packet ≡ packet_of (part_content pid counter access pes sent)
     → (w.written ++ formatted now_hex packet) ++ formatted_all hex (payload_packets pid Continues (number + w.at + 1) (left_pieces access (suc w.at) pes))
@@ -127,7 +132,8 @@ part_output pid number hex now_hex access pes packet sent counter start now pack
     let part = part_of (field_size access) (184 * w.at) pes in
     let some : 0 < length (part_of (field_size access) (184 * w.at) pes) = part_some access (184 * w.at) pes w.some here in
     let first : packet ≡ payload_packet pid (start_by (w.at == 0) access) ((number + w.at) % 16) (part_of (field_size access) (184 * w.at) pes) =
-    piece_is pid counter (number + w.at) (start_by (w.at == 0) access) part packet some w.counter_is (packet_is pid counter access pes packet sent w.at w.sent_is is) in
+    piece_is pid counter (number + w.at) (start_by (w.at == 0) access) part packet some w.counter_is
+    (packet_is pid counter access pes packet sent w.at w.sent_is is) in
     let split : payload_packets pid (start_by (w.at == 0) access) (number + w.at) (left_pieces access w.at pes)
     ≡ packet ∷ payload_packets pid Continues (number + w.at + 1) (left_pieces access (suc w.at) pes) =
     packets_more pid (number + w.at) (start_by (w.at == 0) access) access w.at pes w.some here
@@ -140,7 +146,8 @@ next_of : (counter n m : ℕ) → counter ≡ n % 16 → m ≡ n + 1 → (counte
 next_of counter n m e f = omega (arith, e, f)
 
 -- one packet more has left, and further ones follow
-pub part_more : (pid number : ℕ) (hex now_hex access : Bool) (pes packet : List ℕ) (sent counter next : ℕ) (start now later : Option (List ℕ)) (packets after : Buffered) (all : List ℕ)
+pub part_more : (pid number : ℕ) (hex now_hex access : Bool) (pes packet : List ℕ) (sent counter next : ℕ) (start now later : Option (List ℕ))
+    (packets after : Buffered) (all : List ℕ)
     (w : PartWay pid number hex access pes sent counter start now packets all) → sent < field_size access + length pes → now_hex ≡ hex
     → packet ≡ packet_of (part_content pid counter access pes sent) → next ≡ (counter + 1) % 16
     → IsOutput start later after (w.written ++ formatted now_hex packet)
@@ -159,7 +166,8 @@ part_more pid number hex now_hex access pes packet sent counter next start now l
     }
 
 -- the last packet has left
-pub part_end : (pid number : ℕ) (hex now_hex access : Bool) (pes packet : List ℕ) (sent counter next : ℕ) (start now later : Option (List ℕ)) (packets after : Buffered) (all : List ℕ)
+pub part_end : (pid number : ℕ) (hex now_hex access : Bool) (pes packet : List ℕ) (sent counter next : ℕ) (start now later : Option (List ℕ))
+    (packets after : Buffered) (all : List ℕ)
     (w : PartWay pid number hex access pes sent counter start now packets all) → sent < field_size access + length pes → now_hex ≡ hex
     → packet ≡ packet_of (part_content pid counter access pes sent) → next ≡ (counter + 1) % 16
     → goes_on access pes sent ≡ false
@@ -180,7 +188,8 @@ part_end pid number hex now_hex access pes packet sent counter next start now la
     )
 
 -- the writer failed at the next packet
-pub part_failed : (pid number : ℕ) (hex now_hex access : Bool) (pes packet : List ℕ) (sent counter taken : ℕ) (start now later : Option (List ℕ)) (packets : Buffered) (all : List ℕ)
+pub part_failed : (pid number : ℕ) (hex now_hex access : Bool) (pes packet : List ℕ) (sent counter taken : ℕ) (start now later : Option (List ℕ))
+    (packets : Buffered) (all : List ℕ)
     (w : PartWay pid number hex access pes sent counter start now packets all) → sent < field_size access + length pes → now_hex ≡ hex
     → packet ≡ packet_of (part_content pid counter access pes sent)
     → Took start later taken (w.written ++ formatted now_hex packet)
@@ -192,7 +201,8 @@ part_failed pid number hex now_hex access pes packet sent counter taken start no
     (formatted_all hex (payload_packets pid Continues (number + w.at + 1) (left_pieces access (suc w.at) pes))) took)
 
 -- header and bytes are the PES packet of the unit
-pub pes_is : (id : ℕ) (unit : AccessUnit) (header bytes : List ℕ) (size : ℕ) (marks : Marks) (pts dts : ℕ) → header ≡ pes_header_bytes id size marks pts dts → bytes ≡ unit.bytes
+pub pes_is : (id : ℕ) (unit : AccessUnit) (header bytes : List ℕ) (size : ℕ) (marks : Marks) (pts dts : ℕ) → header ≡ pes_header_bytes id size marks pts dts →
+    bytes ≡ unit.bytes
     → size ≡ length unit.bytes → marks ≡ unit.marks → pts ≡ unit.pts → dts ≡ unit.dts → header ++ bytes ≡ pes_packet_bytes id 0 unit
 unfolding pes_packet_bytes
 pes_is id unit header bytes size marks pts dts a b s m p d =

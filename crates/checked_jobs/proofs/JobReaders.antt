@@ -28,7 +28,9 @@ not_utf8 bytes false e n = cc
 
 pub no_text : (bytes : List ℕ) → ¬ (IsUtf8 bytes) → Err (refused_by.Refused fault.Text) ≡ described bytes
 unfolding described
-no_text bytes n = sym (ap (λ (b : Bool). if b then description_of (parse_document bytes) else Err (refused_by.Refused fault.Text)) (not_utf8 bytes (is_utf8 bytes) (let same : is_utf8 bytes ≡ is_utf8 bytes = cc in same) n))
+no_text bytes n =
+    sym (ap (λ (b : Bool). if b then description_of (parse_document bytes) else Err (refused_by.Refused fault.Text))
+    (not_utf8 bytes (is_utf8 bytes) (let same : is_utf8 bytes ≡ is_utf8 bytes = cc in same) n))
 
 pub planned_front : (text : List ℕ) (plan : Planned) (size : ℕ) → BeginsWithPlan text plan size → planned text ≡ Ok (plan, drop size text)
 unfolding planned
@@ -38,7 +40,8 @@ pub planned_bad : (text : List ℕ) (line : ℕ) → plan_at text ≡ Err line �
 unfolding planned
 planned_bad text line e = e
 
-pub planned_rest : (text : List ℕ) (plan : Planned) (size : ℕ) → BeginsWithPlan text plan size → planned text ≡ Ok (plan, take (length text - size) (drop size text))
+pub planned_rest : (text : List ℕ) (plan : Planned) (size : ℕ) → BeginsWithPlan text plan size →
+    planned text ≡ Ok (plan, take (length text - size) (drop size text))
 planned_rest text plan size s = rw (take_rest text size) (planned_front text plan size s)
 
 pub names_line : (text : List ℕ) (error : PlanTextError) → Refuses text error → NamesLine (planned text) error

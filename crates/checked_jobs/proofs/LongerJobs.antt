@@ -1,5 +1,6 @@
 -- A job with more bytes after it: the plans that its front is read as stay, and the bytes after them grow.
-use Rattle.std.proofs.Common.{◌≡◌, ℕ, suc, ◌+◌, ◌-◌, ◌≤◌, Bool, true, false, List, [], ◌∷◌, ◌++◌, length, take, drop, min, refl, sym, ap, ap₂, subst, ◌∙◌, arith, append_assoc, length-append, Option, Some, None, Result, Ok, Err}
+use Rattle.std.proofs.Common.{◌≡◌, ℕ, suc, ◌+◌, ◌-◌, ◌≤◌, Bool, true, false, List, [], ◌∷◌, ◌++◌, length, take, drop, min, refl, sym, ap, ap₂, subst, ◌∙◌}
+use Rattle.std.proofs.Common.{arith, append_assoc, length-append, Option, Some, None, Result, Ok, Err}
 use Rattle.std.specs.Prelude.{◌&&◌, ◌==◌, if◌then◌else◌, nat_eq, option_map}
 use Rattle.std.specs.List.{starts_with}
 use Rattle.std.specs.Cmp.Lexicographic.{pointwise}
@@ -14,7 +15,8 @@ use Rattle.slot_plan.specs.Planned.{Planned}
 use Rattle.slot_plan.specs.Readers.{plan_at}
 use Rattle.slot_plan.specs.Text.{plan_text}
 use Rattle.slot_plan.proofs.TextPlans.{plan-complete, plan-sound}
-use Rattle.checked_jobs.specs.Jobs.{BadLine, BadSecondLine, Fails, HasNoPlan, JobFaultView, JobView, SecondFails, described, fault_of, job, job_of, of_parts, first_plan_line, plan_offset, planned, second_fault_of, unless_failed, with_description, with_plan, with_rest, with_second}
+use Rattle.checked_jobs.specs.Jobs.{BadLine, BadSecondLine, Fails, HasNoPlan, JobFaultView, JobView, SecondFails, described, fault_of, job, job_of, of_parts}
+use Rattle.checked_jobs.specs.Jobs.{first_plan_line, plan_offset, planned, second_fault_of, unless_failed, with_description, with_plan, with_rest, with_second}
 use Rattle.checked_jobs.specs.JobFaults.{IsJobAtFront, is_final, plans_view}
 use Rattle.checked_jobs.specs.declared.jobs.JobPlans.{JobPlans}
 use Rattle.checked_jobs.specs.declared.jobs.JobPlans.TheVariants.{One, Two}
@@ -44,7 +46,8 @@ pub record Keeps (given : List ℕ) (after : List ℕ → Result JobView JobFaul
   pub front : List ℕ
   pub joined : given ≡ front ++ j.rest
 
-unless_kept : (named : Entry → JobFaultView) (o : Option Entry) (now : Result JobView JobFaultView) (given : List ℕ) (after : List ℕ → Result JobView JobFaultView) (j : JobView) →
+unless_kept : (named : Entry → JobFaultView) (o : Option Entry) (now : Result JobView JobFaultView) (given : List ℕ)
+    (after : List ℕ → Result JobView JobFaultView) (j : JobView) →
     (now ≡ Ok j → Keeps given after j) → unless_failed named o now ≡ Ok j → Keeps given (λ more. unless_failed named o (after more)) j
 unless_kept named None now given after j k e = k e
 unless_kept named (Some fault) now given after j k e = absurd cc
@@ -74,7 +77,8 @@ second_kept d p text j (Ok s) r e =
     (last_kept d p (Some s.0) s.1 j) e)
     (λ more. ap (with_second d p) (planned_more text more s.1 s.0 r)))
 
-rest_kept : (switch : Bool) (d : Described) (p : Planned) (rest : List ℕ) (j : JobView) → with_rest switch d p rest ≡ Ok j → Keeps rest (λ more. with_rest switch d p (rest ++ more)) j
+rest_kept : (switch : Bool) (d : Described) (p : Planned) (rest : List ℕ) (j : JobView) → with_rest switch d p rest ≡ Ok j →
+    Keeps rest (λ more. with_rest switch d p (rest ++ more)) j
 rest_kept false d p rest j e = last_kept d p None rest j e
 rest_kept true d p rest j e = second_kept d p rest j (planned rest) refl e
 
@@ -139,7 +143,8 @@ place_far i n b [] e = absurd cc
 place_far i n b (x ∷ xs) e =
     far_if i x n xs (b && starts_with nat_eq (x ∷ xs) first_plan_line) (line_long (x ∷ xs) b) (place_far (i + 1) n (x == 10) xs) e
 
-more_if : (i x n : ℕ) (xs more : List ℕ) (a b : Bool) → a ≡ b → (plan_offset (i + 1) (x == 10) xs ≡ Some n → plan_offset (i + 1) (x == 10) (xs ++ more) ≡ Some n) →
+more_if : (i x n : ℕ) (xs more : List ℕ) (a b : Bool) → a ≡ b →
+    (plan_offset (i + 1) (x == 10) xs ≡ Some n → plan_offset (i + 1) (x == 10) (xs ++ more) ≡ Some n) →
     (if b then Some i else plan_offset (i + 1) (x == 10) xs) ≡ Some n → (if a then Some i else plan_offset (i + 1) (x == 10) (xs ++ more)) ≡ Some n
 more_if i x n xs more true true s next e = e
 more_if i x n xs more false false s next e = next e
@@ -184,12 +189,14 @@ same_fault a b e = cc
 changes : (a b : JobFaultView) → is_final a ≡ false → ◌≡◌ {A = Result JobView JobFaultView} (Err a) (Err b) → is_final b ≡ true → ⊥
 changes a b n e f = false≢true (sym n ∙ ap is_final (same_fault a b e) ∙ f)
 
-unless_stays : (named : Entry → JobFaultView) (o : Option Entry) (now : Result JobView JobFaultView) (after : List ℕ → Result JobView JobFaultView) (f : JobFaultView) →
+unless_stays : (named : Entry → JobFaultView) (o : Option Entry) (now : Result JobView JobFaultView) (after : List ℕ → Result JobView JobFaultView)
+    (f : JobFaultView) →
     (now ≡ Err f → Stays after f) → unless_failed named o now ≡ Err f → Stays (λ more. unless_failed named o (after more)) f
 unless_stays named None now after f s e = s e
 unless_stays named (Some fault) now after f s e = λ more. e
 
-stays_before : (before after : List ℕ → Result JobView JobFaultView) (f : JobFaultView) → Stays after f → ((more : List ℕ) → before more ≡ after more) → Stays before f
+stays_before : (before after : List ℕ → Result JobView JobFaultView) (f : JobFaultView) → Stays after f → ((more : List ℕ) → before more ≡ after more) →
+    Stays before f
 stays_before before after f s h = λ more. h more ∙ s more
 
 second_stays : (d : Described) (p : Planned) (text : List ℕ) (f : JobFaultView) (r : Result (Planned × List ℕ) ℕ) → planned text ≡ r → is_final f ≡ true →
@@ -213,7 +220,8 @@ plan_stays switch d text f (Ok s) r n e =
     (unless_stays Fails (fault_of d s.0) (with_rest switch d s.0 s.1) (λ more. with_rest switch d s.0 (s.1 ++ more)) f (rest_stays switch d s.0 s.1 f n) e)
     (λ more. ap (with_plan switch d) (planned_more text more s.1 s.0 r))
 
-described_stays : (switch : Bool) (text : List ℕ) (f : JobFaultView) (r : Result Described DescError) → is_final f ≡ true → with_description switch text r ≡ Err f →
+described_stays : (switch : Bool) (text : List ℕ) (f : JobFaultView) (r : Result Described DescError) → is_final f ≡ true →
+    with_description switch text r ≡ Err f →
     Stays (λ more. with_description switch (text ++ more) r) f
 described_stays switch text f (Err (refused_by.Refused fault)) n e = λ more. e
 described_stays switch text f (Err refused_by.Memory) n e = λ more. e
@@ -258,7 +266,8 @@ rest_within switch xs rest plans e =
     let both : length (k.0 ++ rest) ≡ length k.0 + length rest = length-append k.0 rest in
     omega (arith, size, both)
 
-pub job_at_front : (switch : Bool) (xs rest : List ℕ) (plans : JobPlans) (place : ℕ) → place ≡ length xs - length rest → Ok (plans_view plans rest) ≡ job_of switch xs →
+pub job_at_front : (switch : Bool) (xs rest : List ℕ) (plans : JobPlans) (place : ℕ) → place ≡ length xs - length rest →
+    Ok (plans_view plans rest) ≡ job_of switch xs →
     IsJobAtFront (job_of switch xs) xs (Ok (plans, place))
 job_at_front switch xs rest plans place p e =
     let k = rest_ends switch xs rest plans e in

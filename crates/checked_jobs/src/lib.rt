@@ -2,8 +2,8 @@
 //! first, and the bytes after these.
 //!
 //! `job_parts` is where the plans begin, `jobs` reads and checks them, `job_fault` is the first fault in a job with its
-//! line, and `fault_lines` has the lines for faults in records and units. `specs/JobSchedules` says which slots the plans
-//! of a job give.
+//! line, and `fault_lines` has the lines for faults in records and units. `specs/JobSchedules` says which slots the
+//! plans of a job give.
 #![tactic(auto)]
 
 mod fault_lines;

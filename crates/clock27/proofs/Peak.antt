@@ -75,7 +75,8 @@ record Found (step prev from most : ℕ) (ts : List ℕ) : Type 0 where
   after : from ≤ at
   is : left_in step (prev - at) + fullness at ts (departures step prev ts) ≡ most
 
-most_reached : (step : ℕ) → 0 < step → (t : ℕ) (ts : List ℕ) (prev from : ℕ) → Climbs from (t ∷ ts) → Found step prev from (most_found step prev (t ∷ ts)) (t ∷ ts)
+most_reached : (step : ℕ) → 0 < step → (t : ℕ) (ts : List ℕ) (prev from : ℕ) → Climbs from (t ∷ ts) →
+    Found step prev from (most_found step prev (t ∷ ts)) (t ∷ ts)
 unfolding Climbs most_found departures fullness
 most_reached step pos t [] prev from climbs =
     let same : t ≤ t = omega arith in
@@ -92,7 +93,8 @@ most_reached step pos t (u ∷ ts) prev from climbs = elim (cases_lt (found step
       record { at = t; after = climbs.0; is = omega (arith, counted_in step t t prev pos same, alone step t prev pos, none) }
 ]
 
-never_own_before : (step : ℕ) → 0 < step → (most : ℕ) (ts : List ℕ) (prev : ℕ) → most_found step prev ts ≤ most → Stays (most * step) ts (departures step prev ts)
+never_own_before : (step : ℕ) → 0 < step → (most : ℕ) (ts : List ℕ) (prev : ℕ) → most_found step prev ts ≤ most →
+    Stays (most * step) ts (departures step prev ts)
 unfolding Stays departures most_found
 never_own_before step pos most [] prev le = tt
 never_own_before step pos most (t ∷ ts) prev le =

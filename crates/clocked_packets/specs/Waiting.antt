@@ -3,7 +3,8 @@
 -- A stream arrives by the references of one PID, that of the first, or PCR_PID of a program once the first tables are known (ISO/IEC
 -- 13818-1, 2.4.2.2: bytes arrive by the references of their program). With each of them the packets before it have a line, and the
 -- packet with the reference waits as the first of those for the next. Where too many wait, the line before goes on for them.
-use Rattle.std.specs.Prelude.{ℕ, ◌+◌, ◌-◌, ◌^◌, ◌==◌, ◌&&◌, min, nat_lt, not, is_some, Bool, true, false, if◌then◌else◌, List, [], ◌∷◌, ◌++◌, length, Option, Some, None, Result, Ok, Err}
+use Rattle.std.specs.Prelude.{ℕ, ◌+◌, ◌-◌, ◌^◌, ◌==◌, ◌&&◌, min, nat_lt, not, is_some, Bool, true, false, if◌then◌else◌, List, [], ◌∷◌, ◌++◌, length, Option}
+use Rattle.std.specs.Prelude.{Some, None, Result, Ok, Err}
 use Rattle.std.specs.Option.{option_map}
 use Rattle.ts_packet.specs.declared.packet.PacketError.{PacketError}
 use Rattle.ts_packet.specs.Reading.{packet_at}
@@ -25,8 +26,8 @@ use Rattle.clocked_packets.specs.declared.packet_queue.ClockPid.TheVariants.{OfF
 abbrev pub most_waiting : ℕ
 most_waiting = 65536
 
--- the PID of the references, the streams that are named, the clock that the references give, the line of the first bytes of the first packet that waits, the number of packets
--- so far, and those that wait
+-- the PID of the references, the streams that are named, the clock that the references give, the line of the first bytes of the first packet that waits, the
+-- number of packets so far, and those that wait
 pub record QueueState : Type 0 where
   pub pid : ClockPid
   pub named : NamedView
@@ -47,7 +48,8 @@ is_of_clock (Known clock) pid = clock == pid
 
 abbrev pub reference_of : ClockPid → ℕ → PacketView → Option (ℕ × PcrSample)
 reference_of clock index packet =
-    if not packet.header.transport_error_indicator && is_of_clock clock packet.header.pid then option_map (λ sample. (packet.header.pid, sample)) (pcr_sample index packet) else None
+    if not packet.header.transport_error_indicator && is_of_clock clock packet.header.pid then option_map (λ sample. (packet.header.pid, sample))
+    (pcr_sample index packet) else None
 
 unfoldable pub reference_read : ClockPid → ℕ → Result PacketView PacketError → Option (ℕ × PcrSample)
 reference_read clock index (Err error) = None

@@ -27,7 +27,8 @@ pub enum ClockPid {
     Known(u16),
 }
 
-/// The packets of a stream that wait for a line, the clock by whose references it arrives, and the streams that are named.
+/// The packets of a stream that wait for a line, the clock by whose references it arrives, and the streams that are
+/// named.
 #[derive(Drop)]
 pub struct PacketQueue {
     pid: ClockPid,
@@ -185,7 +186,8 @@ impl PacketQueue {
         Ok(())
     }
 
-    /// Takes the next packet, and returns how the waiting packets arrive, if that is known now. The caller then takes them, and lets the packet wait.
+    /// Takes the next packet, and returns how the waiting packets arrive, if that is known now. The caller then takes
+    /// them, and lets the packet wait.
     pub fn take(&mut self, bytes: &[u8; 188]) -> Result<Option<Arrival>, AllocError>
         ensures arrival { IfOk result (λ arrival. arrival ≡ spec.released self.old bytes.now) }
         ensures queue { OnOk result (self.new ≡ spec.stepped self.old bytes.now) }

@@ -1,5 +1,6 @@
 -- What is left out of the body of a PES packet decides nothing.
-use Rattle.std.proofs.Common.{◌≡◌, ℕ, ◌-◌, ◌+◌, Bool, true, false, cond, List, [], ◌∷◌, ◌++◌, length, take, drop, map, replicate, Option, Some, None, Result, Ok, Err, refl, sym, ap, ap₂, subst, ◌∙◌, arith, length-append, append_assoc, ◌≤◌, ◌==◌}
+use Rattle.std.proofs.Common.{◌≡◌, ℕ, ◌-◌, ◌+◌, Bool, true, false, cond, List, [], ◌∷◌, ◌++◌, length, take, drop, map, replicate, Option, Some, None, Result}
+use Rattle.std.proofs.Common.{Ok, Err, refl, sym, ap, ap₂, subst, ◌∙◌, arith, length-append, append_assoc, ◌≤◌, ◌==◌}
 use Rattle.std.specs.Prelude.{nat_lt, min, option_map}
 use Rattle.std.proofs.lemmas.List.{append-nil, length-drop, length-replicate, length-take, length-take-le, map-append, take-append-le, take_at}
 use Rattle.pes_packet.specs.Reading.{header_at}
@@ -13,9 +14,11 @@ use Rattle.demux.specs.Marks.{Marked, mark}
 use Rattle.demux.specs.Roles.{Role, NoPayload, ScrambledPayload, PesStart, SectionStart, PointerPastEnd, Continuation, role}
 use Rattle.demux.specs.OpenUnits.{UnitKind, OpenUnit, IsOpen, IsUndecidedBelow, about, begun_kind, decided, max_unbounded_pes, of_header, of_pes, plain}
 use Rattle.demux.specs.declared.open_unit.UnitKind.TheVariants as unit_kinds
-use Rattle.demux.specs.Findings.{by_break, by_role, cut_short, end_of, ended, found_appended, found_at, found_if, last_bytes, last_bytes_by, undecided, unless_decided}
+use Rattle.demux.specs.Findings.{by_break, by_role, cut_short, end_of, ended, found_appended, found_at, found_if, last_bytes, last_bytes_by, undecided}
+use Rattle.demux.specs.Findings.{unless_decided}
 use Rattle.demux.specs.Machine.{PidState, found_by, next_open, step, step_marked, unbroken}
-use Rattle.demux.specs.Bodies.{BodiesDecideNothing, bodiless, bytes_without_body, found_without_body, left_out, state_without_body, unit_without_body, without_body}
+use Rattle.demux.specs.Bodies.{BodiesDecideNothing, bodiless, bytes_without_body, found_without_body, left_out, state_without_body, unit_without_body}
+use Rattle.demux.specs.Bodies.{without_body}
 use Rattle.demux.proofs.HeadedUnits.{after_front, still_read, take_front}
 use Rattle.demux.proofs.HeaderFronts.{header_alone, header_there}
 
@@ -54,7 +57,8 @@ without_length unit_kinds.Pes bytes = bodiless_length bytes (header_at bytes) re
 without_length unit_kinds.Section bytes = refl
 
 -- the same header is read, with more bytes as well
-bodiless_read : (bytes more : List ℕ) (r : Result (PesHeader × ℕ) PesError) → header_at bytes ≡ r → header_at (bodiless bytes r ++ more) ≡ header_at (bytes ++ more)
+bodiless_read : (bytes more : List ℕ) (r : Result (PesHeader × ℕ) PesError) → header_at bytes ≡ r →
+    header_at (bodiless bytes r ++ more) ≡ header_at (bytes ++ more)
 unfolding bodiless
 bodiless_read bytes more (Ok h) is =
     let front = take h.1 bytes in
@@ -70,7 +74,8 @@ pes_read_now bytes =
     ap header_at (sym (append-nil (bodiless bytes (header_at bytes)))) ∙ pes_read bytes [] ∙ ap header_at (append-nil bytes)
 
 -- and what begins is of the same kind
-begun_more : (kind : UnitKind) (access : Bool) (bytes more : List ℕ) → begun_kind kind access (bytes_without_body kind bytes ++ more) ≡ begun_kind kind access (bytes ++ more)
+begun_more : (kind : UnitKind) (access : Bool) (bytes more : List ℕ) →
+    begun_kind kind access (bytes_without_body kind bytes ++ more) ≡ begun_kind kind access (bytes ++ more)
 unfolding begun_kind bytes_without_body
 begun_more unit_kinds.Pes access bytes more = rw (pes_read bytes more) refl
 begun_more unit_kinds.Section access bytes more = refl
@@ -100,7 +105,8 @@ bodiless_again bytes more (Ok h) is =
     rw read (ap₂ (λ (x y : List ℕ). x ++ y) front rest)
 bodiless_again bytes more (Err e) is = refl
 
-without_more : (kind : UnitKind) (bytes more : List ℕ) → bytes_without_body kind (bytes_without_body kind bytes ++ more) ≡ bytes_without_body kind (bytes ++ more)
+without_more : (kind : UnitKind) (bytes more : List ℕ) →
+    bytes_without_body kind (bytes_without_body kind bytes ++ more) ≡ bytes_without_body kind (bytes ++ more)
 unfolding bytes_without_body
 without_more unit_kinds.Pes bytes more =
     ap (bodiless (bodiless bytes (header_at bytes) ++ more)) (pes_read bytes more) ∙ bodiless_again bytes more (header_at bytes) refl
@@ -108,7 +114,8 @@ without_more unit_kinds.Section bytes more = refl
 
 without_again : (kind : UnitKind) (bytes : List ℕ) → bytes_without_body kind (bytes_without_body kind bytes) ≡ bytes_without_body kind bytes
 without_again kind bytes =
-    ap (bytes_without_body kind) (sym (append-nil (bytes_without_body kind bytes))) ∙ without_more kind bytes [] ∙ ap (bytes_without_body kind) (append-nil bytes)
+    ap (bytes_without_body kind) (sym (append-nil (bytes_without_body kind bytes))) ∙ without_more kind bytes []
+    ∙ ap (bytes_without_body kind) (append-nil bytes)
 
 -- 3. What bytes decide
 
@@ -119,7 +126,8 @@ too_long : (b : Bool) (x y : List ℕ) → length x ≡ length y → shown (cond
 too_long true x y e = ap (λ (zeros : List ℕ). Some (IsTruncated zeros)) (same_zeros x y e)
 too_long false x y e = refl
 
-whole : (b : Bool) (header : PesHeader) (x y : List ℕ) → length x ≡ length y → shown (cond b None (Some (IsPes header false x))) ≡ shown (cond b None (Some (IsPes header false y)))
+whole : (b : Bool) (header : PesHeader) (x y : List ℕ) → length x ≡ length y →
+    shown (cond b None (Some (IsPes header false x))) ≡ shown (cond b None (Some (IsPes header false y)))
 whole true header x y e = refl
 whole false header x y e = ap (λ (zeros : List ℕ). Some (IsPes header false zeros)) (same_zeros x y e)
 
@@ -166,11 +174,13 @@ none_or_some v e = absurd cc
 abbrev unit_of : ℕ → UnitKind → Bool → List ℕ → OpenUnit
 unit_of packet kind access bytes = record { packet = packet; kind = kind; access = access; bytes = bytes }
 
-about_same : (packet : ℕ) (kind : UnitKind) (access : Bool) (x y : List ℕ) (v w : WhatView) → begun_kind kind access x ≡ begun_kind kind access y → without_body v ≡ without_body w →
+about_same : (packet : ℕ) (kind : UnitKind) (access : Bool) (x y : List ℕ) (v w : WhatView) → begun_kind kind access x ≡ begun_kind kind access y →
+    without_body v ≡ without_body w →
     all_shown (about (unit_of packet kind access x) v ∷ []) ≡ all_shown (about (unit_of packet kind access y) w ∷ [])
 about_same packet kind access x y v w begun what = rw (begun, what) refl
 
-found_same : (packet : ℕ) (kind : UnitKind) (access : Bool) (x y : List ℕ) (d e : Option WhatView) → begun_kind kind access x ≡ begun_kind kind access y → shown d ≡ shown e →
+found_same : (packet : ℕ) (kind : UnitKind) (access : Bool) (x y : List ℕ) (d e : Option WhatView) → begun_kind kind access x ≡ begun_kind kind access y →
+    shown d ≡ shown e →
     all_shown (found_if (unit_of packet kind access x) d) ≡ all_shown (found_if (unit_of packet kind access y) e)
 unfolding found_if
 found_same packet kind access x y None None begun what = refl
@@ -184,7 +194,8 @@ appended_same : (payload : List ℕ) (open_unit : Option OpenUnit) →
 unfolding found_appended
 appended_same payload None = refl
 appended_same payload (Some u) =
-    found_same u.packet u.kind u.access (bytes_without_body u.kind u.bytes ++ payload) (u.bytes ++ payload) _ _ (begun_more u.kind u.access u.bytes payload) (decided_same u.kind u.bytes payload)
+    found_same u.packet u.kind u.access (bytes_without_body u.kind u.bytes ++ payload) (u.bytes ++ payload) _ _ (begun_more u.kind u.access u.bytes payload)
+    (decided_same u.kind u.bytes payload)
 
 -- by what cuts it short
 cut_same : (open_unit : Option OpenUnit) → all_shown (cut_short (option_map unit_without_body open_unit)) ≡ all_shown (cut_short open_unit)
@@ -214,7 +225,8 @@ end_read unended unit_kinds.Pes bytes =
     ∙ end_same unended unit_kinds.Pes (bodiless bytes (header_at bytes)) bytes (header_at bytes) (bodiless_length bytes (header_at bytes) refl)
 end_read unended unit_kinds.Section bytes = refl
 
-pub ended_same : (unended : Bool) (open_unit : Option OpenUnit) → all_shown (ended unended (option_map unit_without_body open_unit)) ≡ all_shown (ended unended open_unit)
+pub ended_same : (unended : Bool) (open_unit : Option OpenUnit) →
+    all_shown (ended unended (option_map unit_without_body open_unit)) ≡ all_shown (ended unended open_unit)
 unfolding ended
 ended_same unended None = refl
 ended_same unended (Some u) =
@@ -222,12 +234,14 @@ ended_same unended (Some u) =
 
 -- by the bytes before the place to which pointer_field points
 last_by : (before : List ℕ) (packet : ℕ) (kind : UnitKind) (access : Bool) (bytes : List ℕ) →
-    all_shown (last_bytes_by before (unit_without_body (unit_of packet kind access bytes)) kind) ≡ all_shown (last_bytes_by before (unit_of packet kind access bytes) kind)
+    all_shown (last_bytes_by before (unit_without_body (unit_of packet kind access bytes)) kind) ≡ all_shown
+    (last_bytes_by before (unit_of packet kind access bytes) kind)
 unfolding last_bytes_by bytes_without_body
 last_by before packet unit_kinds.Pes access bytes = ended_same false (Some (unit_of packet unit_kinds.Pes access bytes))
 last_by before packet unit_kinds.Section access bytes = refl
 
-last_same : (before : List ℕ) (open_unit : Option OpenUnit) → all_shown (last_bytes before (option_map unit_without_body open_unit)) ≡ all_shown (last_bytes before open_unit)
+last_same : (before : List ℕ) (open_unit : Option OpenUnit) →
+    all_shown (last_bytes before (option_map unit_without_body open_unit)) ≡ all_shown (last_bytes before open_unit)
 unfolding last_bytes
 last_same before None = refl
 last_same before (Some u) = last_by before u.packet u.kind u.access u.bytes
@@ -240,7 +254,8 @@ before_same x y more e =
 after_same : (first : Found) (x y : List Found) → all_shown x ≡ all_shown y → all_shown (first ∷ x) ≡ all_shown (first ∷ y)
 after_same first x y e = ap (λ (found : List Found). found_without_body first ∷ found) e
 
-role_same : (packet : ℕ) (r : Role) (open_unit : Option OpenUnit) → all_shown (by_role packet r (option_map unit_without_body open_unit)) ≡ all_shown (by_role packet r open_unit)
+role_same : (packet : ℕ) (r : Role) (open_unit : Option OpenUnit) →
+    all_shown (by_role packet r (option_map unit_without_body open_unit)) ≡ all_shown (by_role packet r open_unit)
 unfolding by_role
 role_same packet NoPayload open_unit = refl
 role_same packet ScrambledPayload open_unit = after_same (plain IsScrambled) _ _ (cut_same open_unit)
@@ -276,7 +291,8 @@ kept_again : (open_unit : Option OpenUnit) → kept (kept open_unit) ≡ kept op
 kept_again None = refl
 kept_again (Some u) = unit_again u.packet u.kind u.access (bytes_without_body u.kind u.bytes) u.bytes (without_again u.kind u.bytes)
 
-unless_same : (packet : ℕ) (kind : UnitKind) (access : Bool) (x y : List ℕ) (d e : Option WhatView) → bytes_without_body kind x ≡ bytes_without_body kind y → shown d ≡ shown e →
+unless_same : (packet : ℕ) (kind : UnitKind) (access : Bool) (x y : List ℕ) (d e : Option WhatView) → bytes_without_body kind x ≡ bytes_without_body kind y →
+    shown d ≡ shown e →
     kept (unless_decided (unit_of packet kind access x) d) ≡ kept (unless_decided (unit_of packet kind access y) e)
 unfolding unless_decided
 unless_same packet kind access x y None None same what = unit_again packet kind access x y same
@@ -293,7 +309,8 @@ next_same packet (SectionStart before bytes) open_unit = refl
 next_same packet PointerPastEnd open_unit = refl
 next_same packet (Continuation payload) None = refl
 next_same packet (Continuation payload) (Some u) =
-    unless_same u.packet u.kind u.access (bytes_without_body u.kind u.bytes ++ payload) (u.bytes ++ payload) _ _ (without_more u.kind u.bytes payload) (decided_same u.kind u.bytes payload)
+    unless_same u.packet u.kind u.access (bytes_without_body u.kind u.bytes ++ payload) (u.bytes ++ payload) _ _ (without_more u.kind u.bytes payload)
+    (decided_same u.kind u.bytes payload)
 
 unbroken_same : (broken : Option (ℕ × ℕ)) (open_unit : Option OpenUnit) → unbroken broken (kept open_unit) ≡ kept (unbroken broken open_unit)
 unfolding unbroken
@@ -304,7 +321,8 @@ step_same : (s : PidState) (entry : Entry) → state_without_body (step (state_w
 unfolding step_marked
 step_same s entry =
     let m = mark s.last entry in
-    let same : kept (next_open m.entry.index (role m) (unbroken m.broken (kept s.open_unit))) ≡ kept (next_open m.entry.index (role m) (unbroken m.broken s.open_unit)) =
+    let same : kept (next_open m.entry.index (role m) (unbroken m.broken (kept s.open_unit))) ≡ kept
+    (next_open m.entry.index (role m) (unbroken m.broken s.open_unit)) =
     ap (λ (o : Option OpenUnit). kept (next_open m.entry.index (role m) o)) (unbroken_same m.broken s.open_unit)
     ∙ next_same m.entry.index (role m) (unbroken m.broken s.open_unit) in
     rw same refl
@@ -325,9 +343,11 @@ none_shown : (d : Option WhatView) → shown d ≡ None → d ≡ None
 none_shown None e = refl
 none_shown (Some w) e = absurd cc
 
-pub waits_left : (kind : UnitKind) (bytes : List ℕ) (least : ℕ) → IsUndecidedBelow kind bytes least → IsUndecidedBelow kind (bytes_without_body kind bytes) least
+pub waits_left : (kind : UnitKind) (bytes : List ℕ) (least : ℕ) → IsUndecidedBelow kind bytes least →
+    IsUndecidedBelow kind (bytes_without_body kind bytes) least
 waits_left kind bytes least waits more lt =
-    let same : length (bytes_without_body kind bytes ++ more) ≡ length (bytes ++ more) = same_more (bytes_without_body kind bytes) bytes more (without_length kind bytes) in
+    let same : length (bytes_without_body kind bytes ++ more) ≡ length (bytes ++ more) =
+    same_more (bytes_without_body kind bytes) bytes more (without_length kind bytes) in
     none_shown (decided kind (bytes_without_body kind bytes ++ more)) (decided_same kind bytes more ∙ ap shown (waits more (omega (arith, lt, same))))
 
 -- its bytes are the header and zeros

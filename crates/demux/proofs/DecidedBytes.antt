@@ -1,5 +1,6 @@
 -- What is decided stays decided with more bytes.
-use Rattle.std.proofs.Common.{◌≡◌, ◌≢◌, ℕ, zero, suc, ◌+◌, ◌-◌, ◌==◌, subst, Bool, true, false, cond, List, [], ◌∷◌, ◌++◌, length, Option, Some, None, Result, Ok, Err, refl, arith, length-append}
+use Rattle.std.proofs.Common.{◌≡◌, ◌≢◌, ℕ, zero, suc, ◌+◌, ◌-◌, ◌==◌, subst, Bool, true, false, cond, List, [], ◌∷◌, ◌++◌, length, Option, Some, None, Result}
+use Rattle.std.proofs.Common.{Ok, Err, refl, arith, length-append}
 use Rattle.std.specs.Prelude.{nat_lt}
 use Rattle.std.proofs.lemmas.Bool.Decides.{nat_tests}
 use Rattle.pes_packet.specs.Reading.{header_at}
@@ -40,7 +41,8 @@ header_before : (z : Bool) (bytes more : List ℕ) (n : ℕ) (u v x y : WhatView
     cond z (cond (nat_lt max_unbounded_pes (length (bytes ++ more))) (Some u) None) (cond (nat_lt (length (bytes ++ more)) n) None (Some v)) ≡ None →
     cond z (cond (nat_lt max_unbounded_pes (length bytes)) (Some x) None) (cond (nat_lt (length bytes) n) None (Some y)) ≡ None
 header_before true bytes more n u v x y e =
-    let f : nat_lt max_unbounded_pes (length bytes) ≡ false = shorter max_unbounded_pes bytes more (unbounded (nat_lt max_unbounded_pes (length (bytes ++ more))) u e) in rw f refl
+    let f : nat_lt max_unbounded_pes (length bytes) ≡ false =
+    shorter max_unbounded_pes bytes more (unbounded (nat_lt max_unbounded_pes (length (bytes ++ more))) u e) in rw f refl
 header_before false bytes more n u v x y e =
     let f : nat_lt (length bytes) n ≡ true = short n bytes more (bounded (nat_lt (length (bytes ++ more)) n) v e) in rw f refl
 
@@ -48,18 +50,22 @@ of_header_before : (bytes more : List ℕ) (h : PesHeader × ℕ) → of_header 
 unfolding of_header
 of_header_before bytes more h e = header_before (h.0.len == 0) bytes more (6 + h.0.len) _ _ _ _ e
 
-of_pes_before : (bytes more : List ℕ) (r s : Result (PesHeader × ℕ) PesError) → (r ≢ Err pes_errors.Short → s ≡ r) → of_pes (bytes ++ more) s ≡ None → of_pes bytes r ≡ None
+of_pes_before : (bytes more : List ℕ) (r s : Result (PesHeader × ℕ) PesError) → (r ≢ Err pes_errors.Short → s ≡ r) → of_pes (bytes ++ more) s ≡ None →
+    of_pes bytes r ≡ None
 unfolding of_pes
 of_pes_before bytes more (Ok h) s k e =
-    let q : s ≡ Ok h = k (λ x. absurd cc) in of_header_before bytes more h (subst (λ (t : Result (PesHeader × ℕ) PesError). of_pes (bytes ++ more) t ≡ None) q e)
+    let q : s ≡ Ok h = k (λ x. absurd cc) in
+    of_header_before bytes more h (subst (λ (t : Result (PesHeader × ℕ) PesError). of_pes (bytes ++ more) t ≡ None) q e)
 of_pes_before bytes more (Err pes_errors.Short) s k e = refl
 of_pes_before bytes more (Err x) s k e =
     let q : s ≡ Err x = k (λ y. absurd cc) in subst (λ (t : Result (PesHeader × ℕ) PesError). of_pes (bytes ++ more) t ≡ None) q e
 
-of_section_before : (bytes more : List ℕ) (r s : Result (SectionView × ℕ) SectionError) → (r ≢ Err section_errors.Short → s ≡ r) → of_section (bytes ++ more) s ≡ None → of_section bytes r ≡ None
+of_section_before : (bytes more : List ℕ) (r s : Result (SectionView × ℕ) SectionError) → (r ≢ Err section_errors.Short → s ≡ r) →
+    of_section (bytes ++ more) s ≡ None → of_section bytes r ≡ None
 unfolding of_section
 of_section_before bytes more (Ok h) s k e =
-    let q : s ≡ Ok h = k (λ x. absurd cc) in absurd (some_not_none _ (subst (λ (t : Result (SectionView × ℕ) SectionError). of_section (bytes ++ more) t ≡ None) q e))
+    let q : s ≡ Ok h = k (λ x. absurd cc) in
+    absurd (some_not_none _ (subst (λ (t : Result (SectionView × ℕ) SectionError). of_section (bytes ++ more) t ≡ None) q e))
 of_section_before bytes more (Err section_errors.Short) s k e = refl
 of_section_before bytes more (Err x) s k e =
     let q : s ≡ Err x = k (λ y. absurd cc) in subst (λ (t : Result (SectionView × ℕ) SectionError). of_section (bytes ++ more) t ≡ None) q e

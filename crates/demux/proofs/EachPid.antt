@@ -1,5 +1,6 @@
 -- What is found of one PID, packet by packet of a stream.
-use Rattle.std.proofs.Common.{◌≡◌, ℕ, ◌+◌, ◌^◌, ◌<◌, ◌==◌, Bool, true, false, cond, List, [], ◌∷◌, ◌++◌, length, map, filter, Result, Ok, Err, refl, sym, ap, ap₂, subst, ◌∙◌, arith, append_assoc}
+use Rattle.std.proofs.Common.{◌≡◌, ℕ, ◌+◌, ◌^◌, ◌<◌, ◌==◌, Bool, true, false, cond, List, [], ◌∷◌, ◌++◌, length, map, filter, Result, Ok, Err, refl, sym, ap}
+use Rattle.std.proofs.Common.{ap₂, subst, ◌∙◌, arith, append_assoc}
 use Rattle.std.specs.Prelude.{not, ◌&&◌}
 use Rattle.std.specs.List.{enumerate_from, filter_map, cons_option}
 use Rattle.std.proofs.lemmas.List.{append-nil, map-append}
@@ -14,7 +15,8 @@ use Rattle.demux.specs.Views.{IsErrored, Found, FindingView}
 use Rattle.demux.specs.Findings.{at_packet}
 use Rattle.demux.specs.Machine.{PidState, step, found_by, run, run_to}
 use Rattle.demux.specs.Shown.{with_pid}
-use Rattle.demux.specs.Stream.{States, StreamState, state_of, with_state, states_by, findings_by, entry_of, without_pid, next_packet, packet_pushed, taken, found_in}
+use Rattle.demux.specs.Stream.{States, StreamState, state_of, with_state, states_by, findings_by, entry_of, without_pid, next_packet, packet_pushed, taken}
+use Rattle.demux.specs.Stream.{found_in}
 use Rattle.demux.specs.Laws.{found_of, with_pid_at}
 
 -- 1. Findings of one PID
@@ -35,7 +37,8 @@ pub of_append : (pid : ℕ) (xs ys : List FindingView) → found_of pid (xs ++ y
 of_append pid xs ys = filter-append _ xs ys
 
 -- those of a PID are all its own
-pub of_with_pid : (pid packet : ℕ) (q : ℕ) (t : Bool) → (q == pid) ≡ t → (xs : List Found) → found_of pid (map (with_pid q packet) xs) ≡ cond t (map (with_pid q packet) xs) []
+pub of_with_pid : (pid packet : ℕ) (q : ℕ) (t : Bool) → (q == pid) ≡ t → (xs : List Found) →
+    found_of pid (map (with_pid q packet) xs) ≡ cond t (map (with_pid q packet) xs) []
 of_with_pid pid packet q true e [] = refl
 of_with_pid pid packet q false e [] = refl
 of_with_pid pid packet q true e (x ∷ xs) = rw e (ap (λ (ys : List FindingView). with_pid q packet x ∷ ys) (of_with_pid pid packet q true e xs))
@@ -53,7 +56,8 @@ same_test pid q x t e h = ap (λ (n : ℕ). n == x) (same_number pid q e) ∙ h
 other_test : (pid q x : ℕ) → (pid == q) ≡ false → (q == x) ≡ true → (pid == x) ≡ false
 other_test pid q x e h = subst (λ (n : ℕ). (pid == n) ≡ false) (same_number q x h) e
 
-state_with : (pid q : ℕ) (state : PidState) (states : States) (t : Bool) → (pid == q) ≡ t → state_of pid (with_state q state states) ≡ cond t state (state_of pid states)
+state_with : (pid q : ℕ) (state : PidState) (states : States) (t : Bool) → (pid == q) ≡ t →
+    state_of pid (with_state q state states) ≡ cond t state (state_of pid states)
 state_with pid q state [] true e = rw e refl
 state_with pid q state [] false e = rw e refl
 state_with pid q state (x ∷ states) t e = by t (state_with pid q state states t e) (q == x.0) refl e
@@ -69,7 +73,8 @@ state_with pid q state (x ∷ states) t e = by t (state_with pid q state states 
 
 -- the packets of a PID among some, from an index on
 abbrev pub listed : ℕ → ℕ → List (List ℕ) → List Entry
-listed pid index packets = filter (λ entry. is_of_pid pid entry.packet) (filter_map (λ p. lists.entry_of p.0 p.1 (packet_at p.1)) (enumerate_from index packets))
+listed pid index packets =
+    filter (λ entry. is_of_pid pid entry.packet) (filter_map (λ p. lists.entry_of p.0 p.1 (packet_at p.1)) (enumerate_from index packets))
 
 abbrev listed_by : ℕ → ℕ → List ℕ → Result PacketView PacketError → List Entry → List Entry
 listed_by pid index bytes (Err error) rest = rest
@@ -81,14 +86,16 @@ unfolding lists.entry_of
 listed_next pid index bytes packets = by (packet_at bytes)
   where
     by : (r : Result PacketView PacketError) →
-        filter (λ entry. is_of_pid pid entry.packet) (cons_option (lists.entry_of index bytes r) (filter_map (λ p. lists.entry_of p.0 p.1 (packet_at p.1)) (enumerate_from (index + 1) packets)))
+        filter (λ entry. is_of_pid pid entry.packet)
+        (cons_option (lists.entry_of index bytes r) (filter_map (λ p. lists.entry_of p.0 p.1 (packet_at p.1)) (enumerate_from (index + 1) packets)))
         ≡ listed_by pid index bytes r (listed pid (index + 1) packets)
     by (Err e) = refl
     by (Ok p) = refl
 
 -- what a packet does to a PID, where it says this
 found_by_it : (pid index : ℕ) (states : States) (entry : Entry) (q : ℕ) (e z : Bool) → List FindingView
-found_by_it pid index states entry q e z = found_of pid (cond e (without_pid index IsErrored ∷ []) (cond z [] (map (with_pid q index) (found_by (state_of q states) entry))))
+found_by_it pid index states entry q e z =
+    found_of pid (cond e (without_pid index IsErrored ∷ []) (cond z [] (map (with_pid q index) (found_by (state_of q states) entry))))
 
 states_after : (states : States) (entry : Entry) (q : ℕ) (e z : Bool) → States
 states_after states entry q e z = cond e states (cond z states (with_state q (step (state_of q states) entry) states))
@@ -113,9 +120,12 @@ found_step pid states entry q rest false true true hz ht n = absurd (grind (arit
 found_step pid states entry q rest false true false hz ht n = refl
 found_step pid states entry q rest false false true hz ht n =
     let h : q ≡ pid = same_number q pid ht in
-    let own : found_of pid (map (with_pid q entry.index) (found_by (state_of q states) entry)) ≡ map (with_pid pid entry.index) (found_by (state_of pid states) entry) =
-    of_with_pid pid entry.index q true ht (found_by (state_of q states) entry) ∙ ap (λ (m : ℕ). map (with_pid m entry.index) (found_by (state_of m states) entry)) h in
-    let then : map (with_pid_at pid) (run (state_of pid (with_state q (step (state_of q states) entry) states)) rest) ≡ map (with_pid_at pid) (run (step (state_of pid states) entry) rest) =
+    let own : found_of pid (map (with_pid q entry.index) (found_by (state_of q states) entry)) ≡ map (with_pid pid entry.index)
+    (found_by (state_of pid states) entry) =
+    of_with_pid pid entry.index q true ht (found_by (state_of q states) entry)
+    ∙ ap (λ (m : ℕ). map (with_pid m entry.index) (found_by (state_of m states) entry)) h in
+    let then : map (with_pid_at pid) (run (state_of pid (with_state q (step (state_of q states) entry) states)) rest) ≡ map (with_pid_at pid)
+    (run (step (state_of pid states) entry) rest) =
     ap (λ (s : PidState). map (with_pid_at pid) (run s rest)) (state_own pid q states entry h ht) in
     ap₂ (λ (xs ys : List FindingView). xs ++ ys) (own ∙ sym (with_pid_all pid entry.index (found_by (state_of pid states) entry))) then
     ∙ sym (map-append (with_pid_at pid) (map (at_packet entry.index) (found_by (state_of pid states) entry)) (run (step (state_of pid states) entry) rest))
@@ -141,14 +151,16 @@ found_next : (pid index : ℕ) (bytes : List ℕ) (states : States) (rest : List
 unfolding findings_by states_by found_by_it states_after
 found_next pid index bytes states rest (Err error) n = refl
 found_next pid index bytes states rest (Ok packet) n =
-    found_step pid states (entry_of index bytes packet) packet.header.pid rest packet.header.transport_error_indicator (packet.header.pid == 8191) (packet.header.pid == pid) refl refl n
+    found_step pid states (entry_of index bytes packet) packet.header.pid rest packet.header.transport_error_indicator (packet.header.pid == 8191)
+    (packet.header.pid == pid) refl refl n
 
 to_next : (pid index : ℕ) (bytes : List ℕ) (states : States) (rest : List Entry) (r : Result PacketView PacketError) → (pid == 8191) ≡ false →
     run_to (state_of pid (states_by index bytes states r)) rest ≡ run_to (state_of pid states) (listed_by pid index bytes r rest)
 unfolding states_by states_after
 to_next pid index bytes states rest (Err error) n = refl
 to_next pid index bytes states rest (Ok packet) n =
-    to_step pid states (entry_of index bytes packet) packet.header.pid rest packet.header.transport_error_indicator (packet.header.pid == 8191) (packet.header.pid == pid) refl refl n
+    to_step pid states (entry_of index bytes packet) packet.header.pid rest packet.header.transport_error_indicator (packet.header.pid == 8191)
+    (packet.header.pid == pid) refl refl n
 
 -- 4. Packet by packet
 
@@ -156,7 +168,8 @@ abbrev pub packets_pushed : StreamState → List (List ℕ) → StreamState
 packets_pushed s [] = s
 packets_pushed s (bytes ∷ packets) = packets_pushed (packet_pushed s bytes) packets
 
-pub passed_count : (s : StreamState) (packets : List (List ℕ)) → s.packets + length packets < 2 ^ 64 → (packets_pushed s packets).packets ≡ s.packets + length packets
+pub passed_count : (s : StreamState) (packets : List (List ℕ)) → s.packets + length packets < 2 ^ 64 → (packets_pushed s packets).packets ≡ s.packets
+    + length packets
 unfolding taken
 passed_count s [] h = omega arith
 passed_count s (bytes ∷ packets) h =

@@ -7,7 +7,8 @@ use Rattle.std.proofs.lemmas.List.Elements.{All-head, All-tail}
 use Rattle.demux.specs.Views.{FindingView}
 use Rattle.demux.specs.Laws.{found_of}
 use Rattle.demux.specs.Stream.{StreamState, start, is_aligned, completed, ended_found, finished, found_in, held_found, packet_pushed, pushed, taken}
-use Rattle.demux.specs.FoundSoFar.{FoundSoFar, NothingAtFirst, PacketAdds, PacketsAdd, PieceAdds, AllAreFound, PidFoundSoFar, found_in_all, taken_all, with_found}
+use Rattle.demux.specs.FoundSoFar.{FoundSoFar, NothingAtFirst, PacketAdds, PacketsAdd, PieceAdds, AllAreFound, PidFoundSoFar, found_in_all, taken_all}
+use Rattle.demux.specs.FoundSoFar.{with_found}
 use Rattle.demux.proofs.PushedBytes.{pushed_append, taken_as_pushed}
 use Rattle.demux.proofs.WholeStream.{each_pid_alone}
 
@@ -16,7 +17,8 @@ completed_if : (b : Bool) (front : List FindingView) (s : StreamState) (held : L
     (if b then packet_pushed (with_found (front ++ s.found) s) held else record (with_found (front ++ s.found) s) { held = held })
     ≡ with_found (front ++ (if b then packet_pushed s held else record s { held = held }).found) (if b then packet_pushed s held else record s { held = held })
 unfolding taken found_in
-completed_if true front s held = ap (λ (found : List FindingView). record (taken s held) { held = []; found = found }) (append_assoc front s.found (found_in s held))
+completed_if true front s held =
+    ap (λ (found : List FindingView). record (taken s held) { held = []; found = found }) (append_assoc front s.found (found_in s held))
 completed_if false front s held = refl
 
 completed_after : (front : List FindingView) (s : StreamState) (held : List ℕ) →
@@ -60,7 +62,8 @@ taken_aligned s packet aligned = aligned
 
 same_so_far : (bytes others : List ℕ) (s : StreamState) (found alike : List FindingView) → bytes ≡ others → found ≡ alike →
     FoundSoFar bytes s found → FoundSoFar others s alike
-same_so_far bytes others s found alike b f h = record { none = h.none; state = ap (pushed start) (sym b) ∙ h.state ∙ ap (λ (x : List FindingView). with_found x s) f }
+same_so_far bytes others s found alike b f h =
+    record { none = h.none; state = ap (pushed start) (sym b) ∙ h.state ∙ ap (λ (x : List FindingView). with_found x s) f }
 
 abbrev is_packet : List ℕ → Type 0
 is_packet packet = length packet ≡ 188
@@ -69,7 +72,8 @@ pub packets_add : PacketsAdd
 unfolding taken_all found_in_all
 packets_add bytes [] s found h aligned sizes = same_so_far bytes (bytes ++ []) s found (found ++ []) (sym (append-nil bytes)) (sym (append-nil found)) h
 packets_add bytes (packet ∷ packets) s found h aligned sizes =
-    let next = packets_add (bytes ++ packet) packets (taken s packet) (found ++ found_in s packet) (packet_adds bytes packet s found h aligned (All-head is_packet packet packets sizes))
+    let next = packets_add (bytes ++ packet) packets (taken s packet) (found ++ found_in s packet)
+    (packet_adds bytes packet s found h aligned (All-head is_packet packet packets sizes))
     (taken_aligned s packet aligned) (All-tail is_packet packet packets sizes) in
     same_so_far ((bytes ++ packet) ++ concat packets) (bytes ++ (packet ++ concat packets)) (taken_all (taken s packet) packets)
     ((found ++ found_in s packet) ++ found_in_all (taken s packet) packets) (found ++ (found_in s packet ++ found_in_all (taken s packet) packets))

@@ -82,7 +82,8 @@ pub joined_one : {A : Type 0} (old new : List (Finding A)) → map is_span new �
 unfolding any
 joined_one old new h = keeps old new (false ∷ []) refl h
 
-pub joined : {A : Type 0} (place : Place) (old new : List (Finding A)) (found : List Found) → place.borrowed ≡ false → Finds place old new found → KeepsJoined old new
+pub joined : {A : Type 0} (place : Place) (old new : List (Finding A)) (found : List Found) → place.borrowed ≡ false → Finds place old new found →
+    KeepsJoined old new
 joined place old new found e h =
     none_borrowed old new (map (λ (f : Found). f.within) found)
     (spans place old new found h ∙ ap (λ (l : Bool). map is_span old ++ map (λ (b : Bool). b && l) (map (λ (f : Found). f.within) found)) e)
@@ -100,7 +101,8 @@ otherwise a b x y z e p = rw (e, p) refl
 -- what a packet that was read without an error, on a PID but that of null packets, finds is what its PID's state finds
 pub read_says : {A : Type 0} (index : ℕ) (bytes : List ℕ) (states : States) (packet : PacketView) (borrowed : Bool) (old new : List (Finding A)) →
     packet.header.transport_error_indicator ≡ false → (packet.header.pid == 8191) ≡ false →
-    Finds (record { packet = index; pid = packet.header.pid; borrowed = borrowed }) old new (found_by (state_of packet.header.pid states) (entry_of index bytes packet)) →
+    Finds (record { packet = index; pid = packet.header.pid; borrowed = borrowed }) old new
+    (found_by (state_of packet.header.pid states) (entry_of index bytes packet)) →
     map finding_view new ≡ map finding_view old ++ findings_by index bytes states (Ok packet)
 unfolding findings_by
 read_says index bytes states packet borrowed old new e p h =
@@ -108,11 +110,13 @@ read_says index bytes states packet borrowed old new e p h =
     let found = found_by (state_of packet.header.pid states) (entry_of index bytes packet) in
     says place old new found h
     ∙ ap (λ (more : List FindingView). map finding_view old ++ more)
-    (sym (otherwise packet.header.transport_error_indicator (packet.header.pid == 8191) (without_pid index IsErrored ∷ []) [] (map (with_pid packet.header.pid index) found) e p))
+    (sym (otherwise packet.header.transport_error_indicator (packet.header.pid == 8191) (without_pid index IsErrored ∷ []) []
+    (map (with_pid packet.header.pid index) found) e p))
 
 pub read_spans : {A : Type 0} (index : ℕ) (bytes : List ℕ) (states : States) (packet : PacketView) (borrowed : Bool) (old new : List (Finding A)) →
     packet.header.transport_error_indicator ≡ false → (packet.header.pid == 8191) ≡ false →
-    Finds (record { packet = index; pid = packet.header.pid; borrowed = borrowed }) old new (found_by (state_of packet.header.pid states) (entry_of index bytes packet)) →
+    Finds (record { packet = index; pid = packet.header.pid; borrowed = borrowed }) old new
+    (found_by (state_of packet.header.pid states) (entry_of index bytes packet)) →
     map is_span new ≡ map is_span old ++ map (λ (within : Bool). within && borrowed) (within_by index bytes states (Ok packet))
 unfolding within_by
 read_spans index bytes states packet borrowed old new e p h =

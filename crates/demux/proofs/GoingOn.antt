@@ -1,5 +1,6 @@
 -- Packets that go on with an open unit.
-use Rattle.std.proofs.Common.{◌≡◌, ◌<◌, ℕ, ◌+◌, ◌/◌, ◌%◌, ◌==◌, Bool, true, false, List, [], drop, Option, Some, None, is_some, Ok, refl, arith, ◌∙◌, ap, ap₂, sym}
+use Rattle.std.proofs.Common.{◌≡◌, ◌<◌, ℕ, ◌+◌, ◌/◌, ◌%◌, ◌==◌, Bool, true, false, List, [], drop, Option, Some, None, is_some, Ok, refl, arith, ◌∙◌, ap, ap₂}
+use Rattle.std.proofs.Common.{sym}
 use Rattle.std.specs.Prelude.{slice_index, not, ◌&&◌}
 use Rattle.std.proofs.lemmas.Bool.Decides.{nat_tests}
 use Rattle.bit_fields.specs.Fields.{flag}
@@ -29,10 +30,17 @@ clear n e = grind arith
 control : (n : ℕ) → n / 16 ≡ 1 → n / 16 % 4 ≡ 1
 control n e = rw e refl
 
-pub plain_read : (bytes : List ℕ) → slice_index bytes 0 ≡ 0x47 → slice_index bytes 1 < 64 → slice_index bytes 3 / 16 ≡ 1 → packet_at bytes ≡ Ok (plain_view bytes)
+pub plain_read : (bytes : List ℕ) → slice_index bytes 0 ≡ 0x47 → slice_index bytes 1 < 64 → slice_index bytes 3 / 16 ≡ 1 →
+    packet_at bytes ≡ Ok (plain_view bytes)
 unfolding packet_at body_at header_of
 plain_read bytes sync low high =
-    rw (sync_is (slice_index bytes 0) sync, no_error (slice_index bytes 1) low, no_start (slice_index bytes 1) low, clear (slice_index bytes 3) high, control (slice_index bytes 3) high) refl
+    rw (
+      sync_is (slice_index bytes 0) sync,
+      no_error (slice_index bytes 1) low,
+      no_start (slice_index bytes 1) low,
+      clear (slice_index bytes 3) high,
+      control (slice_index bytes 3) high,
+    ) refl
 
 -- 2. What they are to the last packet of their PID
 
@@ -56,7 +64,8 @@ unfolding repeats
 no_repeats last index bytes e =
     no_repeat (not last.duplicate) last.has_payload true (counter_in bytes == last.counter) _ (not_same (counter_in bytes) last.counter e)
 
-marks_next : (last : LastView) (index : ℕ) (bytes : List ℕ) → is_next (Some last) bytes ≡ true → mark (Some last) (plain_entry index bytes) ≡ next_mark index bytes
+marks_next : (last : LastView) (index : ℕ) (bytes : List ℕ) → is_next (Some last) bytes ≡ true →
+    mark (Some last) (plain_entry index bytes) ≡ next_mark index bytes
 unfolding mark is_repeat break_at break_after
 marks_next last index bytes e = rw (no_repeats last index bytes e, e) refl
 
@@ -85,7 +94,8 @@ abbrev state : Option LastView → Option OpenUnit → PidState
 state last open_unit = record { last = last; open_unit = open_unit }
 
 pub goes_on : (s : PidState) (last new_last : Option LastView) (open_unit new_unit : Option OpenUnit) (index : ℕ) (bytes payload : List ℕ) →
-    record { last = last; open_unit = open_unit } ≡ s → true ≡ is_next last bytes → payload ≡ drop 4 bytes → (is_some last ≡ true → new_last ≡ Some (plain_last bytes)) →
+    record { last = last; open_unit = open_unit } ≡ s → true ≡ is_next last bytes → payload ≡ drop 4 bytes →
+    (is_some last ≡ true → new_last ≡ Some (plain_last bytes)) →
     new_unit ≡ next_open index (Continuation payload) open_unit → record { last = new_last; open_unit = new_unit } ≡ step s (plain_entry index bytes)
 goes_on s last new_last open_unit new_unit index bytes payload view follows rest kept opened =
     let next : is_next last bytes ≡ true = sym follows in

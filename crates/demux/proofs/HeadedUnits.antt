@@ -1,12 +1,14 @@
 -- Open PES packets whose header was read: their bytes after it.
-use Rattle.std.proofs.Common.{◌≡◌, ◌≢◌, ℕ, ◌+◌, ◌-◌, ◌≤◌, ◌<◌, ◌==◌, Bool, true, false, cond, List, [], ◌∷◌, ◌++◌, length, take, drop, Option, Some, None, is_some, Ok, refl, arith, ◌∙◌, ap, sym, subst, length-append, append_assoc}
+use Rattle.std.proofs.Common.{◌≡◌, ◌≢◌, ℕ, ◌+◌, ◌-◌, ◌≤◌, ◌<◌, ◌==◌, Bool, true, false, cond, List, [], ◌∷◌, ◌++◌, length, take, drop, Option, Some, None}
+use Rattle.std.proofs.Common.{is_some, Ok, refl, arith, ◌∙◌, ap, sym, subst, length-append, append_assoc}
 use Rattle.std.specs.Prelude.{nat_lt}
 use Rattle.std.proofs.lemmas.Bool.Decides.{nat_tests}
 use Rattle.std.proofs.lemmas.List.{append-nil}
 use Rattle.pes_packet.specs.Reading.{header_at}
 use Rattle.pes_packet.specs.declared.reading.PesHeader.{PesHeader}
 use Rattle.pes_packet.proofs.LongerRead.{longer_is_read}
-use Rattle.demux.specs.OpenUnits.{UnitKind, OpenUnit, IsFront, IsOpen, IsUndecidedBelow, appended, decided, of_header, of_pes, begun_kind, whole_pes, max_unbounded_pes}
+use Rattle.demux.specs.OpenUnits.{UnitKind, OpenUnit, IsFront, IsOpen, IsUndecidedBelow, appended, decided, of_header, of_pes, begun_kind, whole_pes}
+use Rattle.demux.specs.OpenUnits.{max_unbounded_pes}
 use Rattle.demux.specs.declared.open_unit.UnitKind.TheVariants as unit_kinds
 use Rattle.demux.specs.Views.{IsPes}
 use Rattle.demux.specs.Findings.{ended, decided_by, found_if}
@@ -27,7 +29,8 @@ pub still_read : (bytes more : List ℕ) (h : PesHeader × ℕ) → header_at by
 still_read bytes more h is = longer_is_read bytes more (rw is (λ x. absurd cc)) ∙ is
 
 -- how many bytes a PES packet waits for
-pub waits_for : (bytes : List ℕ) (header : PesHeader) (size least : ℕ) → header_at bytes ≡ Ok (header, size) → least ≡ cond (header.len == 0) (max_unbounded_pes + 1) (6 + header.len) →
+pub waits_for : (bytes : List ℕ) (header : PesHeader) (size least : ℕ) → header_at bytes ≡ Ok (header, size) →
+    least ≡ cond (header.len == 0) (max_unbounded_pes + 1) (6 + header.len) →
     IsUndecidedBelow unit_kinds.Pes bytes least
 waits_for bytes header size least is e = least_by bytes (header, size) least (header.len == 0) is refl e
 
@@ -41,8 +44,10 @@ take_whole : (xs : List ℕ) → take (length xs) xs ≡ xs
 take_whole [] = refl
 take_whole (x ∷ xs) = ap (λ (ys : List ℕ). x ∷ ys) (take_whole xs)
 
-pub endless_found : (open_unit : Option OpenUnit) (unit : OpenUnit) (packet : ℕ) (kind : UnitKind) (access : Bool) (read : Option PesHeader) (front body : List ℕ) (header : PesHeader) (size : ℕ) →
-    open_unit ≡ Some unit → record { packet = packet; kind = kind; access = access; bytes = front ++ body } ≡ unit → IsFront read kind front (front ++ body) → read ≡ Some header →
+pub endless_found : (open_unit : Option OpenUnit) (unit : OpenUnit) (packet : ℕ) (kind : UnitKind) (access : Bool) (read : Option PesHeader)
+    (front body : List ℕ) (header : PesHeader) (size : ℕ) →
+    open_unit ≡ Some unit → record { packet = packet; kind = kind; access = access; bytes = front ++ body } ≡ unit → IsFront read kind front (front ++ body) →
+    read ≡ Some header →
     header.len ≡ 0 → size ≡ length body → ended false open_unit ≡ whole_pes packet access header (take size (body ++ [])) ∷ []
 endless_found open_unit unit packet kind access read front body header size opened view stands some zero sized =
     let head : IsFront (Some header) kind front (front ++ body) = subst (λ (o : Option PesHeader). IsFront o kind front (front ++ body)) some stands in
@@ -69,7 +74,8 @@ whole_decided front body payload header is more le =
       after_front front (body ++ payload),
     ) refl
 
-pub whole_found : (packet : ℕ) (access : Bool) (front body payload : List ℕ) (header : PesHeader) → header_at (front ++ body) ≡ Ok (header, length front) → header.len ≢ 0 →
+pub whole_found : (packet : ℕ) (access : Bool) (front body payload : List ℕ) (header : PesHeader) → header_at (front ++ body) ≡ Ok (header, length front) →
+    header.len ≢ 0 →
     6 + header.len ≤ length front + length body + length payload →
     decided_by (record { packet = packet; kind = unit_kinds.Pes; access = access; bytes = (front ++ body) ++ payload })
     ≡ whole_pes packet access header (take (6 + header.len - length front) (body ++ payload)) ∷ []
@@ -92,8 +98,10 @@ enough_in : (unit : OpenUnit) (packet : ℕ) (kind : UnitKind) (access : Bool) (
 enough_in unit packet kind access front body payload header view enough =
     omega (arith, enough, ap (λ (u : OpenUnit). length u.bytes) view, length-append front body)
 
-pub whole_unit : (unit : OpenUnit) (packet : ℕ) (kind : UnitKind) (access : Bool) (read : Option PesHeader) (front body payload : List ℕ) (header : PesHeader) (size : ℕ) →
-    ReadUnit unit packet kind access read front body header → header.len ≢ 0 → 6 + header.len ≤ length unit.bytes + length payload → size ≡ 6 + header.len - length front →
+pub whole_unit : (unit : OpenUnit) (packet : ℕ) (kind : UnitKind) (access : Bool) (read : Option PesHeader) (front body payload : List ℕ) (header : PesHeader)
+    (size : ℕ) →
+    ReadUnit unit packet kind access read front body header → header.len ≢ 0 → 6 + header.len ≤ length unit.bytes + length payload →
+    size ≡ 6 + header.len - length front →
     decided_by (appended unit payload) ≡ whole_pes packet access header (take size (body ++ payload)) ∷ []
 whole_unit unit packet kind access read front body payload header size h more enough sized =
     let head = read_front kind read front (front ++ body) header h.1 h.2 in
@@ -103,7 +111,8 @@ whole_unit unit packet kind access read front body payload header size h more en
     ∙ whole_found packet access front body payload header head.1 more le
     ∙ ap (λ (n : ℕ). whole_pes packet access header (take n (body ++ payload)) ∷ []) (sym sized)
 
-pub whole_unit_decided : (unit : OpenUnit) (packet : ℕ) (kind : UnitKind) (access : Bool) (read : Option PesHeader) (front body payload : List ℕ) (header : PesHeader) →
+pub whole_unit_decided : (unit : OpenUnit) (packet : ℕ) (kind : UnitKind) (access : Bool) (read : Option PesHeader) (front body payload : List ℕ)
+    (header : PesHeader) →
     ReadUnit unit packet kind access read front body header → header.len ≢ 0 → 6 + header.len ≤ length unit.bytes + length payload →
     is_some (decided unit.kind (unit.bytes ++ payload)) ≡ true
 whole_unit_decided unit packet kind access read front body payload header h more enough =
@@ -119,11 +128,13 @@ appended_last front zeros bytes payload =
     append_assoc front (zeros ++ bytes) payload ∙ ap (λ (xs : List ℕ). front ++ xs) (append_assoc zeros bytes payload)
 
 -- more bytes leave an open unit as it is, as long as all are fewer than the least that may decide it
-front_stays : (header : Option PesHeader) (kind : UnitKind) (front bytes more : List ℕ) → IsFront header kind front bytes → IsFront header kind front (bytes ++ more)
+front_stays : (header : Option PesHeader) (kind : UnitKind) (front bytes more : List ℕ) → IsFront header kind front bytes →
+    IsFront header kind front (bytes ++ more)
 front_stays None kind front bytes more h = h
 front_stays (Some header) kind front bytes more h = (h.0, still_read bytes more (header, length front) h.1)
 
-grown : (header : Option PesHeader) (kind : UnitKind) (front zeros bytes payload : List ℕ) (least : ℕ) → IsOpen header kind front (front ++ (zeros ++ bytes)) least →
+grown : (header : Option PesHeader) (kind : UnitKind) (front zeros bytes payload : List ℕ) (least : ℕ) →
+    IsOpen header kind front (front ++ (zeros ++ bytes)) least →
     length (front ++ (zeros ++ bytes)) + length payload < least → IsOpen header kind front (front ++ (zeros ++ (bytes ++ payload))) least
 grown header kind front zeros bytes payload least h lt =
     let all = front ++ (zeros ++ bytes) in
@@ -135,9 +146,11 @@ grown header kind front zeros bytes payload least h lt =
     subst (λ (xs : List ℕ). IsOpen header kind front xs least) (appended_last front zeros bytes payload)
     (few, (h.1.0, (waits, front_stays header kind front all payload h.1.1.1)))
 
-pub grown_if : (ok : Bool) (header : Option PesHeader) (kind : UnitKind) (front zeros bytes payload new : List ℕ) (least : ℕ) → new ≡ cond ok (bytes ++ payload) bytes →
+pub grown_if : (ok : Bool) (header : Option PesHeader) (kind : UnitKind) (front zeros bytes payload new : List ℕ) (least : ℕ) →
+    new ≡ cond ok (bytes ++ payload) bytes →
     IsOpen header kind front (front ++ (zeros ++ bytes)) least → length (front ++ (zeros ++ bytes)) + length payload < least →
     IsOpen header kind front (front ++ (zeros ++ new)) least
 grown_if true header kind front zeros bytes payload new least e h lt =
     subst (λ (xs : List ℕ). IsOpen header kind front (front ++ (zeros ++ xs)) least) (sym e) (grown header kind front zeros bytes payload least h lt)
-grown_if false header kind front zeros bytes payload new least e h lt = subst (λ (xs : List ℕ). IsOpen header kind front (front ++ (zeros ++ xs)) least) (sym e) h
+grown_if false header kind front zeros bytes payload new least e h lt =
+    subst (λ (xs : List ℕ). IsOpen header kind front (front ++ (zeros ++ xs)) least) (sym e) h

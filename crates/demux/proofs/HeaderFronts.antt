@@ -1,5 +1,6 @@
 -- A PES header is read of its own bytes alone.
-use Rattle.std.proofs.Common.{◌≡◌, ℕ, zero, suc, ◌+◌, ◌*◌, ◌/◌, ◌≤◌, ◌<◌, Bool, true, false, cond, Result, Ok, Err, List, [], ◌∷◌, length, take, get_or, refl, sym, ap, ◌∙◌, arith, ltb}
+use Rattle.std.proofs.Common.{◌≡◌, ℕ, zero, suc, ◌+◌, ◌*◌, ◌/◌, ◌≤◌, ◌<◌, Bool, true, false, cond, Result, Ok, Err, List, [], ◌∷◌, length, take, get_or, refl}
+use Rattle.std.proofs.Common.{sym, ap, ◌∙◌, arith, ltb}
 use Rattle.std.proofs.lemmas.Bool.{ltb-false, le-ltb}
 use Rattle.std.proofs.lemmas.List.{length-take-le, take_all}
 use Rattle.bit_fields.specs.Fields.{IsBytes}
@@ -42,7 +43,8 @@ data_size id len first second size bytes h is =
     sized (stamps_at (second / 64) (take size bytes)) _ (9 + size) h two
 
 -- the data are read of as many bytes alone
-data_front : (id len first second size : ℕ) (bytes : List ℕ) → size ≤ length bytes → data_at id len first second size (take size bytes) ≡ data_at id len first second size bytes
+data_front : (id len first second size : ℕ) (bytes : List ℕ) → size ≤ length bytes →
+    data_at id len first second size (take size bytes) ≡ data_at id len first second size bytes
 unfolding data_at
 data_front id len first second size bytes there =
     let n : length (take size bytes) ≡ size = length-take-le size bytes there in
@@ -100,7 +102,8 @@ start_alone (p ∷ q ∷ r ∷ id ∷ high ∷ []) h is = absurd (not_ok Short h
 start_alone (p ∷ q ∷ r ∷ id ∷ high ∷ low ∷ bytes) h is = by_flags (has_flags id) _ p q r id high low bytes h refl (λ e. rw e refl) is
 
 -- a front that has a whole header has the prefix
-prefix_front : (n : ℕ) (bytes : List ℕ) (h : PesHeader × ℕ) → start_at (take n bytes) ≡ Ok h → misses_prefix bytes ≡ false → misses_prefix (take n bytes) ≡ false
+prefix_front : (n : ℕ) (bytes : List ℕ) (h : PesHeader × ℕ) → start_at (take n bytes) ≡ Ok h → misses_prefix bytes ≡ false →
+    misses_prefix (take n bytes) ≡ false
 unfolding start_at
 prefix_front zero bytes h is e = refl
 prefix_front (suc zero) [] h is e = refl

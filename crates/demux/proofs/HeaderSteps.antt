@@ -7,7 +7,8 @@ use Rattle.demux.specs.Machine.{PidState}
 use Rattle.demux.specs.Findings.{ended}
 use Rattle.demux.specs.Shown.{with_pid}
 use Rattle.demux.specs.Stream.{States, StreamState, found_in, pushed, taken}
-use Rattle.demux.specs.Bodies.{AddsHeaders, all_without_body, bodies_left_out, finding_without_body, headers_pushed, headers_taken, states_without_bodies, without_bodies}
+use Rattle.demux.specs.Bodies.{AddsHeaders, all_without_body, bodies_left_out, finding_without_body, headers_pushed, headers_taken, states_without_bodies}
+use Rattle.demux.specs.Bodies.{without_bodies}
 use Rattle.demux.proofs.StreamBodies.{entry_ends, found_in_same, left_again, none_besides, pushed_same, taken_same}
 
 -- bodies that are left out are no part of it
@@ -24,7 +25,8 @@ none_found s bytes e = none_besides (found_in (without_bodies s) bytes) (found_i
 pub added_besides : (old new found : List FindingView) → new ≡ old ++ found → AddsHeaders old new found
 added_besides old new found e = ap all_without_body e ∙ map-append finding_without_body old found
 
-pub found_besides : (s : StreamState) (bytes : List ℕ) (old new : List FindingView) → new ≡ old ++ found_in s bytes → AddsHeaders old new (found_in (without_bodies s) bytes)
+pub found_besides : (s : StreamState) (bytes : List ℕ) (old new : List FindingView) → new ≡ old ++ found_in s bytes →
+    AddsHeaders old new (found_in (without_bodies s) bytes)
 found_besides s bytes old new e =
     added_besides old new (found_in s bytes) e ∙ ap (λ (x : List FindingView). all_without_body old ++ x) (sym (found_in_same s bytes))
 
@@ -41,7 +43,8 @@ ends_by : {V E : Type 0} (result : Result V E) (packet : ℕ) (o : Option (ℕ �
 ends_by (Err e) packet o x old new h k n = tt
 ends_by (Ok v) packet None x old new h k n = absurd (n refl)
 ends_by (Ok v) packet (Some y) x old new h k n =
-    added_besides old new (map (with_pid y.0 packet) (ended true y.1.open_unit)) (h y refl) ∙ ap (λ (found : List FindingView). all_without_body old ++ found) k.1
+    added_besides old new (map (with_pid y.0 packet) (ended true y.1.open_unit)) (h y refl)
+    ∙ ap (λ (found : List FindingView). all_without_body old ++ found) k.1
 
 is_there : (index : ℕ) (states : States) (x : ℕ × PidState) → slice_get (states_without_bodies states) index ≡ Some x → slice_get states index ≡ None → ⊥
 is_there index [] x e n = absurd cc
@@ -54,6 +57,7 @@ pub ends_besides : {V E : Type 0} (result : Result V E) (packet index : ℕ) (st
 ends_besides result packet index states x old new h e =
     ends_by result packet (slice_get states index) x old new h (entry_ends packet index states x e) (is_there index states x e)
 
-pub ok_besides : {V E : Type 0} (result : Result V E) (old new found : List FindingView) → OnOk result (new ≡ old ++ found) → OnOk result (AddsHeaders old new found)
+pub ok_besides : {V E : Type 0} (result : Result V E) (old new found : List FindingView) → OnOk result (new ≡ old ++ found) →
+    OnOk result (AddsHeaders old new found)
 ok_besides (Ok v) old new found e = added_besides old new found e
 ok_besides (Err v) old new found e = tt

@@ -12,14 +12,16 @@ use Rattle.demux.proofs.OpenUnits.{open_more}
 turned : (m : Marked) (ms before : List Marked) → reverse ms ++ (m ∷ before) ≡ reverse (m ∷ ms) ++ before
 turned m ms before = sym (ap (λ (x : List Marked). x ++ before) (reverse-append (m ∷ []) ms) ∙ append_assoc (reverse ms) (m ∷ []) before)
 
-step_opens : (before : List Marked) (s : PidState) (entry : Entry) → s.open_unit ≡ open_after before → (step s entry).open_unit ≡ open_after (mark s.last entry ∷ before)
+step_opens : (before : List Marked) (s : PidState) (entry : Entry) → s.open_unit ≡ open_after before →
+    (step s entry).open_unit ≡ open_after (mark s.last entry ∷ before)
 unfolding step_marked
 step_opens before s entry h =
     let m = mark s.last entry in
     ap (λ (open_unit : Option OpenUnit). next_open m.entry.index (role m) (unbroken m.broken open_unit)) h ∙ sym (open_more m before)
 
 -- with what is open after the packets so far, the last one of them first
-runs_on : (before : List Marked) (s : PidState) (entries : List Entry) → s.open_unit ≡ open_after before → run s entries ≡ findings_after before (marked s.last entries)
+runs_on : (before : List Marked) (s : PidState) (entries : List Entry) → s.open_unit ≡ open_after before →
+    run s entries ≡ findings_after before (marked s.last entries)
 unfolding run findings_after step_marked mark
 runs_on before s [] h = refl
 runs_on before s (entry ∷ entries) h =
@@ -29,7 +31,8 @@ runs_on before s (entry ∷ entries) h =
     let rest : run (step s entry) entries ≡ findings_after (m ∷ before) (marked (Some (seen m)) entries) = runs_on (m ∷ before) (step s entry) entries after in
     rw (first, rest) refl
 
-ends_on : (before : List Marked) (s : PidState) (entries : List Entry) → s.open_unit ≡ open_after before → (run_to s entries).open_unit ≡ open_after (reverse (marked s.last entries) ++ before)
+ends_on : (before : List Marked) (s : PidState) (entries : List Entry) → s.open_unit ≡ open_after before →
+    (run_to s entries).open_unit ≡ open_after (reverse (marked s.last entries) ++ before)
 unfolding run_to step_marked
 ends_on before s [] h = h
 ends_on before s (entry ∷ entries) h =

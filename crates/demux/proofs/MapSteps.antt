@@ -18,11 +18,13 @@ with_is_insert pid state (e ∷ states) =
     ap (λ (rest : States). cond (nat_eq pid e.0) ((e.0, state) ∷ states) (e ∷ rest)) (with_is_insert pid state states)
 
 -- where the PID has an index, one put in its place
-pub with_is_set : (pid i : ℕ) (state : PidState) (states : States) → position (nat_eq pid) (keys_of states) ≡ Some i → with_state pid state states ≡ set_value_at states i state
+pub with_is_set : (pid i : ℕ) (state : PidState) (states : States) → position (nat_eq pid) (keys_of states) ≡ Some i →
+    with_state pid state states ≡ set_value_at states i state
 with_is_set pid i state states p = with_is_insert pid state states ∙ set_there pid i states state p
 
 -- the state that stands in the map
-found_by_test : (t : Bool) (x state other : PidState) (rest : Option PidState) → (rest ≡ Some state → other ≡ state) → cond t (Some x) rest ≡ Some state → cond t x other ≡ state
+found_by_test : (t : Bool) (x state other : PidState) (rest : Option PidState) → (rest ≡ Some state → other ≡ state) → cond t (Some x) rest ≡ Some state →
+    cond t x other ≡ state
 found_by_test true x state other rest k e = same_state x state e
 found_by_test false x state other rest k e = k e
 
@@ -51,13 +53,15 @@ state_at pid i states p v = v ∙ by (lookup (nat_eq pid) states) refl
     by None e = absurd (true≢false (sym (found_there pid i states p) ∙ ap is_some e))
 
 -- a step of the state at a PID's index is one of the PID's state
-pub stepped : {E : Type 0} (result : Result ⊤ E) (pid i : ℕ) (old new states : States) (next : PidState) → old ≡ states → position (nat_eq pid) (keys_of old) ≡ Some i →
+pub stepped : {E : Type 0} (result : Result ⊤ E) (pid i : ℕ) (old new states : States) (next : PidState) → old ≡ states →
+    position (nat_eq pid) (keys_of old) ≡ Some i →
     OnOk result (new ≡ set_value_at old i next) → OnOk result (new ≡ with_state pid next states)
 stepped (Ok x) pid i old new states next same p e = e ∙ sym (with_is_set pid i next old p) ∙ ap (λ (s : States). with_state pid next s) same
 stepped (Err x) pid i old new states next same p e = tt
 
 -- and where it fails, none has changed
-pub unstepped : {X E : Type 0} (result : Result X E) (i : ℕ) (old new states : States) (state : PidState) → old ≡ states → slice_get (values_of old) i ≡ Some state →
+pub unstepped : {X E : Type 0} (result : Result X E) (i : ℕ) (old new states : States) (state : PidState) → old ≡ states →
+    slice_get (values_of old) i ≡ Some state →
     OnErr result (new ≡ set_value_at old i state) → OnErr result (new ≡ states)
 unstepped (Ok x) i old new states state same at e = tt
 unstepped (Err x) i old new states state same at e = e ∙ set_same i old state at ∙ same

@@ -19,24 +19,29 @@ begins_more : (packet : ℕ) (r : Role) (a b : List ℕ) → begins packet r (a 
 unfolding begins
 begins_more packet NoPayload a b = refl
 begins_more packet ScrambledPayload a b = refl
-begins_more packet (PesStart access payload) a b = ap (λ (x : List ℕ). Some (record { packet = packet; kind = unit_kinds.Pes; access = access; bytes = x })) (sym (append_assoc payload a b))
+begins_more packet (PesStart access payload) a b =
+    ap (λ (x : List ℕ). Some (record { packet = packet; kind = unit_kinds.Pes; access = access; bytes = x })) (sym (append_assoc payload a b))
 begins_more packet (SectionStart before bytes) a b = by_rest (last_in 0 bytes)
   where
-    by_rest : (o : Option (List ℕ)) → option_map (λ rest. section packet (rest ++ (a ++ b))) o ≡ option_map (λ p. appended p b) (option_map (λ rest. section packet (rest ++ a)) o)
+    by_rest : (o : Option (List ℕ)) →
+        option_map (λ rest. section packet (rest ++ (a ++ b))) o ≡ option_map (λ p. appended p b) (option_map (λ rest. section packet (rest ++ a)) o)
     by_rest None = refl
     by_rest (Some rest) = ap (λ (x : List ℕ). Some (section packet x)) (sym (append_assoc rest a b))
 begins_more packet PointerPastEnd a b = refl
 begins_more packet (Continuation payload) a b = refl
 
 -- what begins with nothing after it, if it is undecided
-begins_new : (packet : ℕ) (r : Role) (open_unit : Option OpenUnit) → role_divides r ≡ true → option_and_then undecided (begins packet r []) ≡ next_open packet r open_unit
+begins_new : (packet : ℕ) (r : Role) (open_unit : Option OpenUnit) → role_divides r ≡ true →
+    option_and_then undecided (begins packet r []) ≡ next_open packet r open_unit
 unfolding begins next_open undecided unless_decided
 begins_new packet NoPayload open_unit d = absurd cc
 begins_new packet ScrambledPayload open_unit d = refl
-begins_new packet (PesStart access payload) open_unit d = ap (λ (x : List ℕ). undecided (record { packet = packet; kind = unit_kinds.Pes; access = access; bytes = x })) (append-nil payload)
+begins_new packet (PesStart access payload) open_unit d =
+    ap (λ (x : List ℕ). undecided (record { packet = packet; kind = unit_kinds.Pes; access = access; bytes = x })) (append-nil payload)
 begins_new packet (SectionStart before bytes) open_unit d = by_rest (last_in 0 bytes) refl
   where
-    by_rest : (o : Option (List ℕ)) → last_in 0 bytes ≡ o → option_and_then undecided (option_map (λ rest. section packet (rest ++ [])) o) ≡ option_map (section packet) o
+    by_rest : (o : Option (List ℕ)) → last_in 0 bytes ≡ o →
+        option_and_then undecided (option_map (λ rest. section packet (rest ++ [])) o) ≡ option_map (section packet) o
     by_rest None e = refl
     by_rest (Some rest) e = rw (append-nil rest, last_undecided 0 bytes rest e) refl
 begins_new packet PointerPastEnd open_unit d = refl
@@ -57,11 +62,13 @@ grows : (packet : ℕ) (c : List ℕ) (p : OpenUnit) → undecided (appended p c
 unfolding next_open undecided unless_decided
 grows packet c p = by_before (decided p.kind p.bytes) refl
   where
-    by_after : (w : WhatView) → decided p.kind p.bytes ≡ Some w → (d : Option WhatView) → decided p.kind (p.bytes ++ c) ≡ d → unless_decided (appended p c) d ≡ None
+    by_after : (w : WhatView) → decided p.kind p.bytes ≡ Some w → (d : Option WhatView) → decided p.kind (p.bytes ++ c) ≡ d →
+        unless_decided (appended p c) d ≡ None
     by_after w e None f = absurd (some_is_not_none w (sym e ∙ undecided_before p.kind p.bytes c f))
     by_after w e (Some v) f = refl
 
-    by_before : (d : Option WhatView) → decided p.kind p.bytes ≡ d → unless_decided (appended p c) (decided p.kind (p.bytes ++ c)) ≡ next_open packet (Continuation c) (unless_decided p d)
+    by_before : (d : Option WhatView) → decided p.kind p.bytes ≡ d →
+        unless_decided (appended p c) (decided p.kind (p.bytes ++ c)) ≡ next_open packet (Continuation c) (unless_decided p d)
     by_before None e = refl
     by_before (Some w) e = by_after w e (decided p.kind (p.bytes ++ c)) refl
 
@@ -89,7 +96,8 @@ unfolding open_after stretch divider joined
 divided m before d = rw d refl
 
 -- after a packet that does not
-stretch_more : (m : Marked) (before : List Marked) → divides m ≡ false → stretch (m ∷ before) ≡ option_map (λ p. appended p (continuing (role m))) (stretch before)
+stretch_more : (m : Marked) (before : List Marked) → divides m ≡ false →
+    stretch (m ∷ before) ≡ option_map (λ p. appended p (continuing (role m))) (stretch before)
 unfolding stretch divider joined
 stretch_more m before d = rw d (by_divider (divider before))
   where
@@ -98,11 +106,13 @@ stretch_more m before d = rw d (by_divider (divider before))
     by_divider None = refl
     by_divider (Some k) = begins_more k.entry.index (role k) (joined before) (continuing (role m))
 
-undivided : (m : Marked) (before : List Marked) → divides m ≡ false → role_divides (role m) ≡ false → open_after (m ∷ before) ≡ next_open m.entry.index (role m) (open_after before)
+undivided : (m : Marked) (before : List Marked) → divides m ≡ false → role_divides (role m) ≡ false →
+    open_after (m ∷ before) ≡ next_open m.entry.index (role m) (open_after before)
 unfolding open_after
 undivided m before d r = rw (stretch_more m before d) (by_stretch (stretch before))
   where
-    by_stretch : (o : Option OpenUnit) → option_and_then undecided (option_map (λ p. appended p (continuing (role m))) o) ≡ next_open m.entry.index (role m) (option_and_then undecided o)
+    by_stretch : (o : Option OpenUnit) →
+        option_and_then undecided (option_map (λ p. appended p (continuing (role m))) o) ≡ next_open m.entry.index (role m) (option_and_then undecided o)
     by_stretch None = stays_none m.entry.index (role m) r
     by_stretch (Some p) = stays m.entry.index (role m) p r
 

@@ -1,5 +1,6 @@
 -- Walking over the sections of a payload, one at a time.
-use Rattle.std.proofs.Common.{◌≡◌, ℕ, zero, suc, ◌-◌, ◌<◌, ◌==◌, Bool, true, false, cond, List, [], ◌∷◌, length, drop, Option, Some, None, refl, sym, ap, ◌∙◌, arith}
+use Rattle.std.proofs.Common.{◌≡◌, ℕ, zero, suc, ◌-◌, ◌<◌, ◌==◌, Bool, true, false, cond, List, [], ◌∷◌, length, drop, Option, Some, None, refl, sym, ap, ◌∙◌}
+use Rattle.std.proofs.Common.{arith}
 use Rattle.psi_tables.specs.declared.error.SectionError.TheVariants as section_errors
 use Rattle.demux.specs.Views.{WhatView, IsBadSection, Found}
 use Rattle.demux.specs.OpenUnits.{decided, about_within, section, is_stuffing, taken_by, sections_in, last_in}
@@ -33,7 +34,8 @@ skip_last zero (b ∷ bytes) = refl
 skip_last (suc k) (b ∷ bytes) = skip_last k bytes
 
 found_by : (packet b : ℕ) (bytes : List ℕ) (t : Bool) (d : Option WhatView) (w : WhatView) → t ≡ false → d ≡ Some w →
-    cond t [] (elim d as (λ x. List Found) [ None ↦ [] | Some what ↦ about_within (section packet (b ∷ bytes)) what ∷ sections_in packet (taken_by (b ∷ bytes) what - 1) bytes ])
+    cond t [] (elim d as (λ x. List Found)
+    [ None ↦ [] | Some what ↦ about_within (section packet (b ∷ bytes)) what ∷ sections_in packet (taken_by (b ∷ bytes) what - 1) bytes ])
     ≡ about_within (section packet (b ∷ bytes)) w ∷ sections_in packet (taken_by (b ∷ bytes) w - 1) bytes
 found_by packet b bytes true d w e f = absurd cc
 found_by packet b bytes false None w e f = absurd cc
@@ -48,7 +50,8 @@ last_by b bytes false None w e f = absurd cc
 last_by b bytes false (Some what) w e f = ap (λ (x : WhatView). last_in (taken_by (b ∷ bytes) x - 1) bytes) (what_is what w f)
 
 none_by : (packet b : ℕ) (bytes : List ℕ) (t : Bool) (d : Option WhatView) → d ≡ None →
-    cond t [] (elim d as (λ x. List Found) [ None ↦ [] | Some what ↦ about_within (section packet (b ∷ bytes)) what ∷ sections_in packet (taken_by (b ∷ bytes) what - 1) bytes ]) ≡ []
+    cond t [] (elim d as (λ x. List Found)
+    [ None ↦ [] | Some what ↦ about_within (section packet (b ∷ bytes)) what ∷ sections_in packet (taken_by (b ∷ bytes) what - 1) bytes ]) ≡ []
 none_by packet b bytes true d e = refl
 none_by packet b bytes false None e = refl
 none_by packet b bytes false (Some what) e = absurd cc

@@ -1,10 +1,12 @@
 -- Bytes that are too few to be read are not many.
-use Rattle.std.proofs.Common.{◌≡◌, ℕ, ◌+◌, ◌*◌, ◌/◌, ◌%◌, ◌<◌, ◌==◌, Bool, true, false, cond, List, [], ◌∷◌, length, take, drop, get_or, Result, Ok, Err, refl, ap, arith, ltb}
+use Rattle.std.proofs.Common.{◌≡◌, ℕ, ◌+◌, ◌*◌, ◌/◌, ◌%◌, ◌<◌, ◌==◌, Bool, true, false, cond, List, [], ◌∷◌, length, take, drop, get_or, Result, Ok, Err, refl}
+use Rattle.std.proofs.Common.{ap, arith, ltb}
 use Rattle.std.proofs.lemmas.Bool.{ltb-true}
 use Rattle.bit_fields.specs.Fields.{IsBytes}
 use Rattle.bit_fields.specs.Reading.{◌>>=◌}
 use Rattle.pes_packet.specs.StreamIds.{has_flags}
-use Rattle.pes_packet.specs.Reading.{marked, stamp_value, stamp_at, five_at, pts_at, pts_dts_at, stamps_at, is_too_short, is_bad_flags, data_at, flags_at, misses_prefix, header_at}
+use Rattle.pes_packet.specs.Reading.{marked, stamp_value, stamp_at, five_at, pts_at, pts_dts_at, stamps_at, is_too_short, is_bad_flags, data_at, flags_at}
+use Rattle.pes_packet.specs.Reading.{misses_prefix, header_at}
 use Rattle.pes_packet.specs.Reading as reading
 use Rattle.pes_packet.specs.declared.refusal.PesError.{PesError}
 use Rattle.pes_packet.specs.declared.refusal.PesError.TheVariants as pes_errors
@@ -117,7 +119,8 @@ checked true true x y n = refl
 checked true false x y n = refl
 checked false c x y n = refl
 
-sized_more : {X : Type 0} (u v : Bool) (r : Result X SectionError) → wants_more (cond u (Err section_errors.Length) (cond v (Err section_errors.Short) r)) ≡ true → wants_more r ≡ false → v ≡ true
+sized_more : {X : Type 0} (u v : Bool) (r : Result X SectionError) →
+    wants_more (cond u (Err section_errors.Length) (cond v (Err section_errors.Short) r)) ≡ true → wants_more r ≡ false → v ≡ true
 sized_more true v r e h = absurd cc
 sized_more false true r e h = refl
 sized_more false false r e h = absurd cc

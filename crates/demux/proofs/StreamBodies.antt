@@ -1,5 +1,6 @@
 -- What is left out of the bodies of PES packets decides nothing in a stream.
-use Rattle.std.proofs.Common.{◌≡◌, ℕ, zero, suc, ◌==◌, ◌≤◌, Bool, true, false, cond, List, [], ◌∷◌, ◌++◌, length, map, slice_get, Option, None, Some, subst, Result, Ok, Err, refl, sym, ap, ap₂, ◌∙◌, arith}
+use Rattle.std.proofs.Common.{◌≡◌, ℕ, zero, suc, ◌==◌, ◌≤◌, Bool, true, false, cond, List, [], ◌∷◌, ◌++◌, length, map, slice_get, Option, None, Some, subst}
+use Rattle.std.proofs.Common.{Result, Ok, Err, refl, sym, ap, ap₂, ◌∙◌, arith}
 use Rattle.std.specs.Prelude.{IfSome}
 use Rattle.std.proofs.lemmas.List.{length-take-le, map-append}
 use Rattle.bit_fields.specs.Fields.{IsBytes}
@@ -15,15 +16,19 @@ use Rattle.ts_packet.specs.PidList.{Entry}
 use Rattle.ts_packet.specs.Views.{PacketView}
 use Rattle.ts_packet.specs.Reading.{packet_at}
 use Rattle.ts_packet.specs.declared.packet.PacketError.{PacketError}
-use Rattle.demux.specs.Views.{WhatView, IsDuplicate, BreaksCounter, IsScrambled, IsTruncated, IsSection, IsBadSection, IsPes, IsBadPes, IsBadPacket, IsErrored, Found, FindingView}
+use Rattle.demux.specs.Views.{WhatView, IsDuplicate, BreaksCounter, IsScrambled, IsTruncated, IsSection, IsBadSection, IsPes, IsBadPes, IsBadPacket, IsErrored}
+use Rattle.demux.specs.Views.{Found, FindingView}
 use Rattle.demux.specs.OpenUnits.{UnitKind, decided, of_pes, of_section}
 use Rattle.demux.specs.declared.open_unit.UnitKind.TheVariants as unit_kinds
 use Rattle.demux.specs.Findings.{ended}
 use Rattle.demux.specs.Machine.{PidState, found_by, step}
 use Rattle.demux.specs.Shown.{with_pid}
-use Rattle.demux.specs.Stream.{States, StreamState, completed, ended_found, entry_of, finished, findings_by, found_in, held_found, packet_pushed, pushed, start, state_of, states_by, taken, with_state, without_pid}
+use Rattle.demux.specs.Stream.{States, StreamState, completed, ended_found, entry_of, finished, findings_by, found_in, held_found, packet_pushed, pushed, start}
+use Rattle.demux.specs.Stream.{state_of, states_by, taken, with_state, without_pid}
 use Rattle.demux.specs.FoundSoFar.{with_found}
-use Rattle.demux.specs.Bodies.{FewAreKept, HeadersAlone, HeadersAreFound, HeadersSoFar, NoHeadersAtFirst, headers_pushed, all_without_body, bodies_left_out, finding_without_body, found_without_body, header_bytes, kept_bytes, state_without_body, states_without_bodies, without_bodies, without_body}
+use Rattle.demux.specs.Bodies.{FewAreKept, HeadersAlone, HeadersAreFound, HeadersSoFar, NoHeadersAtFirst, headers_pushed, all_without_body, bodies_left_out}
+use Rattle.demux.specs.Bodies.{finding_without_body, found_without_body, header_bytes, kept_bytes, state_without_body, states_without_bodies, without_bodies}
+use Rattle.demux.specs.Bodies.{without_body}
 use Rattle.demux.proofs.Bodies.{bodies_decide_nothing, ended_same, state_again, zeros_again}
 use Rattle.demux.proofs.FoundSoFar.{cleared, pushed_after}
 use Rattle.demux.proofs.PushedBytes.{pushed_append}
@@ -101,7 +106,8 @@ findings_same index bytes states (Err error) = refl
 findings_same index bytes states (Ok packet) =
     let pid = packet.header.pid in
     let entry = entry_of index bytes packet in
-    let same = ap (λ (s : PidState). map found_without_body (found_by s entry)) (state_left pid states) ∙ (bodies_decide_nothing (state_of pid states) entry).0 in
+    let same = ap (λ (s : PidState). map found_without_body (found_by s entry)) (state_left pid states)
+    ∙ (bodies_decide_nothing (state_of pid states) entry).0 in
     found_by_test packet.header.transport_error_indicator (without_pid index IsErrored ∷ []) _ _
     (found_by_test (pid == 8191) [] _ _ (placed_same pid index _ _ same))
 
@@ -176,7 +182,8 @@ pub pushed_same : (s : StreamState) (bytes : List ℕ) → without_bodies (pushe
 pushed_same s bytes = pushed_alike (without_bodies s) s bytes (stream_again s)
 
 -- its end
-pub flat_same : (packets : ℕ) (states : States) → all_without_body (ended_found packets (states_without_bodies states)) ≡ all_without_body (ended_found packets states)
+pub flat_same : (packets : ℕ) (states : States) →
+    all_without_body (ended_found packets (states_without_bodies states)) ≡ all_without_body (ended_found packets states)
 unfolding ended_found
 flat_same packets [] = refl
 flat_same packets (x ∷ states) =
@@ -193,7 +200,8 @@ finished_by : (b : Bool) (s : StreamState) →
     ≡ without_bodies (cond b s (record s { held = []; found = s.found ++ (held_found s.packets s.held ++ ended_found s.packets s.states); ended = true }))
 finished_by true s = stream_again s
 finished_by false s =
-    let last : all_without_body (held_found s.packets s.held ++ ended_found s.packets (states_without_bodies s.states)) ≡ all_without_body (held_found s.packets s.held ++ ended_found s.packets s.states) =
+    let last : all_without_body (held_found s.packets s.held ++ ended_found s.packets (states_without_bodies s.states)) ≡ all_without_body
+    (held_found s.packets s.held ++ ended_found s.packets s.states) =
     map-append finding_without_body (held_found s.packets s.held) _
     ∙ ap (λ (rest : List FindingView). all_without_body (held_found s.packets s.held) ++ rest) (flat_same s.packets s.states)
     ∙ sym (map-append finding_without_body (held_found s.packets s.held) _) in
@@ -260,7 +268,8 @@ same_entry : (x y : ℕ × PidState) → ◌≡◌ {A = Option (ℕ × PidState)
 same_entry x y e = cc
 
 -- the end of a PID
-pub entry_ends : (packet index : ℕ) (states : States) (x : ℕ × PidState) → slice_get (states_without_bodies states) index ≡ Some x → IfSome (slice_get states index) (λ y. (y.0 ≡ x.0) × (
+pub entry_ends : (packet index : ℕ) (states : States) (x : ℕ × PidState) → slice_get (states_without_bodies states) index ≡ Some x →
+    IfSome (slice_get states index) (λ y. (y.0 ≡ x.0) × (
     all_without_body (map (with_pid y.0 packet) (ended true y.1.open_unit)) ≡ all_without_body (map (with_pid x.0 packet) (ended true x.1.open_unit))))
 entry_ends packet index [] x e = tt
 entry_ends packet zero (y ∷ states) x e = by x (same_entry (y.0, state_without_body y.1) x e)
@@ -274,7 +283,8 @@ entry_ends packet (suc index) (y ∷ states) x e = entry_ends packet index state
 
 -- 4. How much is kept
 
-pes_few : (bytes : List ℕ) (r : Result (PesHeader × ℕ) PesError) → IsBytes bytes → header_at bytes ≡ r → of_pes bytes r ≡ None → length (header_bytes bytes r) ≤ 4098
+pes_few : (bytes : List ℕ) (r : Result (PesHeader × ℕ) PesError) → IsBytes bytes → header_at bytes ≡ r → of_pes bytes r ≡ None →
+    length (header_bytes bytes r) ≤ 4098
 unfolding of_pes header_bytes
 pes_few bytes (Ok h) b is none =
     let n = length-take-le h.1 bytes (header_there bytes h is) in omega (arith, n, header_size bytes h b is)
@@ -284,7 +294,8 @@ pes_few bytes (Err pes_errors.BadFlags) b is none = absurd cc
 pes_few bytes (Err pes_errors.Marker) b is none = absurd cc
 pes_few bytes (Err pes_errors.Length) b is none = absurd cc
 
-section_few : (bytes : List ℕ) (r : Result (SectionView × ℕ) SectionError) → IsBytes bytes → section_at bytes ≡ r → of_section bytes r ≡ None → length bytes ≤ 4098
+section_few : (bytes : List ℕ) (r : Result (SectionView × ℕ) SectionError) → IsBytes bytes → section_at bytes ≡ r → of_section bytes r ≡ None →
+    length bytes ≤ 4098
 unfolding of_section
 section_few bytes (Ok s) b is none = absurd cc
 section_few bytes (Err section_errors.Short) b is none = let n = section_bound bytes b is in omega (arith, n)

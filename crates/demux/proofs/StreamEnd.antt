@@ -30,7 +30,8 @@ ended_more packet i j states entry noted more all h k m a =
     ∙ ap (λ (xs : List FindingView). noted ++ xs) (sym (ended_next packet i states entry h)) ∙ a
 
 -- no PID is left
-pub ended_none : (packet i : ℕ) (states : States) (noted all : List FindingView) → length states ≤ i → noted ++ ended_found packet (drop i states) ≡ all → noted ≡ all
+pub ended_none : (packet i : ℕ) (states : States) (noted all : List FindingView) → length states ≤ i → noted ++ ended_found packet (drop i states) ≡ all →
+    noted ≡ all
 unfolding ended_found
 ended_none packet i states noted all h a =
     sym (append-nil noted) ∙ ap (λ (xs : States). noted ++ ended_found packet xs) (sym (drop_all i states h)) ∙ a

@@ -1,5 +1,6 @@
 -- What is found of one PID in a whole stream.
-use Rattle.std.proofs.Common.{◌≡◌, ℕ, zero, suc, zero-add, ◌+◌, ◌-◌, ◌*◌, ◌/◌, ◌^◌, ◌<◌, ◌≤◌, ◌==◌, Bool, true, false, cond, List, [], ◌∷◌, ◌++◌, length, take, drop, map, Result, Ok, Err, refl, sym, ap, ap₂, subst, ◌∙◌, arith, length-drop}
+use Rattle.std.proofs.Common.{◌≡◌, ℕ, zero, suc, zero-add, ◌+◌, ◌-◌, ◌*◌, ◌/◌, ◌^◌, ◌<◌, ◌≤◌, ◌==◌, Bool, true, false, cond, List, [], ◌∷◌, ◌++◌, length, take}
+use Rattle.std.proofs.Common.{drop, map, Result, Ok, Err, refl, sym, ap, ap₂, subst, ◌∙◌, arith, length-drop}
 use Rattle.std.specs.Simd.{first_chunks}
 use Rattle.std.proofs.lemmas.List.{append-nil, map-append, length-take-le}
 use Rattle.ts_packet.specs.Views.{PacketView}
@@ -10,7 +11,8 @@ use Rattle.demux.specs.Views.{FindingView}
 use Rattle.demux.specs.Findings.{at_packet, ended, findings, findings_to_end}
 use Rattle.demux.specs.Machine.{PidState, fresh, step, run, run_to}
 use Rattle.demux.specs.Shown.{with_pid}
-use Rattle.demux.specs.Stream.{States, StreamState, start, state_of, with_state, states_by, entry_of, taken, packet_pushed, pushed, finished, held_found, ended_found}
+use Rattle.demux.specs.Stream.{States, StreamState, start, state_of, with_state, states_by, entry_of, taken, packet_pushed, pushed, finished, held_found}
+use Rattle.demux.specs.Stream.{ended_found}
 use Rattle.demux.specs.Laws.{EachPidAlone, PacketsDecide, PiecesJoin, found_of, with_pid_at}
 use Rattle.demux.proofs.EachPid.{of_append, of_with_pid, packets_pushed, passed_count, passed_found, passed_to, same_number, with_pid_all, turned_test}
 use Rattle.demux.proofs.PushedBytes.{pushed_append, pushed_less, pushed_whole}
@@ -48,13 +50,15 @@ pushed_packets (suc k) s bytes e h g =
     let at : 188 + 188 * k ≡ 188 * suc k = omega arith in
     ap (pushed s) (sym (take_drop 188 bytes)) ∙ pushed_append s front rest ∙ ap (λ (t : StreamState). pushed t rest) whole
     ∙ pushed_packets k (packet_pushed s front) rest refl (omega arith) (omega arith)
-    ∙ ap (λ (x : List ℕ). record (packets_pushed (packet_pushed s front) (first_chunks 188 k rest)) { held = x }) (drop_drop (188 * k) 188 bytes ∙ ap (λ (i : ℕ). drop i bytes) at)
+    ∙ ap (λ (x : List ℕ). record (packets_pushed (packet_pushed s front) (first_chunks 188 k rest)) { held = x })
+    (drop_drop (188 * k) 188 bytes ∙ ap (λ (i : ℕ). drop i bytes) at)
 
 chunk_count : (k : ℕ) (bytes : List ℕ) → length (first_chunks 188 k bytes) ≡ k
 chunk_count zero bytes = refl
 chunk_count (suc k) bytes = let e = chunk_count k (drop 188 bytes) in omega arith
 
-pushed_whole_packets : (bytes : List ℕ) → pushed start bytes ≡ record (packets_pushed start (cut_packets bytes)) { held = drop (188 * (length bytes / 188)) bytes }
+pushed_whole_packets : (bytes : List ℕ) →
+    pushed start bytes ≡ record (packets_pushed start (cut_packets bytes)) { held = drop (188 * (length bytes / 188)) bytes }
 pushed_whole_packets bytes =
     let n = length bytes in
     pushed_packets (n / 188) start bytes refl (omega arith) (omega arith)
@@ -90,7 +94,8 @@ unfolding states_by
 unique_by index bytes states (Err error) h = h
 unique_by index bytes states (Ok packet) h = by packet.header.transport_error_indicator (packet.header.pid == 8191)
   where
-    by : (e z : Bool) → unique (cond e states (cond z states (with_state packet.header.pid (step (state_of packet.header.pid states) (entry_of index bytes packet)) states)))
+    by : (e z : Bool) →
+        unique (cond e states (cond z states (with_state packet.header.pid (step (state_of packet.header.pid states) (entry_of index bytes packet)) states)))
     by true z = h
     by false true = h
     by false false = unique_with packet.header.pid (step (state_of packet.header.pid states) (entry_of index bytes packet)) states h
@@ -112,21 +117,26 @@ unfolding ended_found
 ended_absent pid packet [] h = refl
 ended_absent pid packet (x ∷ states) h =
     of_append pid (map (with_pid x.0 packet) (ended true x.1.open_unit)) (ended_found packet states)
-    ∙ ap₂ (λ (xs ys : List FindingView). xs ++ ys) (of_with_pid pid packet x.0 false (turned_test x.0 pid ∙ h.0) (ended true x.1.open_unit)) (ended_absent pid packet states h.1)
+    ∙ ap₂ (λ (xs ys : List FindingView). xs ++ ys) (of_with_pid pid packet x.0 false (turned_test x.0 pid ∙ h.0) (ended true x.1.open_unit))
+    (ended_absent pid packet states h.1)
 
-ended_of : (pid packet : ℕ) (states : States) → unique states → found_of pid (ended_found packet states) ≡ map (with_pid pid packet) (ended true (state_of pid states).open_unit)
+ended_of : (pid packet : ℕ) (states : States) → unique states →
+    found_of pid (ended_found packet states) ≡ map (with_pid pid packet) (ended true (state_of pid states).open_unit)
 unfolding ended_found ended
 ended_of pid packet [] h = refl
 ended_of pid packet (x ∷ states) h =
     of_append pid (map (with_pid x.0 packet) (ended true x.1.open_unit)) (ended_found packet states) ∙ by (ended_of pid packet states h.1) (x.0 == pid) refl
   where
     by : found_of pid (ended_found packet states) ≡ map (with_pid pid packet) (ended true (state_of pid states).open_unit) → (t : Bool) → (x.0 == pid) ≡ t →
-        found_of pid (map (with_pid x.0 packet) (ended true x.1.open_unit)) ++ found_of pid (ended_found packet states) ≡ map (with_pid pid packet) (ended true (cond (pid == x.0) x.1 (state_of pid states)).open_unit)
+        found_of pid (map (with_pid x.0 packet) (ended true x.1.open_unit))
+        ++ found_of pid (ended_found packet states) ≡ map (with_pid pid packet) (ended true (cond (pid == x.0) x.1 (state_of pid states)).open_unit)
     by k true e =
         let n : x.0 ≡ pid = same_number x.0 pid e in
         let f : (pid == x.0) ≡ true = turned_test pid x.0 ∙ e in
         let none : absent pid states = subst (λ (k : ℕ). absent k states) n h.0 in
-        rw f (ap₂ (λ (xs ys : List FindingView). xs ++ ys) (of_with_pid pid packet x.0 true e (ended true x.1.open_unit) ∙ ap (λ (k : ℕ). map (with_pid k packet) (ended true x.1.open_unit)) n) (ended_absent pid packet states none)
+        rw f (ap₂ (λ (xs ys : List FindingView). xs ++ ys)
+        (of_with_pid pid packet x.0 true e (ended true x.1.open_unit) ∙ ap (λ (k : ℕ). map (with_pid k packet) (ended true x.1.open_unit)) n)
+        (ended_absent pid packet states none)
         ∙ append-nil (map (with_pid pid packet) (ended true x.1.open_unit)))
     by k false e =
         let f : (pid == x.0) ≡ false = turned_test pid x.0 ∙ e in

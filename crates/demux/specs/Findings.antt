@@ -1,5 +1,6 @@
 -- What is found in a PID's packets: at each packet, a function of that packet and of the PID's packets before it.
-use Rattle.std.specs.Prelude.{ℕ, ◌==◌, ◌||◌, Bool, true, false, if◌then◌else◌, List, [], ◌∷◌, ◌++◌, drop, map, reverse, Option, Some, None, is_some, option_map, option_and_then, Result, Ok}
+use Rattle.std.specs.Prelude.{ℕ, ◌==◌, ◌||◌, Bool, true, false, if◌then◌else◌, List, [], ◌∷◌, ◌++◌, drop, map, reverse, Option, Some, None, is_some, option_map}
+use Rattle.std.specs.Prelude.{option_and_then, Result, Ok}
 use Rattle.pes_packet.specs.Reading.{header_at}
 use Rattle.pes_packet.specs.declared.reading.PesHeader.{PesHeader}
 use Rattle.pes_packet.specs.declared.refusal.PesError.{PesError}

@@ -56,7 +56,13 @@ unfoldable pub mark : Option LastView → Entry → Marked
 mark last entry = record { entry = entry; duplicate = is_repeat last entry; broken = break_at last entry }
 
 unfoldable pub seen : Marked → LastView
-seen m = record { duplicate = m.duplicate; has_payload = is_some m.entry.packet.payload; counter = m.entry.packet.header.continuity_counter; content = content m.entry }
+seen m = record {
+  duplicate = m.duplicate;
+  has_payload = is_some m.entry.packet.payload;
+  counter = m.entry.packet.header.continuity_counter;
+  content =
+      content m.entry;
+}
 
 -- the packets of a PID, each marked by the one before it
 abbrev pub marked : Option LastView → List Entry → List Marked

@@ -22,7 +22,8 @@ use Rattle.demux.specs.Roles.{Role, NoPayload, ScrambledPayload, PesStart, Secti
 use Rattle.demux.specs.OpenUnits.{OpenUnit, plain}
 use Rattle.demux.specs.Findings.{by_break}
 use Rattle.demux.specs.Roles.{role_divides}
-use Rattle.demux.specs.Views.{WhatView, IsDuplicate, BreaksCounter, IsScrambled, IsTruncated, IsSection, IsBadSection, IsPes, IsBadPes, IsBadPacket, IsErrored, Found, FindingView}
+use Rattle.demux.specs.Views.{WhatView, IsDuplicate, BreaksCounter, IsScrambled, IsTruncated, IsSection, IsBadSection, IsPes, IsBadPes, IsBadPacket, IsErrored}
+use Rattle.demux.specs.Views.{Found, FindingView}
 
 -- the bytes of a finding
 abbrev pub part_bytes : {A : Type 0} → Part A → List ℕ

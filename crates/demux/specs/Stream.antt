@@ -1,5 +1,6 @@
 -- A stream packet by packet: what is kept of it, and what is found.
-use Rattle.std.specs.Prelude.{◌≡◌, ℕ, ◌+◌, ◌-◌, ◌^◌, ◌<◌, ◌==◌, min, Bool, true, false, if◌then◌else◌, List, [], ◌∷◌, ◌++◌, length, take, map, None, Result, Ok, Err}
+use Rattle.std.specs.Prelude.{◌≡◌, ℕ, ◌+◌, ◌-◌, ◌^◌, ◌<◌, ◌==◌, min, Bool, true, false, if◌then◌else◌, List, [], ◌∷◌, ◌++◌, length, take, map, None, Result, Ok}
+use Rattle.std.specs.Prelude.{Err}
 use Rattle.std.specs.List.{flat_map}
 use Rattle.ts_packet.specs.declared.packet.PacketError.{PacketError}
 use Rattle.ts_packet.specs.Views.{PacketView}
@@ -43,7 +44,8 @@ states_by index bytes states (Ok packet) = if packet.header.transport_error_indi
 -- what is found in them
 unfoldable pub findings_by : ℕ → List ℕ → States → Result PacketView PacketError → List FindingView
 findings_by index bytes states (Err error) = without_pid index (IsBadPacket error) ∷ []
-findings_by index bytes states (Ok packet) = if packet.header.transport_error_indicator then without_pid index IsErrored ∷ [] else (if packet.header.pid == 8191 then []
+findings_by index bytes states (Ok packet) =
+    if packet.header.transport_error_indicator then without_pid index IsErrored ∷ [] else (if packet.header.pid == 8191 then []
     else map (with_pid packet.header.pid index) (found_by (state_of packet.header.pid states) (entry_of index bytes packet)))
 
 -- of what is found in them, which are a section or a PES packet that lies whole in this packet

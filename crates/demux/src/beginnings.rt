@@ -106,8 +106,8 @@ fn with_room<A: Allocator>(alloc: A, bytes: &[u8], all: usize) -> Result<Vec<u8,
     Ok(held)
 }
 
-// A PES packet that its first bytes do not decide. Those after the header are given the room that they take in all, or some
-// of it.
+// A PES packet that its first bytes do not decide. Those after the header are given the room that they take in all, or
+// some of it.
 fn open_pes<A: Allocator + Clone>(
     alloc: &A,
     packet: u64,

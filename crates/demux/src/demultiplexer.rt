@@ -25,8 +25,8 @@ use ts_packet::{Packet, PacketError, read_packet};
 /// The state of a transport stream: a state for each PID, and the at most 187 bytes of a packet that is not whole
 /// yet.
 ///
-/// The state of a PID has its last packet and its open unit: at most 8,388,608 bytes of a section or a PES packet; of an
-/// open PES packet whose body was left out (`leave_out_bodies`) the header, and of a section at most 4,098 bytes.
+/// The state of a PID has its last packet and its open unit: at most 8,388,608 bytes of a section or a PES packet; of
+/// an open PES packet whose body was left out (`leave_out_bodies`) the header, and of a section at most 4,098 bytes.
 /// Packets are numbered from 0; the number stops at 2^64 - 1.
 #[derive(Drop)]
 pub struct Demux<A: Allocator = Global> {
@@ -209,9 +209,9 @@ impl<A: Allocator + Copy> Demux<A> {
         Ok(())
     }
 
-    /// Takes a packet without a finding, between whole packets, if its first four bytes show that it is one:
-    /// a null packet, or a payload alone that continues an open section or PES packet and does not end it. Returns
-    /// whether it took the packet; if not, nothing changes: it is another packet, memory is short, or the stream has ended.
+    /// Takes a packet without a finding, between whole packets, if its first four bytes show that it is one: a null
+    /// packet, or a payload alone that continues an open section or PES packet and does not end it. Returns whether it
+    /// took the packet; if not, nothing changes: it is another packet, memory is short, or the stream has ended.
     pub fn go_on(&mut self, bytes: &[u8; 188]) -> bool
         requires { stream.is_aligned self.old ≡ true }
         ensures taken { result ≡ true → self.new ≡ stream.taken self.old bytes.now }
@@ -228,8 +228,8 @@ impl<A: Allocator + Copy> Demux<A> {
         self.take_plain(bytes)
     }
 
-    /// Takes a packet, between whole packets. Findings go to `found`; a finding points into the packet if it lies in the
-    /// packet whole.
+    /// Takes a packet, between whole packets. Findings go to `found`; a finding points into the packet if it lies in
+    /// the packet whole.
     pub fn take<'a>(
         &mut self,
         bytes: &'a [u8; 188],
@@ -303,9 +303,9 @@ impl<A: Allocator + Copy> Demux<A> {
         self.count();
     }
 
-    /// Leaves out the bodies of the open PES packets whose headers can be read: the bytes are given back, and the number of
-    /// bytes of each body is kept. They are then read as zeros. A caller who reads no bodies leaves them out again and again,
-    /// so that memory goes with the number of PIDs (`headers_alone`).
+    /// Leaves out the bodies of the open PES packets whose headers can be read: the bytes are given back, and the
+    /// number of bytes of each body is kept. They are then read as zeros. A caller who reads no bodies leaves them out
+    /// again and again, so that memory goes with the number of PIDs (`headers_alone`).
     pub fn leave_out_bodies(&mut self)
         ensures { self.new ≡ bodies_left_out self.old }
     {
@@ -331,8 +331,8 @@ impl<A: Allocator + Copy> Demux<A> {
         note_held(&alloc, self.packets, &self.held, found)
     }
 
-    /// Appends what the end of the stream decides of the PID at an index, in the order of each PID's first packet. Nothing
-    /// changes: `finish` notes the end of all PIDs at once.
+    /// Appends what the end of the stream decides of the PID at an index, in the order of each PID's first packet.
+    /// Nothing changes: `finish` notes the end of all PIDs at once.
     pub fn end_of_pid(
         &self,
         index: usize,

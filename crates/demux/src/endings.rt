@@ -216,8 +216,9 @@ fn append_bytes<'a, A: Allocator + Clone>(
     }
 }
 
-// Notes a PES packet whose header was read, and that began in this packet, with the random_access_indicator or without: its body, of which there are to be `size` bytes, ends with this payload, and is
-// moved to the finding with its room: at most 4,096 bytes, or fewer than twice those that came.
+// Notes a PES packet whose header was read, and that began in this packet, with the random_access_indicator or without:
+// its body, of which there are to be `size` bytes, ends with this payload, and is moved to the finding with its room:
+// at most 4,096 bytes, or fewer than twice those that came.
 fn note_whole<'a, A: Allocator + Clone>(
     alloc: &A,
     place: Place,
@@ -301,8 +302,8 @@ pub(crate) fn end_moved<'a, A: Allocator + Clone>(
     Ok(())
 }
 
-// A payload that may decide the open unit; where it does, no bytes are left. Whether it does. It stays a call of its own:
-// few packets decide a unit.
+// A payload that may decide the open unit; where it does, no bytes are left. Whether it does. It stays a call of its
+// own: few packets decide a unit.
 #[inline(never)]
 #[tactic(auto, unfolding(crate::specs::Findings::found_if), using(crate::proofs::HeadedUnits::whole_found, crate::proofs::HeadedUnits::whole_decided))]
 fn append_last<'a, A: Allocator + Clone>(

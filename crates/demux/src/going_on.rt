@@ -67,8 +67,8 @@ pub(crate) fn keep_plain(last: &mut Option<Last>, bytes: &[u8; 188])
 // The most bytes of a PES packet that says how many it has: PES_packet_length has 16 bits (2.4.3.7).
 const LONGEST_SAID: usize = 6 + 65_535;
 
-// Room for all bytes of a PES packet that says how many it has. The first room is full then, so that a length that is said
-// and does not come takes little memory. It stays a call of its own: few packets need it.
+// Room for all bytes of a PES packet that says how many it has. The first room is full then, so that a length that is
+// said and does not come takes little memory. It stays a call of its own: few packets need it.
 #[inline(never)]
 fn make_room<A: Allocator>(bytes: &mut Vec<u8, A>, all: usize) -> Result<(), AllocError>
     ensures same { bytes.new.items ≡ bytes.old.items }
@@ -93,7 +93,8 @@ fn append<A: Allocator>(
     bytes.extend_from_slice(payload)
 }
 
-// Returns how many bytes the bytes after the header are to be in the end; no number to make room for, if bytes are left out.
+// Returns how many bytes the bytes after the header are to be in the end; no number to make room for, if bytes are left
+// out.
 fn room_of(least: usize, front: usize, left_out: usize) -> usize {
     if left_out > 0 {
         return usize::MAX;

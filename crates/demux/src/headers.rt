@@ -20,11 +20,11 @@ use ts_packet::{Packet, PacketError};
 // After this number of packets the bodies of the open PES packets are left out.
 const PACKETS: u32 = 1_024;
 
-/// A stream as `Demux` takes it, of which the bodies of open PES packets are left out again and again: memory goes with the
-/// number of PIDs, and not with the PES packets that are open.
+/// A stream as `Demux` takes it, of which the bodies of open PES packets are left out again and again: memory goes with
+/// the number of PIDs, and not with the PES packets that are open.
 ///
-/// A contract sees the stream without bodies: the findings are those of `Demux` besides the bytes of bodies and of what was
-/// cut short. Their number is kept.
+/// A contract sees the stream without bodies: the findings are those of `Demux` besides the bytes of bodies and of what
+/// was cut short. Their number is kept.
 #[derive(Drop)]
 pub struct HeaderDemux<A: Allocator = Global> {
     demux: Demux<A>,
@@ -153,8 +153,8 @@ impl<A: Allocator + Copy> HeaderDemux<A> {
         self.demux.pids()
     }
 
-    /// Appends what the end of the stream decides of the PID at an index, in the order of each PID's first packet. Nothing
-    /// changes. The bodies of one PID are written as zeros, until the finding is dropped.
+    /// Appends what the end of the stream decides of the PID at an index, in the order of each PID's first packet.
+    /// Nothing changes. The bodies of one PID are written as zeros, until the finding is dropped.
     pub fn end_of_pid(
         &self,
         index: usize,

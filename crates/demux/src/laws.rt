@@ -5,8 +5,8 @@ ghost use Rattle.demux.specs.Laws.{EachPidAlone, PacketsDecide, PiecesJoin, Take
 ghost use Rattle.demux.specs.Machine.{RunFindsAll};
 ghost use Rattle.demux.specs.FoundSoFar.{AllAreFound, NothingAtFirst, PacketAdds, PacketsAdd, PidFoundSoFar, PieceAdds};
 
-/// States that the findings packet by packet, with a state of the last packet and the open unit, are the findings of all
-/// packets of the PID together, with the end of the stream and without it.
+/// States that the findings packet by packet, with a state of the last packet and the open unit, are the findings of
+/// all packets of the PID together, with the end of the stream and without it.
 pub fn packet_by_packet()
     ensures { RunFindsAll }
 {}
@@ -16,8 +16,8 @@ pub fn pieces_join()
     ensures { PiecesJoin }
 {}
 
-/// States that, if no part of a packet is held, a packet that is taken leaves and finds what its 188 bytes would if they
-/// were pushed.
+/// States that, if no part of a packet is held, a packet that is taken leaves and finds what its 188 bytes would if
+/// they were pushed.
 pub fn taken_as_pushed()
     ensures { TakenAsPushed }
 {}
@@ -28,8 +28,8 @@ pub fn each_pid_alone()
     ensures { EachPidAlone }
 {}
 
-/// States that streams that agree on a PID's packets and their places agree on its findings; with the end of the stream,
-/// if they also agree on the number of packets.
+/// States that streams that agree on a PID's packets and their places agree on its findings; with the end of the
+/// stream, if they also agree on the number of packets.
 pub fn packets_decide()
     ensures { PacketsDecide }
 {}
@@ -49,8 +49,8 @@ pub fn each_pid_so_far()
     ensures { PidFoundSoFar }
 {}
 
-/// States that the bodies of open PES packets may be left out at any time: later findings and states are the same besides
-/// bodies. Of an open unit whose body is left out at most 4,098 bytes are kept.
+/// States that the bodies of open PES packets may be left out at any time: later findings and states are the same
+/// besides bodies. Of an open unit whose body is left out at most 4,098 bytes are kept.
 pub fn headers_alone()
     ensures packet { BodiesDecideNothing }
     ensures stream { HeadersAlone }

@@ -18,8 +18,8 @@ pub enum UnitKind {
 
 /// A section or a PES packet from its first byte on, as far as it has come: at most 8,388,608 bytes.
 ///
-/// The bytes of a PES packet's header stand apart once it is read, so that the others can be moved to the finding. Where
-/// nobody reads its body, the others are left out: their number is kept, and they are read as zeros.
+/// The bytes of a PES packet's header stand apart once it is read, so that the others can be moved to the finding.
+/// Where nobody reads its body, the others are left out: their number is kept, and they are read as zeros.
 #[derive(Drop)]
 pub(crate) struct OpenUnit<A: Allocator> {
     // the packet of its first byte
@@ -102,7 +102,8 @@ impl<A: Allocator> OpenUnit<A> {
         give_back(&mut self.bytes);
     }
 
-    /// Leaves out the body of a PES packet whose header can be read: its bytes are given back, and their number is kept.
+    /// Leaves out the body of a PES packet whose header can be read: its bytes are given back, and their number is
+    /// kept.
     pub fn leave_out_body(&mut self)
         ensures { self.new ≡ unit_without_body self.old }
     {

@@ -80,8 +80,8 @@ fn start_unit<'p, 'a: 'p, A: Allocator + Clone>(
     }
 }
 
-// A start, a scrambled packet or a wrong pointer_field, with the unit that is open before it. It stays a call of its own:
-// what it needs on the stack would else be made ready for each packet.
+// A start, a scrambled packet or a wrong pointer_field, with the unit that is open before it. It stays a call of its
+// own: what it needs on the stack would else be made ready for each packet.
 #[inline(never)]
 fn start_with_open<'p, 'a: 'p, A: Allocator + Clone>(
     alloc: &A,
@@ -105,7 +105,8 @@ fn start_with_open<'p, 'a: 'p, A: Allocator + Clone>(
     Ok(())
 }
 
-// The start of a PES packet, with the unit that is open before it. It stays a call of its own, as `start_with_open` does.
+// The start of a PES packet, with the unit that is open before it. It stays a call of its own, as `start_with_open`
+// does.
 #[inline(never)]
 #[tactic(auto, unfolding(crate::specs::Findings::by_role, crate::specs::Machine::next_open))]
 fn start_pes<'p, 'a: 'p, A: Allocator + Clone>(

@@ -71,7 +71,8 @@ pub at_once_few : (s : DescribedStream) (m : ℕ) → IsStream s → packets_at_
 at_once_few s m is = at_once_few_of (greatest_unit_packets s) s.allowance m is.allowance (unit_few s is)
 
 -- the most packets of units that are due within less than so much time of one another
-pub within_few : (s : DescribedStream) (units lead : ℕ) → IsStream s → units ≤ 90000 → lead ≤ 90000 → packets_within s.allowance (greatest_unit_packets s) units lead < 2 ^ 40
+pub within_few : (s : DescribedStream) (units lead : ℕ) → IsStream s → units ≤ 90000 → lead ≤ 90000 →
+    packets_within s.allowance (greatest_unit_packets s) units lead < 2 ^ 40
 within_few s units lead is counted near = within_few_of (greatest_unit_packets s) s.allowance units lead is.allowance (unit_few s is) counted near
 
 -- in the long run, packets over time

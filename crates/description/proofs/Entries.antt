@@ -1,5 +1,6 @@
 -- What the PMTs say beside a program's own streams.
-use Rattle.std.proofs.Common.{◌≡◌, ◌<◌, ℕ, zero, suc, ◌==◌, ◌||◌, Bool, true, false, cond, List, [], ◌∷◌, ◌++◌, length, map, filter, Option, Some, None, slice_get, option_map, option_and_then, All, Contains, refl, sym, ap, subst, ◌∙◌, arith, append-nil, if◌then◌else◌}
+use Rattle.std.proofs.Common.{◌≡◌, ◌<◌, ℕ, zero, suc, ◌==◌, ◌||◌, Bool, true, false, cond, List, [], ◌∷◌, ◌++◌, length, map, filter, Option, Some, None}
+use Rattle.std.proofs.Common.{slice_get, option_map, option_and_then, All, Contains, refl, sym, ap, subst, ◌∙◌, arith, append-nil, if◌then◌else◌}
 use Rattle.std.specs.Prelude.{slice_index_or}
 use Rattle.std.specs.List.{filter_map, cons_option, list_any}
 use Rattle.std.proofs.lemmas.Bool.{eq-eqb}
@@ -41,7 +42,8 @@ table_there n (x ∷ xs) (suc k) t e at is of = later_has (pmt_table n x) (pmt_t
 
 pub entries : EntryLaw
 entries d p k t e at is of =
-    Contains-append_right (pmt_streams p.number d.streams ++ pmt_shared p.number d.streams) (pmt_tables p.number d.tables) (table_stream t.pid e) (table_there p.number d.tables k t e at is of)
+    Contains-append_right (pmt_streams p.number d.streams ++ pmt_shared p.number d.streams) (pmt_tables p.number d.tables) (table_stream t.pid e)
+    (table_there p.number d.tables k t e at is of)
 
 -- the streams that a program shares
 any_there : (n : ℕ) (ns : List ℕ) (k : ℕ) → k < length ns → slice_index_or ns k n ≡ n → list_any (λ m. m == n) ns ≡ true
@@ -57,7 +59,8 @@ pub shared_in_parts : (n : ℕ) (xs ys : List DescribedStream) → pmt_shared n 
 shared_in_parts n xs ys =
     ap (map pmt_stream) (filter-append (is_shared_with n) xs ys) ∙ map-append pmt_stream (filter (is_shared_with n) xs) (filter (is_shared_with n) ys)
 
-cond_has : (b : Bool) (s : DescribedStream) (ss : List DescribedStream) (y : StreamView) → Contains (map pmt_stream ss) y → Contains (map pmt_stream (cond b (s ∷ ss) ss)) y
+cond_has : (b : Bool) (s : DescribedStream) (ss : List DescribedStream) (y : StreamView) → Contains (map pmt_stream ss) y →
+    Contains (map pmt_stream (cond b (s ∷ ss) ss)) y
 cond_has true s ss y c = cons_has (pmt_stream s) (map pmt_stream ss) y c
 cond_has false s ss y c = c
 
@@ -65,7 +68,8 @@ cond_first : (b : Bool) (s : DescribedStream) (ss : List DescribedStream) → b 
 cond_first true s ss h = (0, omega arith, refl)
 cond_first false s ss h = absurd (cc)
 
-shared_there : (n : ℕ) (ss : List DescribedStream) (k : ℕ) (s : DescribedStream) → slice_get ss k ≡ Some s → is_shared_with n s ≡ true → Contains (pmt_shared n ss) (pmt_stream s)
+shared_there : (n : ℕ) (ss : List DescribedStream) (k : ℕ) (s : DescribedStream) → slice_get ss k ≡ Some s → is_shared_with n s ≡ true →
+    Contains (pmt_shared n ss) (pmt_stream s)
 shared_there n [] k s at is = absurd (cc)
 shared_there n (x ∷ xs) zero s at is =
     let same : x ≡ s = cc in
@@ -85,7 +89,8 @@ not_there n t is = ap (λ (o : Option DescribedEntry). option_map (table_stream 
 none_there : (n : ℕ) (ts : List DescribedTable) → All (λ t. t.entry ≡ None) ts → pmt_tables n ts ≡ []
 none_there n [] h = refl
 none_there n (t ∷ ts) h =
-    ap (λ (o : Option StreamView). cons_option o (pmt_tables n ts)) (not_there n t (All-head (λ t. t.entry ≡ None) t ts h)) ∙ none_there n ts (All-tail (λ t. t.entry ≡ None) t ts h)
+    ap (λ (o : Option StreamView). cons_option o (pmt_tables n ts)) (not_there n t (All-head (λ t. t.entry ≡ None) t ts h))
+    ∙ none_there n ts (All-tail (λ t. t.entry ≡ None) t ts h)
 
 cond_none : (b : Bool) (s : DescribedStream) (ss : List DescribedStream) → b ≡ false → cond b (s ∷ ss) ss ≡ ss
 cond_none true s ss h = absurd (cc)

@@ -1,5 +1,6 @@
 -- How long loops of entries are, and their descriptors.
-use Rattle.std.proofs.Common.{◌≡◌, ℕ, ◌+◌, ◌*◌, ◌/◌, ◌%◌, ◌≤◌, List, [], ◌∷◌, ◌++◌, length, flat_map, Option, None, Some, All, arith, ap, ◌∙◌, length-append, refl, is_some, if◌then◌else◌}
+use Rattle.std.proofs.Common.{◌≡◌, ℕ, ◌+◌, ◌*◌, ◌/◌, ◌%◌, ◌≤◌, List, [], ◌∷◌, ◌++◌, length, flat_map, Option, None, Some, All, arith, ap, ◌∙◌, length-append}
+use Rattle.std.proofs.Common.{refl, is_some, if◌then◌else◌}
 use Rattle.std.proofs.lemmas.List.Elements.{All-head}
 use Rattle.std.specs.Option.{option_to_list}
 use Rattle.psi_tables.specs.ProgramMap.{StreamView, streams_bytes, stream_bytes}
@@ -28,7 +29,8 @@ pub length_service_bytes : (s : ServiceView) → length (service_bytes s) ≡ 5 
 unfolding service_bytes service_front
 length_service_bytes s = omega arith
 
-pub services_bytes-push : (ss : List ServiceView) (s : ServiceView) → length (services_bytes (ss ++ s ∷ [])) ≡ length (services_bytes ss) + 5 + length s.descriptors
+pub services_bytes-push : (ss : List ServiceView) (s : ServiceView) → length (services_bytes (ss ++ s ∷ [])) ≡ length (services_bytes ss) + 5
+    + length s.descriptors
 unfolding services_bytes
 services_bytes-push ss s = omega (arith, flat_push service_bytes ss s, length_service_bytes s)
 
@@ -40,7 +42,8 @@ pub transport_streams_bytes-one : (t : TransportStreamView) → length (transpor
 unfolding transport_streams_bytes
 transport_streams_bytes-one t = omega (arith, length-append (transport_stream_bytes t) [], length_transport_stream_bytes t)
 
-pub service_descriptor-length : (service_type : ℕ) (provider name : List ℕ) → length (service_descriptor service_type provider name) ≡ 5 + length provider + length name
+pub service_descriptor-length : (service_type : ℕ) (provider name : List ℕ) → length (service_descriptor service_type provider name) ≡ 5 + length provider
+    + length name
 unfolding service_descriptor
 service_descriptor-length service_type provider name = omega (arith, length-append provider (length name ∷ name))
 
@@ -80,7 +83,8 @@ language-most None h = omega arith
 language-most (Some language) h = let is = language-length (Some language) h in omega (arith, is)
 
 -- the number of bytes once an entry was pushed
-pub encoded_length : {X : Type 0} (encode : List X → List ℕ) (entries after : List X) (n : ℕ) → entries ≡ after → length (encode after) ≡ n → length (encode entries) ≡ n
+pub encoded_length : {X : Type 0} (encode : List X → List ℕ) (entries after : List X) (n : ℕ) → entries ≡ after → length (encode after) ≡ n →
+    length (encode entries) ≡ n
 encoded_length {X = X} encode entries after n is h = ap (λ (xs : List X). length (encode xs)) is ∙ h
 
 -- an empty loop

@@ -1,5 +1,6 @@
 -- How often a number stands in a list, and that no PID stands twice among those of an output.
-use Rattle.std.proofs.Common.{◌≡◌, ◌⊎◌, ℕ, zero, suc, ◌+◌, ◌<◌, ◌≤◌, ◌==◌, nat_eq, nat_lt, Bool, true, false, cond, List, [], ◌∷◌, ◌++◌, map, slice_get, Some, refl, ap, sym, ◌∙◌, arith, sum_by, All, inl, inr, eq-eqb}
+use Rattle.std.proofs.Common.{◌≡◌, ◌⊎◌, ℕ, zero, suc, ◌+◌, ◌<◌, ◌≤◌, ◌==◌, nat_eq, nat_lt, Bool, true, false, cond, List, [], ◌∷◌, ◌++◌, map, slice_get, Some}
+use Rattle.std.proofs.Common.{refl, ap, sym, ◌∙◌, arith, sum_by, All, inl, inr, eq-eqb}
 use Rattle.std.proofs.lemmas.Bool.{and_parts, eqb-true, ltb-true, ne_eqb, cases_Bool}
 use Rattle.std.proofs.lemmas.List.Sums.{sum_by-cons, sum_by-append}
 use Rattle.std.proofs.lemmas.List.Elements.{All-head, All-tail}
@@ -23,7 +24,8 @@ here : (x y : ℕ) (ys : List ℕ) → x ≡ y → times x (y ∷ ys) ≡ 1 + ti
 here x y ys e = times-cons x y ys ∙ ap (λ (b : Bool). cond {A = ℕ} b 1 0 + times x ys) (eq-eqb x y e)
 
 not_here : (x y : ℕ) (ys : List ℕ) → (x == y) ≡ false → times x (y ∷ ys) ≡ times x ys
-not_here x y ys n = let z : cond {A = ℕ} false 1 0 + times x ys ≡ times x ys = omega arith in times-cons x y ys ∙ ap (λ (b : Bool). cond {A = ℕ} b 1 0 + times x ys) n ∙ z
+not_here x y ys n = let z : cond {A = ℕ} false 1 0 + times x ys ≡ times x ys =
+    omega arith in times-cons x y ys ∙ ap (λ (b : Bool). cond {A = ℕ} b 1 0 + times x ys) n ∙ z
 
 -- a place of the list has it
 pub some_times : (x : ℕ) (ys : List ℕ) (i : ℕ) → slice_get ys i ≡ Some x → 0 < times x ys

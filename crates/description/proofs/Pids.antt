@@ -1,5 +1,6 @@
 -- No two parts of a description share a PID, and where the PIDs stand.
-use Rattle.std.proofs.Common.{◌≡◌, ◌⊎◌, ℕ, zero, suc, ◌+◌, ◌<◌, ◌≤◌, Bool, true, false, List, [], ◌∷◌, ◌++◌, length, map, slice_get, Option, None, Some, is_some, refl, ap, sym, subst, ◌∙◌, arith, All, inl, inr, add-zero, zero-add}
+use Rattle.std.proofs.Common.{◌≡◌, ◌⊎◌, ℕ, zero, suc, ◌+◌, ◌<◌, ◌≤◌, Bool, true, false, List, [], ◌∷◌, ◌++◌, length, map, slice_get, Option, None, Some}
+use Rattle.std.proofs.Common.{is_some, refl, ap, sym, subst, ◌∙◌, arith, All, inl, inr, add-zero, zero-add}
 use Rattle.std.proofs.lemmas.Bool.{cases_lt}
 use Rattle.std.proofs.lemmas.List.{length-map, map-append}
 use Rattle.std.proofs.lemmas.List.Elements.{All-head, All-tail, All-nil, All-cons}
@@ -68,7 +69,8 @@ service_times d x =
 -- the PIDs of a description, counted
 record Counts (d : Described) (x : ℕ) : Type 0 where
   all : times x (all_pids d) ≤ times x fixed + times x (named_pids d)
-  named : times x (named_pids d) ≡ times x (map (λ p. p.pmt_pid) d.programs) + times x (map (λ p. p.pcr_pid) d.programs) + times x (map (λ s. s.pid) d.streams) + times x (map (λ t. t.pid) d.tables)
+  named : times x (named_pids d) ≡ times x (map (λ p. p.pmt_pid) d.programs) + times x (map (λ p. p.pcr_pid) d.programs) + times x (map (λ s. s.pid) d.streams)
+      + times x (map (λ t. t.pid) d.tables)
 
 counts : (d : Described) (x : ℕ) → Counts d x
 counts d x = record { all = omega (arith, a, b, c, e, service_times d x, named_is, pat_and_pmts, f, g); named = named_is }
@@ -94,7 +96,8 @@ counts d x = record { all = omega (arith, a, b, c, e, service_times d x, named_i
     tables_are : map (kind_pid d) (table_kinds d) ≡ (0 ∷ pmts) ++ (services ++ privates)
     tables_are =
         map-append (kind_pid d) (Pat ∷ map Pmt (numbers_from 0 d.programs)) (service_tables d ++ map Private (numbers_from 0 d.tables))
-        ∙ ap (λ (l : List ℕ). (0 ∷ map (kind_pid d) (map Pmt (numbers_from 0 d.programs))) ++ l) (map-append (kind_pid d) (service_tables d) (map Private (numbers_from 0 d.tables)))
+        ∙ ap (λ (l : List ℕ). (0 ∷ map (kind_pid d) (map Pmt (numbers_from 0 d.programs))) ++ l)
+        (map-append (kind_pid d) (service_tables d) (map Private (numbers_from 0 d.tables)))
         ∙ ap (λ (l : List ℕ). (0 ∷ l) ++ (services ++ map (kind_pid d) (map Private (numbers_from 0 d.tables)))) (pmt_pids d)
         ∙ ap (λ (l : List ℕ). (0 ∷ pmts) ++ (services ++ l)) (private_pids d)
 
@@ -155,7 +158,14 @@ pub pids_below : PidsBelowLaw
 unfolding fixed
 pids_below d i pid r e = elim (cases_lt pid 8191) [
   | inl lt ↦ lt
-  | inr high ↦ absurd (omega (arith, some_times pid (all_pids d) i e, (counts d pid).all, named_outside d pid r (inr (omega (arith, high))), none_low pid fixed refl (omega (arith, high))))
+  | inr high ↦ absurd
+      (omega (
+        arith,
+        some_times pid (all_pids d) i e,
+        (counts d pid).all,
+        named_outside d pid r (inr (omega (arith, high))),
+        none_low pid fixed refl (omega (arith, high)),
+      ))
 ]
 
 -- an element by its place in a list of which all are alike
@@ -196,7 +206,8 @@ table_place d t None e lt = absurd (none_there (table_kinds d) t lt e)
     none_there (k ∷ ks) (suc i) lt e = none_there ks i (omega (arith, lt)) e
 table_place d t (Some kind) e lt =
     let pid : kind_pid d kind ≡ table_pid d t = rw e refl in
-    get_left (map (kind_pid d) (table_kinds d)) (map (λ p. p.pcr_pid) d.programs ++ map (λ s. s.pid) d.streams) t (kind_pid d kind) (get_map (kind_pid d) (table_kinds d) t kind e)
+    get_left (map (kind_pid d) (table_kinds d)) (map (λ p. p.pcr_pid) d.programs ++ map (λ s. s.pid) d.streams) t (kind_pid d kind)
+    (get_map (kind_pid d) (table_kinds d) t kind e)
     ∙ ap Some pid
 
 pub pid_positions : PidPositionsLaw

@@ -30,7 +30,8 @@ pub is_described : (document : Data) (contents : Described) → key_fault docume
     → joint_fault contents document ≡ None → Ok contents ≡ read_document document
 is_described document contents keys is joint =
     let joint_too : joint_fault (described document) document ≡ None = sym (ap (λ (d : Described). joint_fault d document) is) ∙ joint in
-    ap ok is ∙ sym (decided (described document) (fault document) None (second (key_fault document) (joint_fault (described document) document) keys ∙ joint_too))
+    ap ok is ∙ sym
+    (decided (described document) (fault document) None (second (key_fault document) (joint_fault (described document) document) keys ∙ joint_too))
 
 pub is_refused : (document : Data) (contents : Described) (f : DescFault) → key_fault document ≡ None → contents ≡ described document
     → joint_fault contents document ≡ Some f → Err (Refused f) ≡ read_document document

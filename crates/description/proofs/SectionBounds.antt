@@ -1,5 +1,6 @@
 -- No section is longer than its greatest length.
-use Rattle.std.proofs.Common.{◌≡◌, ℕ, suc, zero, subst, ◌+◌, ◌/◌, ◌%◌, ◌<◌, ◌≤◌, ◌==◌, max, Bool, true, false, cond, List, [], ◌∷◌, ◌++◌, length, map, filter, find, flat_map, get_or, slice_get, sum_by, option_map, Option, None, Some, refl, ap, arith, length-append, All, if◌then◌else◌}
+use Rattle.std.proofs.Common.{◌≡◌, ℕ, suc, zero, subst, ◌+◌, ◌/◌, ◌%◌, ◌<◌, ◌≤◌, ◌==◌, max, Bool, true, false, cond, List, [], ◌∷◌, ◌++◌, length, map, filter}
+use Rattle.std.proofs.Common.{find, flat_map, get_or, slice_get, sum_by, option_map, Option, None, Some, refl, ap, arith, length-append, All, if◌then◌else◌}
 use Rattle.std.proofs.lemmas.List.{length-map}
 use Rattle.std.proofs.lemmas.List.Elements.{All-head, All-tail, All-filter}
 use Rattle.std.proofs.lemmas.List.Sums.{sum_by-cons}
@@ -25,11 +26,16 @@ use Rattle.dvb_tables.specs.declared.running_status.RunningStatus.TheVariants.{R
 use Rattle.dvb_tables.proofs.BodyLengths.{nit_body_length, sdt_body_length, eit_body_length}
 use Rattle.description_parts.specs.Described.{Described, DescribedNetwork, DescribedProgram, DescribedStream, DescribedEvent, DescribedEntry, DescribedTable}
 use Rattle.description_parts.specs.Ranges.{IsInRange, IsProgram, IsStream, IsEvent}
-use Rattle.description_parts.specs.Tables.{has_event, pat_length, pmt_length, nit_length, sdt_length, eit_length, eit_lengths, es_info_length, entry_length, is_shared_with, shared_length, entry_in, listed_length, service_length, event_length, longest_event, kind_lengths, section_lengths, scheduled_programs, table_kind, greatest_length}
-use Rattle.description.specs.SectionBytes.{network_entries, pat_entry, pat_says, pmt_stream, is_of_program, pmt_streams, pmt_shared, table_stream, pmt_table, pmt_tables, pmt_says, network_stream, nit_says, service_says, sdt_says, event_says, is_present_event, is_following_event, eit_says, eit_bytes, tdt_bytes, kind_bytes, table_bytes}
+use Rattle.description_parts.specs.Tables.{has_event, pat_length, pmt_length, nit_length, sdt_length, eit_length, eit_lengths, es_info_length, entry_length}
+use Rattle.description_parts.specs.Tables.{is_shared_with, shared_length, entry_in, listed_length, service_length, event_length, longest_event, kind_lengths}
+use Rattle.description_parts.specs.Tables.{section_lengths, scheduled_programs, table_kind, greatest_length}
+use Rattle.description.specs.SectionBytes.{network_entries, pat_entry, pat_says, pmt_stream, is_of_program, pmt_streams, pmt_shared, table_stream, pmt_table}
+use Rattle.description.specs.SectionBytes.{pmt_tables, pmt_says, network_stream, nit_says, service_says, sdt_says, event_says, is_present_event}
+use Rattle.description.specs.SectionBytes.{is_following_event, eit_says, eit_bytes, tdt_bytes, kind_bytes, table_bytes}
 use Rattle.description_parts.specs.declared.table_kind.TableKind.{TableKind}
 use Rattle.description_parts.specs.declared.table_kind.TableKind.TheVariants as kind
-use Rattle.description.proofs.LoopLengths.{stream_descriptors-length, transport_streams_bytes-one, network_name_descriptor-length, service_descriptor-length, length_service_bytes, length_event_bytes}
+use Rattle.description.proofs.LoopLengths.{stream_descriptors-length, transport_streams_bytes-one, network_name_descriptor-length, service_descriptor-length}
+use Rattle.description.proofs.LoopLengths.{length_service_bytes, length_event_bytes}
 
 -- a section of the long form
 long_section_length : (table_id : ℕ) (private : Bool) (h : LongHeader) (body : List ℕ)
@@ -57,9 +63,15 @@ pat_fits d =
 
 -- the streams of a program, and those that it shares
 one_stream : (b : Bool) (s : DescribedStream) (rest : List DescribedStream) → IsStream s
-    → length (flat_map stream_bytes (map pmt_stream (cond b (s ∷ rest) rest))) ≡ (if b then 5 + es_info_length s else 0) + length (flat_map stream_bytes (map pmt_stream rest))
+    → length (flat_map stream_bytes (map pmt_stream (cond b (s ∷ rest) rest))) ≡ (if b then 5 + es_info_length s else 0)
+    + length (flat_map stream_bytes (map pmt_stream rest))
 one_stream true s rest h =
-    omega (arith, length-append (stream_bytes (pmt_stream s)) (flat_map stream_bytes (map pmt_stream rest)), length_stream_bytes (pmt_stream s), stream_descriptors-length s h)
+    omega (
+      arith,
+      length-append (stream_bytes (pmt_stream s)) (flat_map stream_bytes (map pmt_stream rest)),
+      length_stream_bytes (pmt_stream s),
+      stream_descriptors-length s h,
+    )
 one_stream false s rest h = omega arith
 
 streams_length : (p : DescribedStream → Bool) (ss : List DescribedStream) → All IsStream ss
@@ -79,7 +91,8 @@ one_table : (pid : ℕ) (o : Option DescribedEntry) (rest : List StreamView)
     → length (flat_map stream_bytes (cons_option (option_map (table_stream pid) o) rest))
     ≡ (elim o as (λ _. ℕ) [ None ↦ 0 | Some e ↦ 5 + length e.descriptors ]) + length (flat_map stream_bytes rest)
 one_table pid None rest = omega arith
-one_table pid (Some e) rest = omega (arith, length-append (stream_bytes (table_stream pid e)) (flat_map stream_bytes rest), length_stream_bytes (table_stream pid e))
+one_table pid (Some e) rest =
+    omega (arith, length-append (stream_bytes (table_stream pid e)) (flat_map stream_bytes rest), length_stream_bytes (table_stream pid e))
 
 tables_length : (n : ℕ) (ts : List DescribedTable) → length (streams_bytes (pmt_tables n ts)) ≡ sum_by (listed_length n) ts
 unfolding streams_bytes
@@ -113,7 +126,14 @@ pmt_fits d p h =
 
 nit_fits : (d : Described) (n : DescribedNetwork) → length (section_bytes (nit_section (nit_says d n))) ≡ nit_length n
 unfolding nit_section
-nit_fits d n = omega (arith, long_section_length 0x40 true (nit_says d n).header (nit_body (nit_says d n)), nit_body_length (nit_says d n), transport_streams_bytes-one (network_stream d n), network_name_descriptor-length n.name)
+nit_fits d n =
+    omega (
+      arith,
+      long_section_length 0x40 true (nit_says d n).header (nit_body (nit_says d n)),
+      nit_body_length (nit_says d n),
+      transport_streams_bytes-one (network_stream d n),
+      network_name_descriptor-length n.name,
+    )
 
 services_length : (ps : List DescribedProgram) → length (services_bytes (map service_says ps)) ≡ sum_by service_length ps
 unfolding services_bytes
@@ -158,7 +178,9 @@ event_fits status q (e ∷ es) h =
     found_or_later status (q e) e (find q es) (longest_event es) (All-head IsEvent e es h) (event_fits status q es (All-tail IsEvent e es h))
 
 either_fits : (moment : ℕ) (p : DescribedProgram) (b : Bool) → All IsEvent p.events
-    → length (events_bytes (if b then map (event_says Running) (option_to_list (find (is_present_event moment) p.events)) else map (event_says NotRunning) (option_to_list (find (is_following_event moment) p.events))))
+    → length (events_bytes
+    (if b then map (event_says Running) (option_to_list (find (is_present_event moment) p.events)) else map (event_says NotRunning)
+    (option_to_list (find (is_following_event moment) p.events))))
     ≤ longest_event p.events
 either_fits moment p true h = event_fits Running (is_present_event moment) p.events h
 either_fits moment p false h = event_fits NotRunning (is_following_event moment) p.events h
@@ -166,7 +188,12 @@ either_fits moment p false h = event_fits NotRunning (is_following_event moment)
 eit_fits : (d : Described) (moment : ℕ) (p : DescribedProgram) (number : ℕ) → All IsEvent p.events → length (eit_bytes d moment p number) ≤ eit_length p
 unfolding eit_section
 eit_fits d moment p number h =
-    omega (arith, long_section_length 0x4E true (eit_says d moment p number).header (eit_body (eit_says d moment p number)), eit_body_length (eit_says d moment p number), either_fits moment p (number == 0) h)
+    omega (
+      arith,
+      long_section_length 0x4E true (eit_says d moment p number).header (eit_body (eit_says d moment p number)),
+      eit_body_length (eit_says d moment p number),
+      either_fits moment p (number == 0) h,
+    )
 
 eit_at : (ps : List DescribedProgram) (j : ℕ) (p : DescribedProgram) → slice_get ps (j / 2) ≡ Some p → get_or (eit_lengths ps) j 0 ≡ eit_length p
 eit_at [] j p h = absurd (cc)
@@ -176,8 +203,10 @@ eit_at (q ∷ qs) (suc (suc k)) p h =
     let is : suc (suc k) / 2 ≡ suc (k / 2) = omega arith in
     eit_at qs k p (rw is at h)
 
-event_section_fits : (d : Described) (section moment : ℕ) (o : Option DescribedProgram) → slice_get (scheduled_programs d) (section / 2) ≡ o → All IsProgram d.programs
-    → length (elim o as (λ _. List ℕ) [ None ↦ [] | Some program ↦ eit_bytes d moment program (section % 2) ]) ≤ get_or (eit_lengths (scheduled_programs d)) section 0
+event_section_fits : (d : Described) (section moment : ℕ) (o : Option DescribedProgram) → slice_get (scheduled_programs d) (section / 2) ≡ o →
+    All IsProgram d.programs
+    → length (elim o as (λ _. List ℕ) [ None ↦ [] | Some program ↦ eit_bytes d moment program (section % 2) ]) ≤ get_or (eit_lengths (scheduled_programs d))
+    section 0
 event_section_fits d section moment None is h = omega arith
 event_section_fits d section moment (Some p) is h =
     let at = eit_at (scheduled_programs d) section p is in
@@ -200,13 +229,16 @@ first_of : (n section : ℕ) → section < 1 → get_or (n ∷ []) section 0 ≡
 first_of n zero h = refl
 first_of n (suc k) h = absurd (omega arith)
 
-map_section_fits : (d : Described) (o : Option DescribedProgram) (section : ℕ) → All IsStream d.streams → section < length (map (pmt_length d) (option_to_list o))
-    → length (elim o as (λ _. List ℕ) [ None ↦ [] | Some program ↦ section_bytes (pmt_section (pmt_says d program)) ]) ≤ get_or (map (pmt_length d) (option_to_list o)) section 0
+map_section_fits : (d : Described) (o : Option DescribedProgram) (section : ℕ) → All IsStream d.streams →
+    section < length (map (pmt_length d) (option_to_list o))
+    → length (elim o as (λ _. List ℕ) [ None ↦ [] | Some program ↦ section_bytes (pmt_section (pmt_says d program)) ]) ≤ get_or
+    (map (pmt_length d) (option_to_list o)) section 0
 map_section_fits d None section h within = omega arith
 map_section_fits d (Some p) section h within = omega (arith, pmt_fits d p h, first_of (pmt_length d p) section within)
 
 network_section_fits : (d : Described) (o : Option DescribedNetwork) (section : ℕ) → section < length (map nit_length (option_to_list o))
-    → length (elim o as (λ _. List ℕ) [ None ↦ [] | Some network ↦ section_bytes (nit_section (nit_says d network)) ]) ≤ get_or (map nit_length (option_to_list o)) section 0
+    → length (elim o as (λ _. List ℕ) [ None ↦ [] | Some network ↦ section_bytes (nit_section (nit_says d network)) ]) ≤ get_or
+    (map nit_length (option_to_list o)) section 0
 network_section_fits d None section within = omega arith
 network_section_fits d (Some n) section within = omega (arith, nit_fits d n, first_of (nit_length n) section within)
 

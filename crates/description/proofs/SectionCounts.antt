@@ -1,12 +1,14 @@
 -- Each table has a section, and at most 32.
-use Rattle.std.proofs.Common.{◌≡◌, ℕ, zero, suc, ◌+◌, ◌*◌, ◌<◌, ◌≤◌, Bool, true, false, List, [], ◌∷◌, ◌++◌, length, map, filter, slice_get, sum_by, Option, None, Some, is_some, refl, ap, sym, subst, ◌∙◌, arith, All, zero-add}
+use Rattle.std.proofs.Common.{◌≡◌, ℕ, zero, suc, ◌+◌, ◌*◌, ◌<◌, ◌≤◌, Bool, true, false, List, [], ◌∷◌, ◌++◌, length, map, filter, slice_get, sum_by, Option}
+use Rattle.std.proofs.Common.{None, Some, is_some, refl, ap, sym, subst, ◌∙◌, arith, All, zero-add}
 use Rattle.std.proofs.lemmas.List.{length-map}
 use Rattle.std.proofs.lemmas.List.Sums.{sum_by-cons, length-filter, count_by-le-length}
 use Rattle.std.proofs.lemmas.List.Elements.{All-nil, All-cons, All-append}
 use Rattle.std.specs.List.{list_any}
 use Rattle.description_parts.specs.Described.{Described, DescribedProgram, DescribedTable}
 use Rattle.description_parts.specs.Ranges.{IsInRange, IsTable}
-use Rattle.description_parts.specs.Tables.{numbers_from, only_if, has_event, scheduled_programs, service_tables, table_kinds, table_count, table_kind, kind_lengths, eit_lengths, packets_of_section, section_lengths, section_count}
+use Rattle.description_parts.specs.Tables.{numbers_from, only_if, has_event, scheduled_programs, service_tables, table_kinds, table_count, table_kind}
+use Rattle.description_parts.specs.Tables.{kind_lengths, eit_lengths, packets_of_section, section_lengths, section_count}
 use Rattle.description_parts.specs.declared.table_kind.TableKind.{TableKind}
 use Rattle.description_parts.specs.declared.table_kind.TableKind.TheVariants.{Pat, Pmt, Nit, Sdt, Eit, Tdt, Private}
 use Rattle.description.specs.Pids.{SectionsLaw}
@@ -20,7 +22,8 @@ record Some32 (d : Described) (k : TableKind) : Type 0 where
 of_one : (d : Described) (k : TableKind) → length (kind_lengths d k) ≡ 1 → Some32 d k
 of_one d k e = record { some = omega (arith, e); most = omega (arith, e) }
 
-numbered : (d : Described) {X : Type 0} (c : ℕ → TableKind) (n : ℕ) (xs : List X) → ((i : ℕ) (x : X) → slice_get xs i ≡ Some x → Some32 d (c (n + i))) → All (Some32 d) (map c (numbers_from n xs))
+numbered : (d : Described) {X : Type 0} (c : ℕ → TableKind) (n : ℕ) (xs : List X) → ((i : ℕ) (x : X) → slice_get xs i ≡ Some x → Some32 d (c (n + i))) →
+    All (Some32 d) (map c (numbers_from n xs))
 numbered d c n [] h = All-nil (Some32 d)
 numbered d c n (x ∷ xs) h =
     let zero_on : n + 0 ≡ n = omega arith in
@@ -54,7 +57,8 @@ kinds_good : (d : Described) → IsInRange d → All (Some32 d) (table_kinds d)
 kinds_good d r =
     All-append (Some32 d) (Pat ∷ map Pmt (numbers_from 0 d.programs)) (service_tables d ++ map Private (numbers_from 0 d.tables))
     (All-cons (Some32 d) Pat (map Pmt (numbers_from 0 d.programs)) (of_one d Pat refl)
-    (numbered d Pmt 0 d.programs (λ i p e. let f : slice_get d.programs (0 + i) ≡ Some p = ap (slice_get d.programs) (zero-add i) ∙ e in of_one d (Pmt (0 + i)) (rw f refl))))
+    (numbered d Pmt 0 d.programs (λ i p e. let f : slice_get d.programs (0 + i) ≡ Some p = ap (slice_get d.programs) (zero-add i) ∙ e in
+    of_one d (Pmt (0 + i)) (rw f refl))))
     (All-append (Some32 d) (service_tables d) (map Private (numbers_from 0 d.tables))
     (All-append (Some32 d) (nit ++ sdt ++ eit) tdt
     (All-append (Some32 d) (nit ++ sdt) eit
@@ -80,7 +84,11 @@ kinds_good d r =
     events : list_any has_event d.programs ≡ true → Some32 d Eit
     events y =
         let all : length (kind_lengths d Eit) ≡ 2 * length (scheduled_programs d) = eit_count (scheduled_programs d) in
-        record { some = omega (arith, all, some_filtered d.programs y); most = omega (arith, all, length-filter has_event d.programs, count_by-le-length has_event d.programs, r.most_programs) }
+        record {
+          some = omega (arith, all, some_filtered d.programs y);
+          most =
+              omega (arith, all, length-filter has_event d.programs, count_by-le-length has_event d.programs, r.most_programs);
+        }
 
     private : (i : ℕ) (t : DescribedTable) → slice_get d.tables i ≡ Some t → IsTable t → Some32 d (Private i)
     private i t e is =
@@ -91,7 +99,8 @@ some_places : (ls : List ℕ) → 0 < length ls → 0 < sum_by packets_of_sectio
 some_places [] some = absurd (omega (arith, some))
 some_places (l ∷ ls) some = omega (arith, sum_by-cons packets_of_section l ls)
 
-by_kind : (d : Described) (t : ℕ) (o : Option TableKind) → IsInRange d → t < table_count d → table_kind d t ≡ o → (0 < section_count d t) × (section_count d t ≤ 32)
+by_kind : (d : Described) (t : ℕ) (o : Option TableKind) → IsInRange d → t < table_count d → table_kind d t ≡ o →
+    (0 < section_count d t) × (section_count d t ≤ 32)
 by_kind d t None r lt e = absurd (none_there (table_kinds d) t lt e)
   where
     none_there : (ks : List TableKind) (i : ℕ) → i < length ks → slice_get ks i ≡ None → ⊥

@@ -1,6 +1,7 @@
 -- What each section of each table says at a moment, and its bytes (ISO/IEC 13818-1, 2.4.4; EN 300 468, 5.2). Version 0
 -- and section 0 of 0, except in the EIT.
-use Rattle.std.specs.Prelude.{ℕ, ◌+◌, ◌/◌, ◌%◌, ◌==◌, ◌&&◌, nat_le, nat_lt, Bool, true, false, List, [], ◌∷◌, ◌++◌, map, filter, find, Option, None, Some, option_map, slice_get, slice_index_or, if◌then◌else◌}
+use Rattle.std.specs.Prelude.{ℕ, ◌+◌, ◌/◌, ◌%◌, ◌==◌, ◌&&◌, nat_le, nat_lt, Bool, true, false, List, [], ◌∷◌, ◌++◌, map, filter, find, Option, None, Some}
+use Rattle.std.specs.Prelude.{option_map, slice_get, slice_index_or, if◌then◌else◌}
 use Rattle.std.specs.List.{count_by, filter_map}
 use Rattle.std.specs.Option.{option_to_list}
 use Rattle.psi_tables.specs.Encoding.{section_bytes}
@@ -8,7 +9,8 @@ use Rattle.psi_tables.specs.declared.section.LongHeader.{LongHeader}
 use Rattle.psi_tables.specs.declared.pat.programs.Program.{Program as PatEntry}
 use Rattle.psi_tables.specs.ProgramAssociation.{PatView, pat_section}
 use Rattle.psi_tables.specs.ProgramMap.{PmtView, StreamView, pmt_section}
-use Rattle.dvb_tables.specs.Descriptors.{iso_639_language_descriptor, network_name_descriptor, service_descriptor, short_event_descriptor, stream_identifier_descriptor}
+use Rattle.dvb_tables.specs.Descriptors.{iso_639_language_descriptor, network_name_descriptor, service_descriptor, short_event_descriptor}
+use Rattle.dvb_tables.specs.Descriptors.{stream_identifier_descriptor}
 use Rattle.dvb_tables.specs.CodedTimes.{utc_time_bytes, clock_bytes}
 use Rattle.dvb_tables.specs.TransportStreams.{TransportStreamView}
 use Rattle.dvb_tables.specs.NetworkInformation.{NitView, nit_section}
@@ -146,7 +148,14 @@ section_events moment p number =
 
 abbrev pub eit_says : Described → ℕ → DescribedProgram → ℕ → EitView
 eit_says d moment p number = record {
-  header = record { table_id_extension = p.number; version_number = eit_version moment p; current_next = true; section_number = number; last_section_number = 1 };
+  header = record {
+    table_id_extension = p.number;
+    version_number = eit_version moment p;
+    current_next = true;
+    section_number = number;
+    last_section_number =
+        1;
+  };
   transport_stream_id = d.transport_stream_id;
   original_network_id = d.original_network_id;
   segment_last_section_number = 1;
@@ -167,7 +176,8 @@ kind_bytes d kind.Pat section moment = section_bytes (pat_section (pat_says d))
 kind_bytes d (kind.Pmt p) section moment = elim (slice_get d.programs p) [ None ↦ [] | Some program ↦ section_bytes (pmt_section (pmt_says d program)) ]
 kind_bytes d kind.Nit section moment = elim d.network [ None ↦ [] | Some network ↦ section_bytes (nit_section (nit_says d network)) ]
 kind_bytes d kind.Sdt section moment = if d.has_sdt then section_bytes (sdt_section (sdt_says d)) else []
-kind_bytes d kind.Eit section moment = elim (slice_get (scheduled_programs d) (section / 2)) [ None ↦ [] | Some program ↦ eit_bytes d moment program (section % 2) ]
+kind_bytes d kind.Eit section moment =
+    elim (slice_get (scheduled_programs d) (section / 2)) [ None ↦ [] | Some program ↦ eit_bytes d moment program (section % 2) ]
 kind_bytes d kind.Tdt section moment = tdt_bytes moment
 kind_bytes d (kind.Private i) section moment = elim (slice_get d.tables i) [ None ↦ [] | Some private ↦ slice_index_or private.sections section [] ]
 

@@ -24,7 +24,8 @@ use Rattle.description_keys.specs.declared.event_keys.EventKey.TheVariants as ev
 use Rattle.description_keys.specs.declared.table_keys.TableKey.{TableKey}
 use Rattle.description_keys.specs.declared.table_keys.TableKey.TheVariants as table
 use Rattle.description_keys.specs.declared.fault.DescFault.{DescFault}
-use Rattle.description_keys.specs.declared.fault.DescFault.TheVariants.{UnknownKey, Top, Network, NetworkKey as InNetwork, Programs, Program, Streams, Stream, Events, Event, Tables, Table}
+use Rattle.description_keys.specs.declared.fault.DescFault.TheVariants.{UnknownKey, Top, Network, NetworkKey as InNetwork, Programs, Program, Streams, Stream}
+use Rattle.description_keys.specs.declared.fault.DescFault.TheVariants.{Events, Event, Tables, Table}
 
 -- the keys of each kind in the order of their codes
 abbrev pub top_keys : List TopKey
@@ -34,7 +35,8 @@ abbrev pub network_keys : List NetworkKey
 network_keys = network.Id ∷ network.Name ∷ network.Descriptors ∷ []
 
 abbrev pub program_keys : List ProgramKey
-program_keys = program.Number ∷ program.PmtPid ∷ program.PcrPid ∷ program.PcrLimit ∷ program.Descriptors ∷ program.ServiceType ∷ program.Provider ∷ program.Name ∷ []
+program_keys = program.Number ∷ program.PmtPid ∷ program.PcrPid ∷ program.PcrLimit ∷ program.Descriptors ∷ program.ServiceType ∷ program.Provider ∷ program.Name
+    ∷ []
 
 abbrev pub stream_keys : List StreamKey
 stream_keys = stream.Program ∷ stream.Pid ∷ stream.StreamId ∷ stream.StreamType ∷ stream.Interval ∷ stream.Size ∷ stream.Lead ∷ stream.Rx ∷ stream.Main

@@ -1,15 +1,19 @@
 -- The keys of a table of the array `stream`.
-use Rattle.std.specs.Prelude.{ℕ, pos, ◌+◌, ◌-◌, ◌*◌, ◌/◌, max, ◌&&◌, ◌||◌, ◌==◌, not, nat_le, Bool, true, false, List, [], ◌∷◌, length, Option, None, Some, codes, is_none, is_some, unwrap_or, option_and_then, if◌then◌else◌}
+use Rattle.std.specs.Prelude.{ℕ, pos, ◌+◌, ◌-◌, ◌*◌, ◌/◌, max, ◌&&◌, ◌||◌, ◌==◌, not, nat_le, Bool, true, false, List, [], ◌∷◌, length, Option, None, Some}
+use Rattle.std.specs.Prelude.{codes, is_none, is_some, unwrap_or, option_and_then, if◌then◌else◌}
 use Rattle.std.specs.List.{list_any, list_all, filter_map}
 use Rattle.toml.specs.Data.{Data, get}
 use Rattle.unit_timing.specs.declared.allowance.Allowance.{Allowance}
 use Rattle.unit_timing.specs.declared.allowance.Allowance.TheVariants as allowance
 use Rattle.unit_timing.specs.declared.framing.Framing.{Framing}
 use Rattle.unit_timing.specs.declared.multiplexing_buffer.MultiplexingBuffer.{MultiplexingBuffer}
-use Rattle.description_values.specs.Values.{at_key, integer_in, integer_at, integer_or, optional_integer, optional_language, descriptors_or_none, elements, array_in, is_distinct}
+use Rattle.description_values.specs.Values.{at_key, integer_in, integer_at, integer_or, optional_integer, optional_language, descriptors_or_none, elements}
+use Rattle.description_values.specs.Values.{array_in, is_distinct}
 use Rattle.description_keys.specs.ProgramKeys.{program_number}
 use Rattle.description_keys.specs.declared.stream_keys.StreamKey.{StreamKey}
-use Rattle.description_keys.specs.declared.stream_keys.StreamKey.TheVariants.{Program, Pid, StreamId, StreamType, Interval, Size, Lead, Rx, Main, Tag, Language, Descriptors, Group, GroupPackets, BurstPackets, Pace, SharedWith, Rbx, Mb, Frames, Frame, FrameSize, PtsLimit}
+use Rattle.description_keys.specs.declared.stream_keys.StreamKey.TheVariants.{Program, Pid, StreamId, StreamType, Interval, Size, Lead, Rx, Main, Tag, Language}
+use Rattle.description_keys.specs.declared.stream_keys.StreamKey.TheVariants.{Descriptors, Group, GroupPackets, BurstPackets, Pace, SharedWith, Rbx, Mb, Frames}
+use Rattle.description_keys.specs.declared.stream_keys.StreamKey.TheVariants.{Frame, FrameSize, PtsLimit}
 
 -- the number of the program that a stream or an event belongs to
 abbrev pub owner_number : Data → Option ℕ
@@ -107,7 +111,8 @@ abbrev pub greatest_group_packets : Data → ℕ
 greatest_group_packets stream = unwrap_or (stream_group stream) 1 * unit_packets stream
 
 abbrev pub stream_group_packets : Data → Option ℕ
-stream_group_packets stream = integer_or (greatest_group_packets stream) (codes "group_packets") (pos (unit_packets stream)) (pos (greatest_group_packets stream)) stream
+stream_group_packets stream =
+    integer_or (greatest_group_packets stream) (codes "group_packets") (pos (unit_packets stream)) (pos (greatest_group_packets stream)) stream
 
 -- the packets are declared by time where one of these keys stands there, and else by groups
 abbrev pub is_paced : Data → Bool

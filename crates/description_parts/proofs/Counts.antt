@@ -1,5 +1,6 @@
 -- A document whose keys are all in their ranges has as many parts as a description may have.
-use Rattle.std.proofs.Common.{◌≡◌, ℕ, get_or, inl, inr, suc, ◌≤◌, ◌&&◌, not, nat_le, Bool, true, false, List, [], ◌∷◌, length, Option, None, Some, unwrap_or, option_map, refl, ap, sym, ◌∙◌, arith, if◌then◌else◌, All, position, codes, is_some}
+use Rattle.std.proofs.Common.{◌≡◌, ℕ, get_or, inl, inr, suc, ◌≤◌, ◌&&◌, not, nat_le, Bool, true, false, List, [], ◌∷◌, length, Option, None, Some, unwrap_or}
+use Rattle.std.proofs.Common.{option_map, refl, ap, sym, ◌∙◌, arith, if◌then◌else◌, All, position, codes, is_some}
 use Rattle.std.proofs.lemmas.Bool.{and_parts, cases_lt, leb-true}
 use Rattle.std.proofs.lemmas.List.Sums.{prefix_len_passes}
 use Rattle.std.proofs.lemmas.Bool.Decides.{nat_tests}
@@ -8,12 +9,14 @@ use Rattle.std.proofs.lemmas.List.Elements.{All-map, All-same}
 use Rattle.std.specs.List.{list_all, filter_map, cons_option, AllByRecursion, prefix_len}
 use Rattle.std.specs.Option.{option_or}
 use Rattle.toml.specs.Data.{Data, get}
-use Rattle.description_values.specs.Values.{elements, elements_in, array_in, are_tables, tables_at, are_sections, sections_at, has_length, is_table, is_section, section_in}
+use Rattle.description_values.specs.Values.{elements, elements_in, array_in, are_tables, tables_at, are_sections, sections_at, has_length, is_table, is_section}
+use Rattle.description_values.specs.Values.{section_in}
 use Rattle.description_parts.specs.Contents.{described, described_sections, described_table, described_program, described_stream}
 use Rattle.description_parts.specs.Described.{Described}
 use Rattle.description_parts.specs.Ranges.{HasCounts}
 use Rattle.description_values.specs.KnownKeys.{first_refused}
-use Rattle.description_keys.specs.Refusals.{unknown_key_fault, top_fault, network_fault, program_fault, stream_fault, event_fault, table_fault, key_fault, programs_of, streams_of, tables_of, table_keys}
+use Rattle.description_keys.specs.Refusals.{unknown_key_fault, top_fault, network_fault, program_fault, stream_fault, event_fault, table_fault, key_fault}
+use Rattle.description_keys.specs.Refusals.{programs_of, streams_of, tables_of, table_keys}
 use Rattle.description_keys.specs.TableKeys.{refuses_table}
 use Rattle.description_keys.specs.declared.fault.DescFault.{DescFault}
 use Rattle.description_keys.specs.declared.fault.DescFault.TheVariants.{Programs, Streams, Tables, Table}
@@ -99,7 +102,8 @@ no_position p xs h = λ k d within.
           not_true (p (get_or xs k d)) passes
     ]
 
-first_none : {K : Type 0} (key : K) (o : Option ℕ) (rest : Option (K × ℕ)) → (elim o as (λ _. Option (K × ℕ)) [ None ↦ rest | Some place ↦ Some (key, place) ]) ≡ None
+first_none : {K : Type 0} (key : K) (o : Option ℕ) (rest : Option (K × ℕ)) →
+    (elim o as (λ _. Option (K × ℕ)) [ None ↦ rest | Some place ↦ Some (key, place) ]) ≡ None
     → (o ≡ None) × (rest ≡ None)
 first_none key None rest h = (refl, h)
 first_none key (Some place) rest h = absurd (cc)
@@ -152,17 +156,21 @@ not_false false h = absurd (cc)
 -- no key of a table is refused
 pub tables_accepted : (d : Data) → NoFault d → AllAccept (λ key. refuses_table key d) table_keys (tables_of d)
 tables_accepted d none =
-    let arrays = if_none (tables_at true (codes "table") 0 16 d) (option_map (λ p. Table p.0 p.1) (first_refused (λ key. refuses_table key d) table_keys (tables_of d))) Tables none.table in
-    all_accept (λ key. refuses_table key d) table_keys (tables_of d) (map_none (λ p. Table p.0 p.1) (first_refused (λ key. refuses_table key d) table_keys (tables_of d)) arrays.1)
+    let arrays = if_none (tables_at true (codes "table") 0 16 d)
+    (option_map (λ p. Table p.0 p.1) (first_refused (λ key. refuses_table key d) table_keys (tables_of d))) Tables none.table in
+    all_accept (λ key. refuses_table key d) table_keys (tables_of d)
+    (map_none (λ p. Table p.0 p.1) (first_refused (λ key. refuses_table key d) table_keys (tables_of d)) arrays.1)
 
 pub table_sections : (d : Data) → NoFault d → All (λ part. HasLength 1 8 (length (described_sections part))) (tables_of d)
 table_sections d none =
-    λ k other within. sections-length (get_or (tables_of d) k other) (not_false (sections_at (codes "sections") (get_or (tables_of d) k other)) ((tables_accepted d none).1.1.0 k other within))
+    λ k other within. sections-length (get_or (tables_of d) k other)
+    (not_false (sections_at (codes "sections") (get_or (tables_of d) k other)) ((tables_accepted d none).1.1.0 k other within))
 
 -- how many of each there are
 pub has_counts : (d : Data) → NoFault d → HasCounts (described d)
 has_counts d none =
-    let programs = elements-length false (codes "program") 1 16 d (λ e. absurd (cc)) (if_none (tables_at false (codes "program") 1 16 d) _ Programs none.program).0 in
+    let programs =
+    elements-length false (codes "program") 1 16 d (λ e. absurd (cc)) (if_none (tables_at false (codes "program") 1 16 d) _ Programs none.program).0 in
     let streams = elements-length true (codes "stream") 0 32 d (λ e. refl) (if_none (tables_at true (codes "stream") 0 32 d) _ Streams none.stream).0 in
     let tables = elements-length true (codes "table") 0 16 d (λ e. refl) (if_none (tables_at true (codes "table") 0 16 d) _ Tables none.table).0 in
     let p = length-map (programs_of d) (described_program d) in
@@ -173,7 +181,8 @@ has_counts d none =
       most_programs = omega (arith, p, programs.most);
       most_streams = omega (arith, s, streams.most);
       most_tables = omega (arith, t, tables.most);
-      most_sections = All-map (λ table. length table.sections ≤ 8) described_table (tables_of d) (λ k other within. (table_sections d none k other within).most);
+      most_sections =
+          All-map (λ table. length table.sections ≤ 8) described_table (tables_of d) (λ k other within. (table_sections d none k other within).most);
     }
 
 -- the counts are those of the parts alone

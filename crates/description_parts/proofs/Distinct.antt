@@ -1,5 +1,6 @@
 -- Numbers of which none stands twice, and how many events their programs have together.
-use Rattle.std.proofs.Common.{◌≡◌, ℕ, ◌+◌, ◌≤◌, ◌==◌, not, nat_eq, Bool, true, false, cond, List, [], ◌∷◌, length, map, filter, Option, None, Some, refl, sym, ◌∙◌, arith, sum_by}
+use Rattle.std.proofs.Common.{◌≡◌, ℕ, ◌+◌, ◌≤◌, ◌==◌, not, nat_eq, Bool, true, false, cond, List, [], ◌∷◌, length, map, filter, Option, None, Some, refl, sym}
+use Rattle.std.proofs.Common.{◌∙◌, arith, sum_by}
 use Rattle.std.proofs.lemmas.Bool.{and_parts, or_parts, eqb-true, eqb-false, ne_eqb}
 use Rattle.std.proofs.lemmas.List.{length-map}
 use Rattle.std.proofs.lemmas.List.Sums.{sum_by-cons}
@@ -87,7 +88,8 @@ program_events : (document : Data) (ps : List Data)
 program_events document [] = refl
 program_events document (p ∷ ps) =
     let a = sum_by-cons (λ p. length p.events) (described_program document p) (map (described_program document) ps) in
-    let b = sum_by-cons (λ n. length (filter (is_owned_by n) (events_of document))) (described_number p) (map (λ p. p.number) (map (described_program document) ps)) in
+    let b = sum_by-cons (λ n. length (filter (is_owned_by n) (events_of document))) (described_number p)
+    (map (λ p. p.number) (map (described_program document) ps)) in
     let c = length-map (filter (is_owned_by (described_number p)) (events_of document)) described_event in
     let rest = program_events document ps in
     omega (arith, a, b, c, rest)

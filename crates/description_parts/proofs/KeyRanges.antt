@@ -1,5 +1,6 @@
 -- What a key gives is in its range.
-use Rattle.std.proofs.Common.{◌≡◌, ℕ, ℤ, pos, negsuc, ◌≤◌, ◌&&◌, nat_le, Bool, true, false, List, Option, None, Some, IfSome, unwrap_or, option_map, option_and_then, refl, arith, if◌then◌else◌}
+use Rattle.std.proofs.Common.{◌≡◌, ℕ, ℤ, pos, negsuc, ◌≤◌, ◌&&◌, nat_le, Bool, true, false, List, Option, None, Some, IfSome, unwrap_or, option_map}
+use Rattle.std.proofs.Common.{option_and_then, refl, arith, if◌then◌else◌}
 use Rattle.std.proofs.lemmas.Bool.Decides.{nat_tests}
 use Rattle.toml.specs.Data.{Data, get, as_integer, as_str}
 use Rattle.description_values.specs.Moments.{has_time_shape, text_seconds, moment_of, moment_in, moment_at}

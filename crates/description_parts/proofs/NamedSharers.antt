@@ -1,11 +1,13 @@
 -- What `shared_with` names: declared programs, each once, and not the stream's own.
-use Rattle.std.proofs.Common.{◌≡◌, ℕ, ◌==◌, ◌&&◌, not, nat_eq, nat_le, Bool, true, false, List, [], ◌∷◌, length, map, Option, None, Some, unwrap_or, refl, sym, subst, ap, All, Contains, codes, if◌then◌else◌}
+use Rattle.std.proofs.Common.{◌≡◌, ℕ, ◌==◌, ◌&&◌, not, nat_eq, nat_le, Bool, true, false, List, [], ◌∷◌, length, map, Option, None, Some, unwrap_or, refl, sym}
+use Rattle.std.proofs.Common.{subst, ap, All, Contains, codes, if◌then◌else◌}
 use Rattle.std.proofs.lemmas.Bool.{and_parts, eqb-false}
 use Rattle.std.proofs.lemmas.List.Elements.{All-nil, All-cons}
 use Rattle.std.specs.List.{list_all, filter_map, cons_option, IsDistinct}
 use Rattle.toml.specs.Data.{Data, get}
 use Rattle.description_values.specs.Values.{elements_in, array_in, is_distinct}
-use Rattle.description_keys.specs.StreamKeys.{owner_number, declares, is_owned_by, has_owner, number_in, names_another, are_sharers, has_sharers, sharers_of, stream_sharers}
+use Rattle.description_keys.specs.StreamKeys.{owner_number, declares, is_owned_by, has_owner, number_in, names_another, are_sharers, has_sharers, sharers_of}
+use Rattle.description_keys.specs.StreamKeys.{stream_sharers}
 use Rattle.description_parts.specs.Ranges.{program_numbers}
 use Rattle.description_parts.specs.Contents.{described}
 use Rattle.description_parts.proofs.Counts.{not_true}
@@ -28,7 +30,8 @@ one_declared : (document stream : Data) (o : Option ℕ) (ns : List ℕ)
     → All (Contains (program_numbers (described document))) ns → All (Contains (program_numbers (described document))) (cons_option o ns)
 one_declared document stream None ns h rest = absurd (cc)
 one_declared document stream (Some n) ns h rest =
-    All-cons (Contains (program_numbers (described document))) n ns (number_declared document n (and_parts (declares document n) (not (is_owned_by n stream)) h).0) rest
+    All-cons (Contains (program_numbers (described document))) n ns
+    (number_declared document n (and_parts (declares document n) (not (is_owned_by n stream)) h).0) rest
 
 all_declared : (document stream : Data) (ds : List Data) → list_all (names_another document stream) ds ≡ true
     → All (Contains (program_numbers (described document))) (filter_map number_in ds)
@@ -65,7 +68,8 @@ kept_whole true ns h = refl
 kept_whole false ns h = absurd (cc)
 
 in_array : (document stream : Data) (o : Option (List Data)) → has_owner document stream ≡ true
-    → (elim o as (λ _. Bool) [ None ↦ false | Some ds ↦ nat_le (length ds) 15 && (list_all (names_another document stream) ds && is_distinct (filter_map number_in ds)) ]) ≡ true
+    → (elim o as (λ _. Bool)
+    [ None ↦ false | Some ds ↦ nat_le (length ds) 15 && (list_all (names_another document stream) ds && is_distinct (filter_map number_in ds)) ]) ≡ true
     → AreSharers document stream (sharers_of (unwrap_or o []))
 in_array document stream None own h = absurd (cc)
 in_array document stream (Some ds) own h =
@@ -84,5 +88,6 @@ at_value : (document stream : Data) (o : Option Data) → has_owner document str
 at_value document stream None own h = no_sharers document stream
 at_value document stream (Some value) own h = in_array document stream (array_in value) own h
 
-pub sharers_are : (document stream : Data) → has_owner document stream ≡ true → has_sharers document stream ≡ true → AreSharers document stream (stream_sharers stream)
+pub sharers_are : (document stream : Data) → has_owner document stream ≡ true → has_sharers document stream ≡ true →
+    AreSharers document stream (stream_sharers stream)
 sharers_are document stream own h = at_value document stream (get (codes "shared_with") stream) own h

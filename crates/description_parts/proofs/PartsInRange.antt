@@ -1,5 +1,6 @@
 -- Each part of a description is in its ranges.
-use Rattle.std.proofs.Common.{◌≡◌, ℕ, pos, suc, zero, ◌≤◌, ◌<◌, ◌-◌, ◌*◌, ◌/◌, max, ◌==◌, nat_le, Bool, true, false, List, [], ◌∷◌, length, filter, get_or, Option, None, Some, IfSome, unwrap_or, option_map, refl, arith, if◌then◌else◌, All, codes, inl, inr, is_none}
+use Rattle.std.proofs.Common.{◌≡◌, ℕ, pos, suc, zero, ◌≤◌, ◌<◌, ◌-◌, ◌*◌, ◌/◌, max, ◌==◌, nat_le, Bool, true, false, List, [], ◌∷◌, length, filter, get_or}
+use Rattle.std.proofs.Common.{Option, None, Some, IfSome, unwrap_or, option_map, refl, arith, if◌then◌else◌, All, codes, inl, inr, is_none}
 use Rattle.std.proofs.Math.Nat.{le_trans, div-le_self, mul-div-le, mul-le-mul_left, mul-le-mul_right}
 use Rattle.std.proofs.lemmas.Bool.{leb-true, or_cases, eqb-true}
 use Rattle.std.proofs.lemmas.List.Elements.{All-nil, All-cons, All-map, All-weaker}
@@ -9,15 +10,22 @@ use Rattle.toml.specs.Data.{Data, get}
 use Rattle.unit_timing.specs.declared.allowance.Allowance.{Allowance}
 use Rattle.unit_timing.specs.declared.framing.Framing.{Framing}
 use Rattle.unit_timing.specs.declared.multiplexing_buffer.MultiplexingBuffer.{MultiplexingBuffer}
-use Rattle.description_parts.specs.Ranges.{IsPid, IsBytes, IsNetwork, IsEvent, IsProgram, IsStreamId, IsGroups, IsPace, IsAllowance, IsMultiplexingBuffer, IsFraming, IsStream, IsEntry, IsTable}
+use Rattle.description_parts.specs.Ranges.{IsPid, IsBytes, IsNetwork, IsEvent, IsProgram, IsStreamId, IsGroups, IsPace, IsAllowance, IsMultiplexingBuffer}
+use Rattle.description_parts.specs.Ranges.{IsFraming, IsStream, IsEntry, IsTable}
 use Rattle.description_values.specs.Values.{integer_in, integer_at, elements, is_one_section, section_in}
-use Rattle.description_keys.specs.StreamKeys.{is_owned_by, sharers_of, stream_sharers, number_in, is_stream_id, stream_id, is_video_id, id_or_private, greatest_size, leaves_out_buffers, stream_rx, stream_main, stream_size, stream_tag, stream_group, unit_packets, greatest_group_packets, stream_group_packets, is_paced, stream_burst_packets, stream_pace, stream_allowance, has_multiplexing, greatest_rbx, multiplexing_of, has_framing, greatest_frame, stream_frame, stream_interval, stream_frames, framing_of}
-use Rattle.description_parts.specs.Contents.{described_network, described_event, described_number, described_program, described_stream, described_sections, described_entry, described_table}
+use Rattle.description_keys.specs.StreamKeys.{is_owned_by, sharers_of, stream_sharers, number_in, is_stream_id, stream_id, is_video_id, id_or_private}
+use Rattle.description_keys.specs.StreamKeys.{greatest_size, leaves_out_buffers, stream_rx, stream_main, stream_size, stream_tag, stream_group, unit_packets}
+use Rattle.description_keys.specs.StreamKeys.{greatest_group_packets, stream_group_packets, is_paced, stream_burst_packets, stream_pace, stream_allowance}
+use Rattle.description_keys.specs.StreamKeys.{has_multiplexing, greatest_rbx, multiplexing_of, has_framing, greatest_frame, stream_frame, stream_interval}
+use Rattle.description_keys.specs.StreamKeys.{stream_frames, framing_of}
+use Rattle.description_parts.specs.Contents.{described_network, described_event, described_number, described_program, described_stream, described_sections}
+use Rattle.description_parts.specs.Contents.{described_entry, described_table}
 use Rattle.description_parts.specs.Described.{DescribedEntry}
 use Rattle.description_keys.specs.TableKeys.{is_listed}
 use Rattle.description_keys.specs.Refusals.{events_of}
 use Rattle.description_parts.proofs.KeyRanges.{Within, holds_of, at_key-all, map_all, integer_in-within, integer_at-within, integer_or-within, moment_at-within}
-use Rattle.description_parts.proofs.TextRanges.{text_at-is, text_or-is, descriptors-is, descriptors_at-is, language_at-is, optional_language-is, IsSectionBytes, sections-are, weaker, then_tested}
+use Rattle.description_parts.proofs.TextRanges.{text_at-is, text_or-is, descriptors-is, descriptors_at-is, language_at-is, optional_language-is, IsSectionBytes}
+use Rattle.description_parts.proofs.TextRanges.{sections-are, weaker, then_tested}
 use Rattle.description_parts.proofs.Counts.{HasLength}
 
 pid_is : (key : List ℕ) (d : Data) → IsPid (unwrap_or (integer_at key (pos 32) (pos 8190) d) 32)
@@ -58,7 +66,8 @@ program_is document d =
       service_type = (integer_or-within (codes "service_type") 0 255 1 0 d (omega arith) (omega arith) (omega arith) (omega arith)).most;
       provider = text_or-is 100 (codes "provider") d;
       name = text_or-is 100 (codes "name") d;
-      events = All-map IsEvent described_event (filter (is_owned_by (described_number d)) (events_of document)) (λ k other within. event_is (get_or (filter (is_owned_by (described_number d)) (events_of document)) k other));
+      events = All-map IsEvent described_event (filter (is_owned_by (described_number d)) (events_of document))
+          (λ k other within. event_is (get_or (filter (is_owned_by (described_number d)) (events_of document)) k other));
     }
 
 -- stream_id
@@ -99,7 +108,8 @@ groups_are : (d : Data) → IsGroups (unit_packets d) (unwrap_or (stream_group d
 groups_are d =
     let group = integer_or-within (codes "group") 1 64 1 1 d (omega arith) (omega arith) (omega arith) (omega arith) in
     let more = group_most (unwrap_or (stream_group d) 1) (unit_packets d) group.least in
-    let packets = integer_or-within (codes "group_packets") (unit_packets d) (greatest_group_packets d) (greatest_group_packets d) (unit_packets d) d more (omega arith) (omega arith) more in
+    let packets = integer_or-within (codes "group_packets") (unit_packets d) (greatest_group_packets d) (greatest_group_packets d) (unit_packets d) d more
+    (omega arith) (omega arith) more in
     record { some_units = group.least; most_units = group.most; some_packets = packets.least; most_packets = packets.most }
 
 pace_is : (d : Data) → unit_packets d ≤ 100000 → IsPace (unit_packets d) (unwrap_or (stream_burst_packets d) (unit_packets d)) (unwrap_or (stream_pace d) 1)
@@ -118,7 +128,8 @@ allowance_is d small = either_is (unit_packets d) (is_paced d) _ _ (pace_is d (o
 tag_is : (d : Data) → All (λ t. t ≤ 255) (option_to_list (unwrap_or (stream_tag d) None))
 tag_is d =
     holds_of (λ o. All (λ t. t ≤ 255) (option_to_list o)) (stream_tag d) None
-    (at_key-all (λ o. All (λ t. t ≤ 255) (option_to_list o)) (codes "tag") (Some None) (λ v. option_map Some (integer_in (pos 0) (pos 255) v)) d (All-nil (λ t. t ≤ 255))
+    (at_key-all (λ o. All (λ t. t ≤ 255) (option_to_list o)) (codes "tag") (Some None) (λ v. option_map Some (integer_in (pos 0) (pos 255) v)) d
+    (All-nil (λ t. t ≤ 255))
     (λ v. map_all (λ o. All (λ t. t ≤ 255) (option_to_list o)) (Within 0 255) Some (integer_in (pos 0) (pos 255) v)
     (λ t w. All-cons (λ t. t ≤ 255) t [] w.most (All-nil (λ t. t ≤ 255))) (integer_in-within 0 255 v)))
     (All-nil (λ t. t ≤ 255))

@@ -1,5 +1,6 @@
 -- One more element of a search by place.
-use Rattle.std.proofs.Common.{◌≡◌, ℕ, zero, suc, ◌+◌, ◌<◌, Bool, true, false, List, [], ◌∷◌, map, take, drop, length, get_or, slice_get, None, Some, refl, sym, ◌∙◌, arith, add-one, if◌then◌else◌}
+use Rattle.std.proofs.Common.{◌≡◌, ℕ, zero, suc, ◌+◌, ◌<◌, Bool, true, false, List, [], ◌∷◌, map, take, drop, length, get_or, slice_get, None, Some, refl, sym}
+use Rattle.std.proofs.Common.{◌∙◌, arith, add-one, if◌then◌else◌}
 use Rattle.std.proofs.lemmas.List.{drop_more, take_more, map-append}
 use Rattle.std.specs.List.{list_any}
 use Rattle.toml.specs.View.{view}
@@ -35,7 +36,8 @@ first_overlap-found events i v h is any =
 
 pub first_overlap-next : (events : List Value) (i : ℕ) (v : Value) → i < length events → v ≡ get_or events i v
     → false ≡ list_any (λ x. overlaps (view v) (view x)) (take i events)
-    → first_overlap i (map view (take i events)) (map view (drop i events)) ≡ first_overlap (i + 1) (map view (take (i + 1) events)) (map view (drop (i + 1) events))
+    → first_overlap i (map view (take i events)) (map view (drop i events)) ≡ first_overlap (i + 1) (map view (take (i + 1) events))
+    (map view (drop (i + 1) events))
 first_overlap-next events i v h is any =
     let none : list_any (overlaps (view (get_or events i v))) (map view (take i events)) ≡ false =
     rw (← is) (list_any-map (overlaps (view v)) view (take i events) ∙ sym any) in

@@ -1,5 +1,6 @@
 -- Which table has which number.
-use Rattle.std.proofs.Common.{◌≡◌, ℕ, zero, suc, ◌+◌, ◌-◌, ◌<◌, ◌≤◌, List, [], ◌∷◌, ◌++◌, length, map, get_or, slice_get, None, Some, refl, ap, sym, ◌∙◌, arith, zero-add, add-zero}
+use Rattle.std.proofs.Common.{◌≡◌, ℕ, zero, suc, ◌+◌, ◌-◌, ◌<◌, ◌≤◌, List, [], ◌∷◌, ◌++◌, length, map, get_or, slice_get, None, Some, refl, ap, sym, ◌∙◌, arith}
+use Rattle.std.proofs.Common.{zero-add, add-zero}
 use Rattle.std.proofs.lemmas.List.{length-append, length-map}
 use Rattle.std.proofs.lemmas.Option.{slice_get-get_or, slice_get_past}
 use Rattle.description_parts.specs.Described.{Described}
@@ -43,7 +44,8 @@ table_kind-pmt d (suc i) some most =
 
 -- the others follow the PMTs
 after : (d : Described) (i : ℕ) → table_kind d (suc (length d.programs) + i) ≡ slice_get (service_tables d ++ map Private (numbers_from 0 d.tables)) i
-after d i = rw (sym (length-first d)) (slice_get-append_right (Pat ∷ map Pmt (numbers_from 0 d.programs)) (service_tables d ++ map Private (numbers_from 0 d.tables)) i)
+after d i = rw (sym (length-first d))
+    (slice_get-append_right (Pat ∷ map Pmt (numbers_from 0 d.programs)) (service_tables d ++ map Private (numbers_from 0 d.tables)) i)
 
 pub table_kind-service : (d : Described) (t : ℕ) → length d.programs < t → t - 1 - length d.programs < length (service_tables d)
     → Some (get_or (service_tables d) (t - 1 - length d.programs) Pat) ≡ table_kind d t
@@ -55,17 +57,20 @@ table_kind-service d t low high =
     ∙ slice_get-get_or (service_tables d) (t - 1 - length d.programs) Pat high)
 
 -- the private tables are the last
-privates : (d : Described) (i : ℕ) → table_kind d (suc (length d.programs) + (length (service_tables d) + i)) ≡ slice_get (map Private (numbers_from 0 d.tables)) i
+privates : (d : Described) (i : ℕ) →
+    table_kind d (suc (length d.programs) + (length (service_tables d) + i)) ≡ slice_get (map Private (numbers_from 0 d.tables)) i
 privates d i = after d (length (service_tables d) + i) ∙ slice_get-append_right (service_tables d) (map Private (numbers_from 0 d.tables)) i
 
 pub table_kind-private : (d : Described) (t i : ℕ) → t ≡ suc (length d.programs) + (length (service_tables d) + i) → i < length d.tables
     → Some (Private i) ≡ table_kind d t
-table_kind-private d t i is within = sym (ap (table_kind d) is ∙ privates d i ∙ slice_get-numbers_from Private 0 d.tables i within ∙ ap (λ k. Some (Private k)) (zero-add i))
+table_kind-private d t i is within =
+    sym (ap (table_kind d) is ∙ privates d i ∙ slice_get-numbers_from Private 0 d.tables i within ∙ ap (λ k. Some (Private k)) (zero-add i))
 
 pub table_kind-none : (d : Described) (t i : ℕ) → t ≡ suc (length d.programs) + (length (service_tables d) + i) → length d.tables ≤ i
     → None ≡ table_kind d t
 table_kind-none d t i is past =
-    let long : length (map Private (numbers_from 0 d.tables)) ≤ i = omega (arith, length-map (numbers_from 0 d.tables) Private, length-numbers_from 0 d.tables) in
+    let long : length (map Private (numbers_from 0 d.tables)) ≤ i =
+    omega (arith, length-map (numbers_from 0 d.tables) Private, length-numbers_from 0 d.tables) in
     sym (ap (table_kind d) is ∙ privates d i ∙ slice_get_past (map Private (numbers_from 0 d.tables)) i long)
 
 pub table_count-is : (d : Described) → 1 + length d.programs + length (service_tables d) + length d.tables ≡ table_count d

@@ -1,5 +1,6 @@
 -- Texts, languages, descriptors and sections that a key gives are as long as they may be, and octets.
-use Rattle.std.proofs.Common.{◌≡◌, ℕ, ◌≤◌, ◌<◌, ◌&&◌, nat_le, Bool, true, false, List, [], ◌∷◌, length, Option, None, Some, IfSome, unwrap_or, option_map, option_and_then, refl, arith, if◌then◌else◌, All, Result, Ok, Err, codes}
+use Rattle.std.proofs.Common.{◌≡◌, ℕ, ◌≤◌, ◌<◌, ◌&&◌, nat_le, Bool, true, false, List, [], ◌∷◌, length, Option, None, Some, IfSome, unwrap_or, option_map}
+use Rattle.std.proofs.Common.{option_and_then, refl, arith, if◌then◌else◌, All, Result, Ok, Err, codes}
 use Rattle.std.proofs.lemmas.Bool.{and_parts, leb-true}
 use Rattle.std.proofs.lemmas.Bool.Decides.{nat_tests}
 use Rattle.std.proofs.lemmas.List.Elements.{All-nil, All-cons, All-from_get_or}
@@ -13,7 +14,8 @@ use Rattle.dvb_tables.specs.CharacterCoding.{text_bytes}
 use Rattle.toml.specs.Data.{Data, as_str}
 use Rattle.dvb_tables.specs.DescriptorLoops.{are_whole_descriptors}
 use Rattle.description_parts.specs.Ranges.{IsBytes, IsLanguage}
-use Rattle.description_values.specs.Values.{is_octet, are_octets, text_in, text_at, text_or, is_letter, language_of, language_in, language_at, optional_language, hex_bytes, descriptors_in, descriptors_or_none, descriptors_at, is_one_section, section_in}
+use Rattle.description_values.specs.Values.{is_octet, are_octets, text_in, text_at, text_or, is_letter, language_of, language_in, language_at}
+use Rattle.description_values.specs.Values.{optional_language, hex_bytes, descriptors_in, descriptors_or_none, descriptors_at, is_one_section, section_in}
 use Rattle.description_parts.proofs.KeyRanges.{holds_of, at_key-all, then_all, map_all}
 use Rattle.description_values.proofs.Octets.{All_octets}
 
@@ -80,14 +82,17 @@ weaker P Q (Some x) h p = h x p
 descriptors_in-is : (d : Data) → IfSome (descriptors_in d) (IsBytes 700)
 descriptors_in-is d =
     weaker (λ bytes. IsBytes 700 bytes × (are_whole_descriptors bytes ≡ true)) (IsBytes 700) (descriptors_in d) (λ bytes p. p.0)
-    (then_tested (IsBytes 700) are_whole_descriptors (option_and_then (hex_bytes 700) (as_str d)) (then_all (IsBytes 700) (hex_bytes 700) (as_str d) (hex_bytes-is 700)))
+    (then_tested (IsBytes 700) are_whole_descriptors (option_and_then (hex_bytes 700) (as_str d))
+    (then_all (IsBytes 700) (hex_bytes 700) (as_str d) (hex_bytes-is 700)))
 
 pub descriptors-is : (key : List ℕ) (d : Data) → IsBytes 700 (unwrap_or (descriptors_or_none key d) [])
 descriptors-is key d =
-    holds_of (IsBytes 700) (descriptors_or_none key d) [] (at_key-all (IsBytes 700) key (Some []) descriptors_in d (no_bytes 700) descriptors_in-is) (no_bytes 700)
+    holds_of (IsBytes 700) (descriptors_or_none key d) [] (at_key-all (IsBytes 700) key (Some []) descriptors_in d (no_bytes 700) descriptors_in-is)
+    (no_bytes 700)
 
 pub descriptors_at-is : (key : List ℕ) (d : Data) → IsBytes 700 (unwrap_or (descriptors_at key d) [])
-descriptors_at-is key d = holds_of (IsBytes 700) (descriptors_at key d) [] (at_key-all (IsBytes 700) key None descriptors_in d tt descriptors_in-is) (no_bytes 700)
+descriptors_at-is key d = holds_of (IsBytes 700) (descriptors_at key d) [] (at_key-all (IsBytes 700) key None descriptors_in d tt descriptors_in-is)
+    (no_bytes 700)
 
 -- a section has at least its first three bytes
 at_least_three : (bytes : List ℕ) → is_one_section bytes ≡ true → 3 ≤ length bytes
@@ -106,7 +111,8 @@ pub section_in-is : (d : Data) → IfSome (section_in d) IsSectionBytes
 section_in-is d =
     weaker (λ bytes. IsBytes 4096 bytes × (is_one_section bytes ≡ true)) IsSectionBytes (section_in d)
     (λ bytes p. record { octets = p.0; three = at_least_three bytes p.1; whole = p.1 })
-    (then_tested (IsBytes 4096) is_one_section (option_and_then (hex_bytes 4096) (as_str d)) (then_all (IsBytes 4096) (hex_bytes 4096) (as_str d) (hex_bytes-is 4096)))
+    (then_tested (IsBytes 4096) is_one_section (option_and_then (hex_bytes 4096) (as_str d))
+    (then_all (IsBytes 4096) (hex_bytes 4096) (as_str d) (hex_bytes-is 4096)))
 
 one_more : (o : Option (List ℕ)) (xs : List (List ℕ)) → IfSome o IsSectionBytes → All IsSectionBytes xs → All IsSectionBytes (cons_option o xs)
 one_more None xs h all = all
@@ -134,7 +140,8 @@ language_of-is (a ∷ b ∷ c ∷ []) =
     let one = and_parts (is_letter a) (is_letter b) two.0 in
     record {
       letters = refl;
-      octets = All-cons (λ x. x < 128) a (b ∷ c ∷ []) (letter_below a one.0) (All-cons (λ x. x < 128) b (c ∷ []) (letter_below b one.1) (All-cons (λ x. x < 128) c [] (letter_below c two.1) (All-nil (λ x. x < 128))));
+      octets = All-cons (λ x. x < 128) a (b ∷ c ∷ []) (letter_below a one.0)
+          (All-cons (λ x. x < 128) b (c ∷ []) (letter_below b one.1) (All-cons (λ x. x < 128) c [] (letter_below c two.1) (All-nil (λ x. x < 128))));
     })
 language_of-is (a ∷ b ∷ c ∷ d ∷ rest) = tt
 
@@ -153,5 +160,6 @@ pub optional_language-is : (key : List ℕ) (d : Data) → All IsLanguage (optio
 optional_language-is key d =
     holds_of (λ o. All IsLanguage (option_to_list o)) (optional_language key d) None
     (at_key-all (λ o. All IsLanguage (option_to_list o)) key (Some None) (λ v. option_map Some (language_in v)) d (All-nil IsLanguage)
-    (λ v. map_all (λ o. All IsLanguage (option_to_list o)) IsLanguage Some (language_in v) (λ x q. All-cons IsLanguage x [] q (All-nil IsLanguage)) (language_in-is v)))
+    (λ v. map_all (λ o. All IsLanguage (option_to_list o)) IsLanguage Some (language_in v) (λ x q. All-cons IsLanguage x [] q (All-nil IsLanguage))
+    (language_in-is v)))
     (All-nil IsLanguage)

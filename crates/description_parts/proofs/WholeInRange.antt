@@ -1,5 +1,7 @@
 -- A document that is not refused describes what is in all its ranges.
-use Rattle.std.proofs.Common.{◌≡◌, ℕ, suc, zero, ◌+◌, ◌-◌, ◌≤◌, ◌==◌, ◌||◌, ◌&&◌, not, nat_lt, Bool, true, false, List, [], ◌∷◌, ◌++◌, map, get_or, slice_get, Option, None, Some, unwrap_or, option_map, refl, ap, sym, ◌∙◌, arith, if◌then◌else◌, All, Contains, codes, is_some, IsTrue, inl, inr}
+use Rattle.std.proofs.Common.{◌≡◌, ℕ, suc, zero, ◌+◌, ◌-◌, ◌≤◌, ◌==◌, ◌||◌, ◌&&◌, not, nat_lt, Bool, true, false, List, [], ◌∷◌, ◌++◌, map, get_or, slice_get}
+use Rattle.std.proofs.Common.{Option, None, Some, unwrap_or, option_map, refl, ap, sym, ◌∙◌, arith, if◌then◌else◌, All, Contains, codes, is_some, IsTrue, inl}
+use Rattle.std.proofs.Common.{inr}
 use Rattle.std.proofs.lemmas.Bool.{or_parts, ltb-false, cases_Bool, eqb-true}
 use Rattle.std.proofs.lemmas.List.Elements.{All-nil, All-cons, All-map}
 use Rattle.std.proofs.lemmas.List.Folds.{list_any-append}
@@ -8,7 +10,8 @@ use Rattle.std.specs.List.{list_any}
 use Rattle.std.specs.Option.{option_to_list, option_or}
 use Rattle.toml.specs.Data.{Data}
 use Rattle.description_parts.specs.Described.{Described, DescribedNetwork}
-use Rattle.description_parts.specs.Ranges.{IsInRange, IsNetwork, IsProgram, IsStream, IsTable, IsListed, IsSharing, named_pids, program_numbers, longest_section}
+use Rattle.description_parts.specs.Ranges.{IsInRange, IsNetwork, IsProgram, IsStream, IsTable, IsListed, IsSharing, named_pids, program_numbers}
+use Rattle.description_parts.specs.Ranges.{longest_section}
 use Rattle.description_parts.specs.Tables.{only_if, has_event, service_tables, table_kinds, pmt_length, nit_length, sdt_length, numbers_from}
 use Rattle.description_values.specs.Values.{tables_at, is_distinct}
 use Rattle.description_keys.specs.ProgramKeys.{program_number}
@@ -23,7 +26,8 @@ use Rattle.description_keys.specs.declared.fault.DescFault.TheVariants.{Streams,
 use Rattle.description_parts.specs.declared.table_kind.TableKind.{TableKind}
 use Rattle.description_parts.specs.declared.table_kind.TableKind.TheVariants.{Pat, Pmt, Nit, Sdt, Eit, Tdt, Private}
 use Rattle.description_parts.proofs.KeyRanges.{integer_at-within, integer_or-within, moment_at-within}
-use Rattle.description_parts.proofs.Counts.{NoFault, no_fault, or_none, if_none, map_none, all_accept, AllAccept, not_false, has_counts, tables_accepted, table_sections, elements-length}
+use Rattle.description_parts.proofs.Counts.{NoFault, no_fault, or_none, if_none, map_none, all_accept, AllAccept, not_false, has_counts, tables_accepted}
+use Rattle.description_parts.proofs.Counts.{table_sections, elements-length}
 use Rattle.description_parts.proofs.PartsInRange.{network_is, program_is, stream_is, table_is}
 use Rattle.description_parts.proofs.Declared.{owner_declared}
 use Rattle.description_parts.proofs.NamedSharers.{AreSharers, sharers_are}
@@ -67,7 +71,8 @@ none_at p [] i x h is = absurd (cc)
 none_at p (y ∷ ys) zero x h is = let same : y ≡ x = cc in rw (← same) (or_parts (p y) (list_any p ys) h).0
 none_at p (y ∷ ys) (suc i) x h is = none_at p ys i x (or_parts (p y) (list_any p ys) h).1 is
 
-one_length : {X : Type 0} (f : X → ℕ) (o : Option X) (x : X) → o ≡ Some x → list_any (nat_lt longest_section) (map f (option_to_list o)) ≡ false → f x ≤ longest_section
+one_length : {X : Type 0} (f : X → ℕ) (o : Option X) (x : X) → o ≡ Some x → list_any (nat_lt longest_section) (map f (option_to_list o)) ≡ false →
+    f x ≤ longest_section
 one_length f None x is h = absurd (cc)
 one_length f (Some y) x is h =
     let same : y ≡ x = cc in
@@ -88,7 +93,8 @@ only_none p false x h is = absurd (cc)
 network_fits : (o : Option DescribedNetwork) → (is_some o ≡ true → list_any (nat_lt longest_section) (map nit_length (option_to_list o)) ≡ false)
     → All (λ n. nit_length n ≤ longest_section) (option_to_list o)
 network_fits None h = All-nil (λ n. nit_length n ≤ longest_section)
-network_fits (Some n) h = All-cons (λ n. nit_length n ≤ longest_section) n [] (one_length nit_length (Some n) n refl (h refl)) (All-nil (λ n. nit_length n ≤ longest_section))
+network_fits (Some n) h =
+    All-cons (λ n. nit_length n ≤ longest_section) n [] (one_length nit_length (Some n) n refl (h refl)) (All-nil (λ n. nit_length n ≤ longest_section))
 
 record ServicesFit (d : Described) : Type 0 where
   nit : All (λ n. nit_length n ≤ longest_section) (option_to_list d.network)
@@ -116,8 +122,10 @@ services_fit d h =
 -- each stream's program is declared, and so are those that share it
 streams_accepted : (d : Data) → NoFault d → AllAccept (λ key. refuses_stream key d) stream_keys (streams_of d)
 streams_accepted d none =
-    let arrays = if_none (tables_at true (codes "stream") 0 32 d) (option_map (λ p. Stream p.0 p.1) (first_refused (λ key. refuses_stream key d) stream_keys (streams_of d))) Streams none.stream in
-    all_accept (λ key. refuses_stream key d) stream_keys (streams_of d) (map_none (λ p. Stream p.0 p.1) (first_refused (λ key. refuses_stream key d) stream_keys (streams_of d)) arrays.1)
+    let arrays = if_none (tables_at true (codes "stream") 0 32 d)
+    (option_map (λ p. Stream p.0 p.1) (first_refused (λ key. refuses_stream key d) stream_keys (streams_of d))) Streams none.stream in
+    all_accept (λ key. refuses_stream key d) stream_keys (streams_of d)
+    (map_none (λ p. Stream p.0 p.1) (first_refused (λ key. refuses_stream key d) stream_keys (streams_of d)) arrays.1)
 
 owners_there : (d : Data) → NoFault d → All (λ part. has_owner d part ≡ true) (streams_of d)
 owners_there d none = λ k other within. not_false (has_owner d (get_or (streams_of d) k other)) ((streams_accepted d none).0 k other within)
@@ -140,10 +148,13 @@ listed_declared : (document part : Data) (b : Bool) → (b && not (has_owner doc
 listed_declared document part false h = All-nil (λ e. Contains (program_numbers (described document)) e.program)
 listed_declared document part true h =
     All-cons (λ e. Contains (program_numbers (described document)) e.program) (described_entry part) []
-    (owner_declared document (owner_number part) (not_false (has_owner document part) h)) (All-nil (λ e. Contains (program_numbers (described document)) e.program))
+    (owner_declared document (owner_number part) (not_false (has_owner document part) h))
+    (All-nil (λ e. Contains (program_numbers (described document)) e.program))
 
 tables_declared : (d : Data) → NoFault d → All (λ part. IsListed (described d) (described_table part)) (tables_of d)
-tables_declared d none = λ k other within. listed_declared d (get_or (tables_of d) k other) (is_listed (get_or (tables_of d) k other)) ((tables_accepted d none).1.1.1.0 k other within)
+tables_declared d none =
+    λ k other within. listed_declared d (get_or (tables_of d) k other) (is_listed (get_or (tables_of d) k other))
+    ((tables_accepted d none).1.1.1.0 k other within)
 
 within_trans : {a b c : ℕ} → a ≤ b → b ≤ c → a ≤ c
 within_trans h k = omega arith
@@ -161,7 +172,8 @@ described-in_range document keys joint =
     let rate = integer_at-within (codes "rate") 100000 100000000 100000 document (omega arith) (omega arith) in
     let base0 = (integer_or-within (codes "base0") 0 8589934591 0 0 document (omega arith) (omega arith) (omega arith) (omega arith)).most in
     let numbers = IsDistinct-is (program_numbers (described document)) parts.numbers in
-    let events = (elements-length true (codes "event") 0 256 document (λ e. refl) (if_none (tables_at true (codes "event") 0 256 document) _ Events none.event).0).most in
+    let events = (elements-length true (codes "event") 0 256 document (λ e. refl)
+    (if_none (tables_at true (codes "event") 0 256 document) _ Events none.event).0).most in
     let few = most_events document (programs_of document) numbers in
     let services = services_fit (described document) parts.lengths in
     record {
@@ -174,14 +186,17 @@ described-in_range document keys joint =
       network = network_in_range (network_of document);
       some_programs = counts.some_programs;
       most_programs = counts.most_programs;
-      programs = All-map IsProgram (described_program document) (programs_of document) (λ k other within. program_is document (get_or (programs_of document) k other));
+      programs = All-map IsProgram (described_program document) (programs_of document)
+          (λ k other within. program_is document (get_or (programs_of document) k other));
       most_events = within_trans few events;
       most_streams = counts.most_streams;
       streams = All-map IsStream described_stream (streams_of document) (λ k other within. stream_is (get_or (streams_of document) k other));
-      declared = All-map (λ s. Contains (program_numbers (described document)) s.program) described_stream (streams_of document) (streams_declared document none);
+      declared = All-map (λ s. Contains (program_numbers (described document)) s.program) described_stream (streams_of document)
+          (streams_declared document none);
       sharing = All-map (IsSharing (described document)) described_stream (streams_of document) (streams_shared document none);
       most_tables = counts.most_tables;
-      tables = All-map IsTable described_table (tables_of document) (λ k other within. table_is (get_or (tables_of document) k other) (table_sections document none k other within));
+      tables = All-map IsTable described_table (tables_of document)
+          (λ k other within. table_is (get_or (tables_of document) k other) (table_sections document none k other within));
       listed = All-map (IsListed (described document)) described_table (tables_of document) (tables_declared document none);
       distinct_pids = IsDistinct-is (named_pids (described document)) parts.pids;
       distinct_numbers = numbers;

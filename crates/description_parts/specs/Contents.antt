@@ -7,8 +7,11 @@ use Rattle.description_parts.specs.Described.{Described, DescribedNetwork, Descr
 use Rattle.description_values.specs.Values.{elements, section_in}
 use Rattle.description_keys.specs.TopKeys as top
 use Rattle.description_keys.specs.NetworkKeys.{network_id, network_name, network_descriptors}
-use Rattle.description_keys.specs.ProgramKeys.{program_number, program_pmt_pid, program_pcr_pid, program_pcr_limit, program_descriptors, program_service_type, program_provider, program_name}
-use Rattle.description_keys.specs.StreamKeys.{owner_number, is_owned_by, stream_sharers, stream_pid, id_or_private, stream_type, stream_interval, stream_size, stream_lead, stream_pts_limit, stream_rx, stream_main, stream_tag, stream_language, stream_descriptors, stream_allowance, stream_multiplexing, stream_framing}
+use Rattle.description_keys.specs.ProgramKeys.{program_number, program_pmt_pid, program_pcr_pid, program_pcr_limit, program_descriptors, program_service_type}
+use Rattle.description_keys.specs.ProgramKeys.{program_provider, program_name}
+use Rattle.description_keys.specs.StreamKeys.{owner_number, is_owned_by, stream_sharers, stream_pid, id_or_private, stream_type, stream_interval, stream_size}
+use Rattle.description_keys.specs.StreamKeys.{stream_lead, stream_pts_limit, stream_rx, stream_main, stream_tag, stream_language, stream_descriptors}
+use Rattle.description_keys.specs.StreamKeys.{stream_allowance, stream_multiplexing, stream_framing}
 use Rattle.description_keys.specs.EventKeys.{event_id, event_start, event_duration, event_language, event_name, event_text}
 use Rattle.description_keys.specs.TableKeys.{private_pid, private_limit, is_listed, entry_type, entry_descriptors}
 use Rattle.description_keys.specs.Refusals.{network_of, programs_of, streams_of, events_of, tables_of}

@@ -1,5 +1,6 @@
 -- The tables of a description: their numbers, PIDs, limits, sections and lengths (EN 300 468, 5.1.3; TR 101 290, 5.2).
-use Rattle.std.specs.Prelude.{ℕ, ◌+◌, ◌*◌, ◌/◌, max, Bool, List, [], ◌∷◌, ◌++◌, Option, None, Some, is_some, length, map, filter, sum_by, nat_le, slice_index_or, slice_get, option_and_then, ◌==◌, if◌then◌else◌}
+use Rattle.std.specs.Prelude.{ℕ, ◌+◌, ◌*◌, ◌/◌, max, Bool, List, [], ◌∷◌, ◌++◌, Option, None, Some, is_some, length, map, filter, sum_by, nat_le}
+use Rattle.std.specs.Prelude.{slice_index_or, slice_get, option_and_then, ◌==◌, if◌then◌else◌}
 use Rattle.std.specs.List.{list_any}
 use Rattle.std.specs.Option.{option_to_list}
 use Rattle.description_parts.specs.Described.{Described, DescribedNetwork, DescribedProgram, DescribedStream, DescribedEvent, DescribedEntry, DescribedTable}
@@ -93,7 +94,8 @@ abbrev pub listed_length : ℕ → DescribedTable → ℕ
 listed_length number t = elim (entry_in number t) [ None ↦ 0 | Some e ↦ 5 + length e.descriptors ]
 
 abbrev pub pmt_length : Described → DescribedProgram → ℕ
-pmt_length d p = section_overhead + 4 + length p.descriptors + sum_by (entry_length p.number) d.streams + sum_by (shared_length p.number) d.streams + sum_by (listed_length p.number) d.tables
+pmt_length d p = section_overhead + 4 + length p.descriptors + sum_by (entry_length p.number) d.streams + sum_by (shared_length p.number) d.streams
+    + sum_by (listed_length p.number) d.tables
 
 abbrev pub nit_length : DescribedNetwork → ℕ
 nit_length n = section_overhead + 2 + (2 + length n.name) + 2 + 6 + length n.descriptors

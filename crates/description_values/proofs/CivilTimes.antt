@@ -13,7 +13,13 @@ le_pos : (a b : ℕ) → a ≤ b → pos a ≤ℤ pos b
 le_pos a b h = omega (arith, ints)
 
 pub date_accepted : (y mo d : ℕ) → IsDate (pos y) (pos mo) (pos d) → is_civil_date y mo d ≡ true
-date_accepted y mo d date = rw (le-leb 1 mo (pos_le 1 mo date.1.0), le-leb mo 12 (pos_le mo 12 date.1.1), le-leb 1 d (pos_le 1 d date.2.0), le-leb d (days_in_month (pos y) mo) (pos_le d (days_in_month (pos y) mo) date.2.1)) refl
+date_accepted y mo d date =
+    rw (
+      le-leb 1 mo (pos_le 1 mo date.1.0),
+      le-leb mo 12 (pos_le mo 12 date.1.1),
+      le-leb 1 d (pos_le 1 d date.2.0),
+      le-leb d (days_in_month (pos y) mo) (pos_le d (days_in_month (pos y) mo) date.2.1),
+    ) refl
 
 pub time_accepted : (h mi s : ℕ) → IsTime (pos h) (pos mi) (pos s) (pos 0) → is_clock_time h mi s ≡ true
 time_accepted h mi s time = rw (le-leb h 23 (pos_le h 23 time.0.1), le-leb mi 59 (pos_le mi 59 time.1.1), le-leb s 59 (pos_le s 59 time.2.1)) refl

@@ -14,7 +14,9 @@ pub coded_octets : (text : List ℕ) → list_all is_octet text ≡ true → lis
 coded_octets text h = after_either (is_plain text) text h
 
 pub octets_of_All : (bytes : List ℕ) → All (λ b. b < 256) bytes → list_all is_octet bytes ≡ true
-octets_of_All bytes h = list_all-from_AllPass is_octet bytes (λ k d within. let small : get_or bytes k d < 256 = h k d within in grind (arith, nat_tests, small))
+octets_of_All bytes h =
+    list_all-from_AllPass is_octet bytes (λ k d within. let small : get_or bytes k d < 256 = h k d within in grind (arith, nat_tests, small))
 
 pub All_octets : (bytes : List ℕ) → list_all is_octet bytes ≡ true → All (λ b. b < 256) bytes
-All_octets bytes h = λ k d within. let small : nat_lt (get_or bytes k d) 256 ≡ true = AllPass-from_list_all is_octet bytes h k d within in grind (arith, nat_tests, small)
+All_octets bytes h = λ k d within. let small : nat_lt (get_or bytes k d) 256 ≡ true = AllPass-from_list_all is_octet bytes h k d within in
+    grind (arith, nat_tests, small)

@@ -1,5 +1,6 @@
 -- Times as a description writes them, and the moments that they name: seconds since 1970-01-01T00:00:00 (UTC).
-use Rattle.std.specs.Prelude.{ℕ, ℤ, pos, ◌+◌, ◌-◌, ◌*◌, ◌+ℤ◌, ◌*ℤ◌, ◌&&◌, ◌==◌, nat_le, Bool, List, Option, None, Some, length, slice_index, if◌then◌else◌, option_and_then}
+use Rattle.std.specs.Prelude.{ℕ, ℤ, pos, ◌+◌, ◌-◌, ◌*◌, ◌+ℤ◌, ◌*ℤ◌, ◌&&◌, ◌==◌, nat_le, Bool, List, Option, None, Some, length, slice_index, if◌then◌else◌}
+use Rattle.std.specs.Prelude.{option_and_then}
 use Rattle.jiff.specs.Words.{days_in_month}
 use Rattle.jiff_core.specs.Calendar.{days_from_civil}
 use Rattle.toml.specs.Data.{Data, as_str}

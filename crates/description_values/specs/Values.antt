@@ -1,5 +1,6 @@
 -- Values of keys, as the parsed TOML document gives them: None where the value is refused.
-use Rattle.std.specs.Prelude.{ℕ, ℤ, ◌&&◌, ◌||◌, ◌==◌, nat_le, nat_lt, not, Bool, true, false, List, [], ◌∷◌, Option, None, Some, Ok, Err, length, is_some, unsigned_abs, int_le, option_and_then, option_map, if◌then◌else◌, unwrap_or}
+use Rattle.std.specs.Prelude.{ℕ, ℤ, ◌&&◌, ◌||◌, ◌==◌, nat_le, nat_lt, not, Bool, true, false, List, [], ◌∷◌, Option, None, Some, Ok, Err, length, is_some}
+use Rattle.std.specs.Prelude.{unsigned_abs, int_le, option_and_then, option_map, if◌then◌else◌, unwrap_or}
 use Rattle.std.specs.List.{list_all, list_any}
 use Rattle.hex.specs.Hex.{decode_of}
 use Rattle.psi_tables.specs.Reading.{section_at}

@@ -8,7 +8,8 @@ use Rattle.devices.specs.WholeInput.{IsLong}
 not_true : (b : Bool) → (b ≡ true → ⊥) → b ≡ false
 not_true b never = elim (cases_Bool b) [ inl is ↦ absurd (never is) | inr other ↦ other ]
 
-pub is_unread : (files : Files) (name : List ℕ) (input : Device) → IsOpened files name → input.before.bytes ≡ files.contents name → (files.never_fails ≡ true → HasFailed input → ⊥) →
+pub is_unread : (files : Files) (name : List ℕ) (input : Device) → IsOpened files name → input.before.bytes ≡ files.contents name →
+    (files.never_fails ≡ true → HasFailed input → ⊥) →
     HasFailed input ⊎ IsLong input.before.bytes → IsUnread files name
 is_unread files name input opened same never (inl failed) = (opened, inl (not_true files.never_fails (λ e. never e failed)))
 is_unread files name input opened same never (inr long) = (opened, inr (subst IsLong same long))

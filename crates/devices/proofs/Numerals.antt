@@ -48,14 +48,16 @@ is_numeral : (bs : List ℕ) → is_decimal bs ≡ true → IsNumeral 10 bs
 is_numeral bs e = (some_digit bs e, all_digits bs (both (nat_lt 0 (length bs)) (list_all is_ascii_digit bs) e).1)
 
 -- digits that make a number of 64 bits are read as that number
-pub read_as : (bs : List ℕ) (n low high : ℕ) → is_decimal bs ≡ true → n ≡ digits_value 10 (without_leading_plus bs) → option_and_then (within low high) (decimal bs) ≡ within low high n
+pub read_as : (bs : List ℕ) (n low high : ℕ) → is_decimal bs ≡ true → n ≡ digits_value 10 (without_leading_plus bs) →
+    option_and_then (within low high) (decimal bs) ≡ within low high n
 unfolding decimal
 read_as bs n low high d p =
     let v : n ≡ digits_value 10 bs = p ∙ ap (digits_value 10) (no_plus bs d) in
     rw (d, v) refl
 
 -- and others lie past every limit of 64 bits
-pub too_great : (bs : List ℕ) (low high : ℕ) → high < 2 ^ 64 → is_decimal bs ≡ true → ¬ (IsNumeral 10 (without_leading_plus bs) × (digits_value 10 (without_leading_plus bs) < 2 ^ 64)) → option_and_then (within low high) (decimal bs) ≡ None
+pub too_great : (bs : List ℕ) (low high : ℕ) → high < 2 ^ 64 → is_decimal bs ≡ true →
+    ¬ (IsNumeral 10 (without_leading_plus bs) × (digits_value 10 (without_leading_plus bs) < 2 ^ 64)) → option_and_then (within low high) (decimal bs) ≡ None
 unfolding decimal
 too_great bs low high h d p =
     let w : without_leading_plus bs ≡ bs = no_plus bs d in

@@ -15,7 +15,8 @@ whole_is None read xs w e = absurd cc
 whole_is (Some ys) read xs w e = w ∙ (let same : ys ≡ xs = cc in same)
 
 -- what the bytes that were read lead to
-led_to : (Leads : List ℕ → Outcome → Type 0) (bytes : List ℕ) (outcome : Outcome) (input : Device) → ReadsInput input (Ok bytes) → Leads bytes outcome → IsLedTo Leads input outcome
+led_to : (Leads : List ℕ → Outcome → Type 0) (bytes : List ℕ) (outcome : Outcome) (input : Device) → ReadsInput input (Ok bytes) → Leads bytes outcome →
+    IsLedTo Leads input outcome
 led_to Leads bytes outcome input r l xs e = subst (λ (x : List ℕ). Leads x outcome) (whole_is input.before.bytes bytes xs r.0 e) l
 
 -- the input could not be read
@@ -61,14 +62,17 @@ unwritten Leads bytes outcome input output faults status r l w f t s = inr (inr 
 
 -- a text was written whole
 pub text_written : (Leads : List ℕ → Outcome → Type 0) (bytes text : List ℕ) (outcome : Outcome) (input output faults : Device) (status : ℕ) →
-    ReadsInput input (Ok bytes) → Leads bytes outcome → text ≡ outcome.output → Takes output text → IsClean output → Reports faults outcome.report → status ≡ outcome.status →
+    ReadsInput input (Ok bytes) → Leads bytes outcome → text ≡ outcome.output → Takes output text → IsClean output → Reports faults outcome.report →
+    status ≡ outcome.status →
     Performs Leads input output faults status
 text_written Leads bytes text outcome input output faults status r l e w c t s =
     performed Leads bytes outcome input output faults status r l (subst (λ (x : List ℕ). Takes output x) e w) c t s
 
 -- a text was not written whole
-pub text_unwritten : (V : Type 0) (Leads : List ℕ → Outcome → Type 0) (bytes text : List ℕ) (outcome : Outcome) (input output faults : Device) (status : ℕ) (halt : Halt) →
-    ReadsInput input (Ok bytes) → Leads bytes outcome → text ≡ outcome.output → WritesLine {V = V} text output (Err halt) → Reports faults (halt_line halt) → status ≡ 3 →
+pub text_unwritten : (V : Type 0) (Leads : List ℕ → Outcome → Type 0) (bytes text : List ℕ) (outcome : Outcome) (input output faults : Device) (status : ℕ)
+    (halt : Halt) →
+    ReadsInput input (Ok bytes) → Leads bytes outcome → text ≡ outcome.output → WritesLine {V = V} text output (Err halt) → Reports faults (halt_line halt) →
+    status ≡ 3 →
     Performs Leads input output faults status
 text_unwritten V Leads bytes text outcome input output faults status Read r l e w t s = absurd w
 text_unwritten V Leads bytes text outcome input output faults status Write r l e w t s =
@@ -77,7 +81,8 @@ text_unwritten V Leads bytes text outcome input output faults status Memory r l 
 
 -- it reported a line, and wrote nothing
 pub reported_only : (Leads : List ℕ → Outcome → Type 0) (bytes line : List ℕ) (input output faults : Device) (status : ℕ) →
-    ReadsInput input (Ok bytes) → Leads bytes (reported line) → IsUntouched output → Reports faults line → status ≡ 1 → Performs Leads input output faults status
+    ReadsInput input (Ok bytes) → Leads bytes (reported line) → IsUntouched output → Reports faults line → status ≡ 1 →
+    Performs Leads input output faults status
 reported_only Leads bytes line input output faults status r l u t s = performed Leads bytes (reported line) input output faults status r l
     (subst (λ (port : Port). Appends output.before.bytes port.bytes []) (sym u) (Appends-nil output.before.bytes)) (ap (λ (port : Port). port.failed) u) t s
 
@@ -85,6 +90,7 @@ reported_only Leads bytes line input output faults status r l u t s = performed 
 pub reports_none : (faults : Device) → IsUntouched faults → Reports faults []
 reports_none faults u = record {
   taken = 0;
-  written = subst (λ (x : Option (List ℕ)). Appends faults.before.bytes x []) (sym (let same : faults.after.bytes ≡ faults.before.bytes = cc in same)) (Appends-nil faults.before.bytes);
+  written = subst (λ (x : Option (List ℕ)). Appends faults.before.bytes x []) (sym (let same : faults.after.bytes ≡ faults.before.bytes = cc in same))
+      (Appends-nil faults.before.bytes);
   whole = inl refl;
 }

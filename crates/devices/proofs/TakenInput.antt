@@ -1,6 +1,7 @@
 -- An input that is read to its end piece by piece: the next bytes stand at the front of each piece, fewer than it holds only where
 -- the input ends.
-use Rattle.std.proofs.Common.{◌≡◌, ℕ, ◌+◌, ◌%◌, ◌<◌, ◌≤◌, List, [], ◌++◌, length, take, drop, min, refl, sym, ap, subst, ◌∙◌, arith, append_assoc, length-append, Option, Some, None, Result, Ok, Err, inr}
+use Rattle.std.proofs.Common.{◌≡◌, ℕ, ◌+◌, ◌%◌, ◌<◌, ◌≤◌, List, [], ◌++◌, length, take, drop, min, refl, sym, ap, subst, ◌∙◌, arith, append_assoc}
+use Rattle.std.proofs.Common.{length-append, Option, Some, None, Result, Ok, Err, inr}
 use Rattle.std.proofs.lemmas.List.{append-nil, drop_all, length-take-le, take-append-drop}
 use Rattle.std.proofs.lemmas.Nat.Gcd.{dvd-zero, dvd_of_mod-eq-zero, mod-eq-zero_of_dvd}
 use Rattle.std.proofs.Math.Nat.{dvd-add}
@@ -38,7 +39,8 @@ after_more old mid new bytes piece n b p xs e =
     )
 
 -- where the piece is not full, the input ended
-end_read : (old mid new : Port) (bytes piece : List ℕ) (n : ℕ) → IsAfter old mid bytes → IsRead mid new piece n → n < length piece → IsEnd old new (bytes ++ take n piece)
+end_read : (old mid new : Port) (bytes piece : List ℕ) (n : ℕ) → IsAfter old mid bytes → IsRead mid new piece n → n < length piece →
+    IsEnd old new (bytes ++ take n piece)
 unfolding after_more
 end_read old mid new bytes piece n b p s xs e =
     let h = b xs e in
@@ -52,11 +54,13 @@ whole_if : (known left : Option (List ℕ)) (bytes : List ℕ) → ((xs : List �
 whole_if None left bytes h = tt
 whole_if (Some xs) left bytes h = sym (h xs refl).0
 
-short_if : (known left : Option (List ℕ)) (bytes : List ℕ) → length bytes ≤ longest_input → ((xs : List ℕ) → known ≡ Some xs → (xs ≡ bytes) × (left ≡ Some [])) → IsShort known
+short_if : (known left : Option (List ℕ)) (bytes : List ℕ) → length bytes ≤ longest_input →
+    ((xs : List ℕ) → known ≡ Some xs → (xs ≡ bytes) × (left ≡ Some [])) → IsShort known
 short_if None left bytes s h = tt
 short_if (Some xs) left bytes s h = subst (λ (x : List ℕ). length x ≤ longest_input) (sym (h xs refl).0) s
 
-long_if : (known : Option (List ℕ)) (bytes : List ℕ) → longest_input < length bytes → ((xs : List ℕ) → known ≡ Some xs → (left : List ℕ) × (xs ≡ bytes ++ left)) → IsLong known
+long_if : (known : Option (List ℕ)) (bytes : List ℕ) → longest_input < length bytes →
+    ((xs : List ℕ) → known ≡ Some xs → (left : List ℕ) × (xs ≡ bytes ++ left)) → IsLong known
 long_if None bytes s h = tt
 long_if (Some xs) bytes s h =
     let k = h xs refl in
@@ -111,7 +115,8 @@ front_more HasTaken Then unit old mid new size n piece f r t u full =
     }
 
 -- to the end of the input
-pub front_end : (HasTaken Then : List ℕ → Type 0) (unit : ℕ) (old mid new : Port) (size n : ℕ) (piece : List ℕ) (r : Result ℕ Halt) → TakesFront HasTaken unit old mid size →
+pub front_end : (HasTaken Then : List ℕ → Type 0) (unit : ℕ) (old mid new : Port) (size n : ℕ) (piece : List ℕ) (r : Result ℕ Halt) →
+    TakesFront HasTaken unit old mid size →
     ReadsFront (between mid new) piece n → ((bytes : List ℕ) → length bytes % unit ≡ 0 → HasTaken bytes → Then (bytes ++ take n piece)) → n < length piece →
     IfOk r (λ whole. (whole ≡ size + n) × (size + n ≤ longest_input)) → IfErr r (λ halt. (halt ≡ Read) × (longest_input < size + n)) →
     TakesInput Then (between old new) r

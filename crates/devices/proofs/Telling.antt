@@ -7,7 +7,8 @@ pub told_none : (port : Port) → Tells port port []
 unfolding Tells
 told_none port = refl
 
-pub told_more : (before mid after : Port) (texts : List (List ℕ)) (text : List ℕ) → Tells before mid texts → Reports (between mid after) text → Tells before after (texts ++ (text ∷ []))
+pub told_more : (before mid after : Port) (texts : List (List ℕ)) (text : List ℕ) → Tells before mid texts → Reports (between mid after) text →
+    Tells before after (texts ++ (text ∷ []))
 unfolding Tells
 told_more before mid after [] text t r = (after, subst (λ (p : Port). Reports (between p after) text) t r, refl)
 told_more before mid after (first ∷ texts) text t r = (t.0, t.1, told_more t.0 mid after texts text t.2 r)

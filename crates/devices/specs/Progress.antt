@@ -37,7 +37,8 @@ read_text taken size = (13 ∷ codes "read") ++ (number_text taken ++ (size_text
 -- and the speed, and the time left
 unfoldable pub progress_text : ℕ → Option ℕ → ℕ → List ℕ
 progress_text taken size ms =
-    read_text taken size ++ (codes "," ++ (number_text (speed taken ms) ++ (codes " a second" ++ (left_text (seconds_left size taken (speed taken ms)) ++ erase_text))))
+    read_text taken size
+    ++ (codes "," ++ (number_text (speed taken ms) ++ (codes " a second" ++ (left_text (seconds_left size taken (speed taken ms)) ++ erase_text))))
 
 -- the input is at its end, or a read failed
 unfoldable pub end_text : ℕ → List ℕ

@@ -1,5 +1,6 @@
 -- Lines whose values are equal, line by line.
-use Rattle.std.proofs.Common.{◌≡◌, ◌∙◌, ◌<◌, ◌≤◌, ◌+◌, ℕ, List, [], ◌∷◌, ◌++◌, length, drop, take, get_or, Bool, true, false, Option, Some, None, refl, sym, ap, add-one}
+use Rattle.std.proofs.Common.{◌≡◌, ◌∙◌, ◌<◌, ◌≤◌, ◌+◌, ℕ, List, [], ◌∷◌, ◌++◌, length, drop, take, get_or, Bool, true, false, Option, Some, None, refl, sym, ap}
+use Rattle.std.proofs.Common.{add-one}
 use Rattle.std.specs.Prelude.{if◌then◌else◌}
 use Rattle.std.specs.Borrow.{Bor}
 use Rattle.std.proofs.Math.Seq.{drop-cons}
@@ -25,7 +26,8 @@ word_from bytes i = take i bytes ++ first_word (drop i bytes)
 at_number : (bytes : List ℕ) (i d : ℕ) (ends : Bool) → i < length bytes → ends_value (get_or bytes i d) ≡ ends →
     first_word (drop i bytes) ≡ (if ends then [] else get_or bytes i d ∷ first_word (drop (i + 1) bytes))
 at_number bytes i d ends below e =
-    ap first_word (drop-cons bytes i d below ∙ ap (λ (n : ℕ). get_or bytes i d ∷ drop n bytes) (sym (add-one i))) ∙ word_step (get_or bytes i d) (drop (i + 1) bytes) ends e
+    ap first_word (drop-cons bytes i d below ∙ ap (λ (n : ℕ). get_or bytes i d ∷ drop n bytes) (sym (add-one i)))
+    ∙ word_step (get_or bytes i d) (drop (i + 1) bytes) ends e
 
 pub word_goes_on : (bytes : List ℕ) (i d byte : ℕ) (ends : Bool) → i < length bytes → byte ≡ get_or bytes i d → ends ≡ ends_value byte → ends ≡ false →
     first_word bytes ≡ word_from bytes i → first_word bytes ≡ word_from bytes (i + 1)
@@ -62,17 +64,20 @@ with_step : (keys : EqualKeys) (value line : List ℕ) (b : Bool) (i : ℕ) (lin
     (if b then Some (i + 1, (get_or lines i d).now) else row_with keys value (i + 1 + 1) (shown (drop (i + 1) lines))) ≡ all
 with_step keys value line b i lines d all below at is so =
     sym (ap (λ (ls : List (List ℕ)). row_with keys value (i + 1) ls) (shown_from lines i d below)
-    ∙ with_here keys value (get_or lines i d).now (i + 1) (shown (drop (i + 1) lines)) b (sym (is ∙ ap (λ (l : List ℕ). is_value value (value_on keys l)) at))) ∙ so
+    ∙ with_here keys value (get_or lines i d).now (i + 1) (shown (drop (i + 1) lines)) b (sym (is ∙ ap (λ (l : List ℕ). is_value value (value_on keys l)) at)))
+    ∙ so
 
 pub with_goes_on : (keys : EqualKeys) (value line : List ℕ) (b : Bool) (i : ℕ) (lines : List (Bor (List ℕ))) (d : Bor (List ℕ)) (all : Option (ℕ × List ℕ)) →
-    i < length lines → line ≡ (get_or lines i d).now → b ≡ is_value value (value_on keys line) → b ≡ false → row_with keys value (i + 1) (shown (drop i lines)) ≡ all →
+    i < length lines → line ≡ (get_or lines i d).now → b ≡ is_value value (value_on keys line) → b ≡ false →
+    row_with keys value (i + 1) (shown (drop i lines)) ≡ all →
     row_with keys value (i + 1 + 1) (shown (drop (i + 1) lines)) ≡ all
 with_goes_on keys value line b i lines d all below at is not_so so =
     sym (ap (λ (x : Bool). if x then Some (i + 1, (get_or lines i d).now) else row_with keys value (i + 1 + 1) (shown (drop (i + 1) lines))) not_so)
     ∙ with_step keys value line b i lines d all below at is so
 
 pub with_found : (keys : EqualKeys) (value line : List ℕ) (b : Bool) (i : ℕ) (lines : List (Bor (List ℕ))) (d : Bor (List ℕ)) (all : Option (ℕ × List ℕ)) →
-    i < length lines → line ≡ (get_or lines i d).now → b ≡ is_value value (value_on keys line) → b ≡ true → row_with keys value (i + 1) (shown (drop i lines)) ≡ all →
+    i < length lines → line ≡ (get_or lines i d).now → b ≡ is_value value (value_on keys line) → b ≡ true →
+    row_with keys value (i + 1) (shown (drop i lines)) ≡ all →
     Some (i + 1, line) ≡ all
 with_found keys value line b i lines d all below at is is_so so =
     ap (λ (l : List ℕ). Some (i + 1, l)) at
@@ -108,15 +113,18 @@ equal_step keys line other i lines d all below at is so =
     ∙ sym (ap (λ (ls : List (List ℕ)). equal_rows keys (i + 1) ls) (shown_from lines i d below) ∙ equal_here keys (get_or lines i d).now (i + 1) rest) ∙ so
 
 -- its value comes again
-pub equal_found : (keys : EqualKeys) (line : List ℕ) (other : Option (ℕ × List ℕ)) (found : ℕ × List ℕ) (i : ℕ) (lines : List (Bor (List ℕ))) (d : Bor (List ℕ)) (all : Option Pair) →
-    i < length lines → line ≡ (get_or lines i d).now → other ≡ row_like keys (value_on keys line) (i + 1 + 1) (shown (drop (i + 1) lines)) → other ≡ Some found →
+pub equal_found : (keys : EqualKeys) (line : List ℕ) (other : Option (ℕ × List ℕ)) (found : ℕ × List ℕ) (i : ℕ) (lines : List (Bor (List ℕ))) (d : Bor (List ℕ))
+    (all : Option Pair) →
+    i < length lines → line ≡ (get_or lines i d).now → other ≡ row_like keys (value_on keys line) (i + 1 + 1) (shown (drop (i + 1) lines)) →
+    other ≡ Some found →
     equal_rows keys (i + 1) (shown (drop i lines)) ≡ all → Some ((i + 1, line), found) ≡ all
 equal_found keys line other found i lines d all below at is e so =
     sym (ap (λ (o : Option (ℕ × List ℕ)). paired (i + 1, line) o (equal_rows keys (i + 1 + 1) (shown (drop (i + 1) lines)))) e)
     ∙ equal_step keys line other i lines d all below at is so
 
 -- it does not
-pub equal_goes_on : (keys : EqualKeys) (line : List ℕ) (other : Option (ℕ × List ℕ)) (i : ℕ) (lines : List (Bor (List ℕ))) (d : Bor (List ℕ)) (all : Option Pair) →
+pub equal_goes_on : (keys : EqualKeys) (line : List ℕ) (other : Option (ℕ × List ℕ)) (i : ℕ) (lines : List (Bor (List ℕ))) (d : Bor (List ℕ))
+    (all : Option Pair) →
     i < length lines → line ≡ (get_or lines i d).now → other ≡ row_like keys (value_on keys line) (i + 1 + 1) (shown (drop (i + 1) lines)) → other ≡ None →
     equal_rows keys (i + 1) (shown (drop i lines)) ≡ all → equal_rows keys (i + 1 + 1) (shown (drop (i + 1) lines)) ≡ all
 equal_goes_on keys line other i lines d all below at is e so =

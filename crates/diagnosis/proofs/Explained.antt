@@ -25,7 +25,8 @@ not_utf8 bytes true e n = absurd (n (IsUtf8-from_is_utf8 bytes e))
 not_utf8 bytes false e n = cc
 
 pub no_lines : (bytes : List ℕ) → ¬ (IsUtf8 bytes) → [] ≡ text_lines bytes
-no_lines bytes n = sym (ap (λ (b : Bool). if b then lines_of bytes else []) (not_utf8 bytes (is_utf8 bytes) (let same : is_utf8 bytes ≡ is_utf8 bytes = cc in same) n))
+no_lines bytes n =
+    sym (ap (λ (b : Bool). if b then lines_of bytes else []) (not_utf8 bytes (is_utf8 bytes) (let same : is_utf8 bytes ≡ is_utf8 bytes = cc in same) n))
 
 -- a word of a line
 
@@ -35,7 +36,8 @@ named_text head bytes word e u =
 
 pub unnamed_bytes : (head : Head) (bytes : List ℕ) → ¬ (IsUtf8 bytes) → unnamed_words ≡ word_words head bytes
 unnamed_bytes head bytes n =
-    sym (ap (λ (b : Bool). if b then named_words head bytes else unnamed_words) (not_utf8 bytes (is_utf8 bytes) (let same : is_utf8 bytes ≡ is_utf8 bytes = cc in same) n))
+    sym (ap (λ (b : Bool). if b then named_words head bytes else unnamed_words)
+    (not_utf8 bytes (is_utf8 bytes) (let same : is_utf8 bytes ≡ is_utf8 bytes = cc in same) n))
 
 -- 2. A plan
 

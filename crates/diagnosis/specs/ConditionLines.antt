@@ -9,7 +9,9 @@ use Rattle.description_parts.specs.Described.{Described, DescribedProgram, Descr
 use Rattle.slot_plan.specs.Entries.{Entry, code_of}
 use Rattle.slot_plan.specs.Planned.{Planned}
 use Rattle.slot_plan.specs.declared.condition.Condition.{Condition}
-use Rattle.slot_plan.specs.declared.condition.Condition.TheVariants.{Shape, PcrGap, TableGap, Spread, StreamRate, TransportBuffer, StreamLead, MainBuffer, SystemBuffer, MultiplexingBuffer, ElementaryLead, PcrSwitch, TableSwitch, WorkSwitch, LeadSwitch, MainSwitch, ElementarySwitch}
+use Rattle.slot_plan.specs.declared.condition.Condition.TheVariants.{Shape, PcrGap, TableGap, Spread, StreamRate, TransportBuffer, StreamLead, MainBuffer}
+use Rattle.slot_plan.specs.declared.condition.Condition.TheVariants.{SystemBuffer, MultiplexingBuffer, ElementaryLead, PcrSwitch, TableSwitch, WorkSwitch}
+use Rattle.slot_plan.specs.declared.condition.Condition.TheVariants.{LeadSwitch, MainSwitch, ElementarySwitch}
 use Rattle.plan_checker.specs.Failing.{failing}
 use Rattle.diagnosis.specs.ItemNames.{name_of_stream, program_name, stream_name, table_name}
 use Rattle.diagnosis.specs.ReasonLines.{greatest_lead, key_of, key_words, least_words, pcr_words, steady_cause, stream_line}
@@ -94,7 +96,8 @@ unfoldable pub never_empty_words : List ℕ → List ℕ
 never_empty_words buffer = buffer ++ codes "is never empty\n"
 
 unfoldable pub seldom_words : List ℕ → ℕ → ℕ → List ℕ
-seldom_words buffer slots second = buffer ++ codes "is empty only once in " ++ decimal slots ++ codes " slots, and a second has " ++ decimal second ++ codes "\n"
+seldom_words buffer slots second = buffer ++ codes "is empty only once in " ++ decimal slots ++ codes " slots, and a second has " ++ decimal second
+    ++ codes "\n"
 
 abbrev pub seldom_empty_words : List ℕ → Entry → List ℕ
 seldom_empty_words buffer e = seldom_words buffer (e.left / slot_seconds_at_1bps) (e.right / slot_seconds_at_1bps)

@@ -75,7 +75,8 @@ has_unknown_key head word = is_bare word && not (is_among (names_of head) word)
 unfoldable pub unknown_row : Head → ℕ → List (List ℕ) → Option (ℕ × (List ℕ × Head))
 unknown_row head n [] = None
 unknown_row head n (l ∷ ls) =
-    if begins l (codes "[") then (if is_unknown_head (head_on (word_on l)) then Some (n, (l, head_on (word_on l))) else unknown_row (head_on (word_on l)) (n + 1) ls)
+    if begins l (codes "[") then (if is_unknown_head (head_on (word_on l)) then Some (n, (l, head_on (word_on l))) else unknown_row (head_on (word_on l))
+    (n + 1) ls)
     else (if has_unknown_key head (word_on l) then Some (n, (l, head)) else unknown_row head (n + 1) ls)
 
 -- 4. What is said of it

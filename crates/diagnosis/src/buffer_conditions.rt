@@ -75,8 +75,8 @@ fn write_seldom_empty(buffer: &str, refusal: Refusal, text: &mut String) -> Resu
     write_seldom(buffer, refusal.left / slot, refusal.right / slot, text)
 }
 
-// Appends that a packet finds no room, that the claim of a peak or of a start is too little, or that a buffer is not empty
-// at least once a second.
+// Appends that a packet finds no room, that the claim of a peak or of a start is too little, or that a buffer is not
+// empty at least once a second.
 #[tactic(auto, unfolding(crate::specs::ConditionLines::buffer_words))]
 fn write_buffer(
     buffer: &str,

@@ -18,7 +18,12 @@ nit_body_length t =
     let loop = transport_streams_bytes t.transport_streams in
     let first = (0xF0 + n / 256) ∷ (n % 256) ∷ [] in
     let second = (0xF0 + length loop / 256) ∷ (length loop % 256) ∷ [] in
-    omega (arith, length-append (first ++ t.network_descriptors ++ second) loop, length-append (first ++ t.network_descriptors) second, length-append first t.network_descriptors)
+    omega (
+      arith,
+      length-append (first ++ t.network_descriptors ++ second) loop,
+      length-append (first ++ t.network_descriptors) second,
+      length-append first t.network_descriptors,
+    )
 
 pub eit_body_length : (t : EitView) → length (eit_body t) ≡ 6 + length (events_bytes t.events)
 unfolding eit_body two_numbers

@@ -1,5 +1,6 @@
 -- The event information table: what is read stands there, and what stands there is read.
-use Rattle.std.proofs.Common.{◌≡◌, ℕ, ◌+◌, ◌*◌, ◌^◌, ◌<◌, ◌≤◌, nat_lt, false, refl, sym, ap, ◌∙◌, subst, arith, List, [], ◌∷◌, ◌++◌, length, take, drop, Ok, length-append}
+use Rattle.std.proofs.Common.{◌≡◌, ℕ, ◌+◌, ◌*◌, ◌^◌, ◌<◌, ◌≤◌, nat_lt, false, refl, sym, ap, ◌∙◌, subst, arith, List, [], ◌∷◌, ◌++◌, length, take, drop, Ok}
+use Rattle.std.proofs.Common.{length-append}
 use Rattle.std.proofs.lemmas.Bool.{ltb-false, le-ltb}
 use Rattle.std.proofs.lemmas.List.{length-take, take-append-drop}
 use Rattle.std.specs.Prelude.{slice_index}
@@ -20,7 +21,15 @@ use Rattle.dvb_tables.proofs.EventLoops.{events_is, events_only}
 -- what a body says that begins with these six bytes
 parts_found : (s : SectionView) (header : LongHeader) (a b c d f g : ℕ) (loop : List ℕ) (es : List EventView) → HasHeader 0x4E 4093 s header
     → s.body ≡ (a ∷ b ∷ c ∷ d ∷ f ∷ g ∷ []) ++ loop → a < 256 → b < 256 → c < 256 → d < 256 → f < 256 → g < 256 → IsSequence IsEvent loop es
-    → IsEit s (record { header = header; transport_stream_id = a * 256 + b; original_network_id = c * 256 + d; segment_last_section_number = f; last_table_id = g; events = es })
+    → IsEit s (record {
+      header = header;
+      transport_stream_id = a * 256 + b;
+      original_network_id = c * 256 + d;
+      segment_last_section_number = f;
+      last_table_id =
+          g;
+      events = es;
+    })
 parts_found s header a b c d f g loop es h is ha hb hc hd hf hg events = record {
   table_id = h.table_id;
   long = h.long;
@@ -49,7 +58,8 @@ front_found : (s : SectionView) (header : LongHeader) (front loop : List ℕ) (e
     })
 front_found s header front loop es fits h is len events =
     let bytes : IsBytes front = IsBytes-append_left front loop (subst IsBytes is fits) in
-    parts_found s header (slice_index front 0) (slice_index front 1) (slice_index front 2) (slice_index front 3) (slice_index front 4) (slice_index front 5) loop es h
+    parts_found s header (slice_index front 0) (slice_index front 1) (slice_index front 2) (slice_index front 3) (slice_index front 4) (slice_index front 5)
+    loop es h
     (is ∙ ap (λ (f : List ℕ). f ++ loop) (six front len)) (bytes 0) (bytes 1) (bytes 2) (bytes 3) (bytes 4) (bytes 5) events
 
 -- what was read is an event information table
@@ -73,7 +83,8 @@ pub record Numbers (front : List ℕ) (t : EitView) : Type 0 where
 
 numbers_read : (a b c d f g : ℕ) (t : EitView) → a < 256 → b < 256 → c < 256 → d < 256 → f < 256 → g < 256
     → t.transport_stream_id < 2 ^ 16 → t.original_network_id < 2 ^ 16 → t.segment_last_section_number < 2 ^ 8 → t.last_table_id < 2 ^ 8
-    → number (a ∷ b ∷ c ∷ d ∷ f ∷ g ∷ []) ≡ fields ((16, t.transport_stream_id) ∷ (16, t.original_network_id) ∷ (8, t.segment_last_section_number) ∷ (8, t.last_table_id) ∷ [])
+    → number (a ∷ b ∷ c ∷ d ∷ f ∷ g ∷ []) ≡ fields
+    ((16, t.transport_stream_id) ∷ (16, t.original_network_id) ∷ (8, t.segment_last_section_number) ∷ (8, t.last_table_id) ∷ [])
     → Numbers (a ∷ b ∷ c ∷ d ∷ f ∷ g ∷ []) t
 numbers_read a b c d f g t ha hb hc hd hf hg h1 h2 h3 h4 e = record {
   transport_stream_id = omega arith;
@@ -86,7 +97,8 @@ numbers_of : (s : SectionView) (t : EitView) → IsBytes s.body → (h : IsEit s
 numbers_of s t fits h =
     let bytes : IsBytes h.front = IsBytes-append_left h.front h.loop (subst IsBytes h.is fits) in
     subst (λ (f : List ℕ). Numbers f t) (sym (six h.front h.front_length))
-    (numbers_read (slice_index h.front 0) (slice_index h.front 1) (slice_index h.front 2) (slice_index h.front 3) (slice_index h.front 4) (slice_index h.front 5) t
+    (numbers_read (slice_index h.front 0) (slice_index h.front 1) (slice_index h.front 2) (slice_index h.front 3) (slice_index h.front 4)
+    (slice_index h.front 5) t
     (bytes 0) (bytes 1) (bytes 2) (bytes 3) (bytes 4) (bytes 5) h.transport_stream_id h.original_network_id h.segment_last_section_number h.last_table_id
     (ap number (sym (six h.front h.front_length)) ∙ h.spelled))
 

@@ -18,8 +18,13 @@ pub sequence_of : {A : Type 0} (k : ℕ) (Is : List ℕ → A → Type 0) (of : 
     → (bytes : List ℕ) (es : List EntryView) → IsBytes bytes → AreEntries k bytes es → IsSequence Is bytes (map of es)
 sequence_of k Is of each bytes [] fits h = h
 sequence_of k Is of each bytes (e ∷ es) fits h =
-    let all : IsBytes (entry_bytes e ++ h.0) = subst IsBytes h.1 fits in
-    (entry_bytes e, h.0, h.1, each e h.2 (IsBytes-append_left (entry_bytes e) h.0 all), sequence_of k Is of each h.0 es (IsBytes-append_right (entry_bytes e) h.0 all) h.3)
+    let all : IsBytes (entry_bytes e ++ h.0) = subst IsBytes h.1 fits in (
+      entry_bytes e,
+      h.0,
+      h.1,
+      each e h.2 (IsBytes-append_left (entry_bytes e) h.0 all),
+      sequence_of k Is of each h.0 es (IsBytes-append_right (entry_bytes e) h.0 all) h.3,
+    )
 
 -- an entry that says a value
 pub record Says {A : Type 0} (k : ℕ) (of : EntryView → A) (bytes : List ℕ) (x : A) : Type 0 where

@@ -54,13 +54,22 @@ pub record HeadSays (a b : ℕ) (start duration : List ℕ) (f g : ℕ) : Type 0
   pub len : length (head_of a b start duration f g) ≡ 12
   pub count : descriptors_length (head_of a b start duration f g) ≡ f % 16 * 256 + g
   pub value : (descriptors : List ℕ) → event_of (record { head = head_of a b start duration f g; descriptors = descriptors })
-      ≡ record { event_id = a * 256 + b; start_time = start; duration = duration; running_status = status_of (f / 32); free_ca_mode = flag f 16; descriptors = descriptors }
+      ≡ record {
+        event_id = a * 256 + b;
+        start_time = start;
+        duration = duration;
+        running_status = status_of (f / 32);
+        free_ca_mode = flag f 16;
+        descriptors =
+            descriptors;
+      }
 
 pub head_says : (a b : ℕ) (start duration : List ℕ) (f g : ℕ) → length start ≡ 5 → length duration ≡ 3 → HeadSays a b start duration f g
 unfolding head_of descriptors_length event_of
 head_says a b start duration f g hs hd =
     subst (λ (s : List ℕ). HeadSays a b s duration f g) (sym (five start hs))
-    (subst (λ (d : List ℕ). HeadSays a b (slice_index start 0 ∷ slice_index start 1 ∷ slice_index start 2 ∷ slice_index start 3 ∷ slice_index start 4 ∷ []) d f g) (sym (three duration hd))
+    (subst (λ (d : List ℕ). HeadSays a b (slice_index start 0 ∷ slice_index start 1 ∷ slice_index start 2 ∷ slice_index start 3 ∷ slice_index start 4 ∷ []) d f
+    g) (sym (three duration hd))
     (record { len = refl; count = refl; value = λ descriptors. refl }))
 
 -- the numbers of four bytes that spell an event
@@ -103,15 +112,20 @@ event_only bytes e h fits =
     let i = two h.id h.id_len in
     let s = two h.status h.status_len in
     let all : IsBytes (h.id ++ e.start_time ++ e.duration ++ h.status ++ e.descriptors) = subst IsBytes h.is fits in
-    let head : IsBytes (h.id ++ e.start_time ++ e.duration ++ h.status) = IsBytes-append_left (h.id ++ e.start_time ++ e.duration ++ h.status) e.descriptors all in
+    let head : IsBytes (h.id ++ e.start_time ++ e.duration ++ h.status) =
+    IsBytes-append_left (h.id ++ e.start_time ++ e.duration ++ h.status) e.descriptors all in
     let front : IsBytes (h.id ++ e.start_time ++ e.duration) = IsBytes-append_left (h.id ++ e.start_time ++ e.duration) h.status head in
     let status : IsBytes h.status = IsBytes-append_right (h.id ++ e.start_time ++ e.duration) h.status head in
     let id : IsBytes h.id = IsBytes-append_left h.id e.start_time (IsBytes-append_left (h.id ++ e.start_time) e.duration front) in
     let n = numbers (slice_index h.id 0) (slice_index h.id 1) (slice_index h.status 0) (slice_index h.status 1) e (id 0) (id 1) (status 0) (status 1)
     h.event_id h.descriptors_loop_length (ap number (sym i) ∙ h.id_spelled) (ap number (sym s) ∙ h.status_spelled) in
-    let says = head_says (slice_index h.id 0) (slice_index h.id 1) e.start_time e.duration (slice_index h.status 0) (slice_index h.status 1) h.start_time_len h.duration_len in
+    let says = head_says (slice_index h.id 0) (slice_index h.id 1) e.start_time e.duration (slice_index h.status 0) (slice_index h.status 1) h.start_time_len
+    h.duration_len in
     record {
-      said = record { head = head_of (slice_index h.id 0) (slice_index h.id 1) e.start_time e.duration (slice_index h.status 0) (slice_index h.status 1); descriptors = e.descriptors };
+      said = record {
+        head = head_of (slice_index h.id 0) (slice_index h.id 1) e.start_time e.duration (slice_index h.status 0) (slice_index h.status 1);
+        descriptors = e.descriptors;
+      };
       is = h.is ∙ ap₂ (λ (x y : List ℕ). x ++ e.start_time ++ e.duration ++ y ++ e.descriptors) i s;
       entry = record { head_length = says.len; named = says.count ∙ n.count };
       value = said _ _ _ _ e n says;

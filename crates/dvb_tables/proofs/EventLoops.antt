@@ -12,7 +12,8 @@ use Rattle.psi_tables.proofs.LoopParts.{loop_at-end}
 use Rattle.dvb_tables.specs.Sequences.{IsSequence}
 use Rattle.dvb_tables.specs.EventEntries.{EventView, IsEvent, event_of, event_bytes, event_status, events_in, events_at, events_bytes}
 use Rattle.dvb_tables.specs.Fits.{EventFits}
-use Rattle.dvb_tables.proofs.EntrySequences.{SaysAll, whole_entries, sequence_of, entries_of, written_same, written_length, written_sequence, written_entries, entries_whole, values_read, values_after}
+use Rattle.dvb_tables.proofs.EntrySequences.{SaysAll, whole_entries, sequence_of, entries_of, written_same, written_length, written_sequence, written_entries}
+use Rattle.dvb_tables.proofs.EntrySequences.{entries_whole, values_read, values_after}
 use Rattle.dvb_tables.proofs.EventFields.{event_found, event_only, event_same}
 use Rattle.dvb_tables.proofs.EventWritten.{event_written, event_said}
 
@@ -86,7 +87,8 @@ event_length : (e : EntryView) → IsEntry 12 e → length (event_bytes (event_o
 unfolding event_of entry_bytes
 event_length e entry =
     let h = entry.head_length in
-    event_size (event_of e) (omega (arith, h, length-take 5 (drop 2 e.head), length-drop 2 e.head)) (omega (arith, h, length-take 3 (drop 7 e.head), length-drop 7 e.head))
+    event_size (event_of e) (omega (arith, h, length-take 5 (drop 2 e.head), length-drop 2 e.head))
+    (omega (arith, h, length-take 3 (drop 7 e.head), length-drop 7 e.head))
     ∙ omega (arith, h, length-append e.head e.descriptors)
 
 -- what is written of a whole loop is as long as it is
@@ -102,7 +104,8 @@ more_bytes es e = flat_map-append event_bytes es (e ∷ []) ∙ ap (λ (t : List
 pub more_length : (bytes : List ℕ) (e : EventView) → is_some (loop_at 12 bytes) ≡ true → length e.start_time ≡ 5 → length e.duration ≡ 3
     → length (events_bytes (events_in bytes ++ e ∷ [])) ≡ length bytes + (12 + length e.descriptors)
 more_length bytes e whole five three =
-    let all : length (events_bytes (events_in bytes ++ e ∷ [])) ≡ length (events_bytes (events_in bytes) ++ event_bytes e) = ap (length {A = ℕ}) (more_bytes (events_in bytes) e) in
+    let all : length (events_bytes (events_in bytes ++ e ∷ [])) ≡ length (events_bytes (events_in bytes) ++ event_bytes e) =
+    ap (length {A = ℕ}) (more_bytes (events_in bytes) e) in
     omega (arith, all, event_size e five three, events_length bytes whole, length-append (events_bytes (events_in bytes)) (event_bytes e))
 
 -- what was read of a loop stands there

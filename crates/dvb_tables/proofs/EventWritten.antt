@@ -25,7 +25,8 @@ event_written e h = record {
   duration_len = h.duration;
   status_len = refl;
   id_spelled = omega (arith, h.event_id);
-  status_spelled = status_spelled (status_code e.running_status) (bit e.free_ca_mode) (length e.descriptors) (code_below e.running_status) (bit_below e.free_ca_mode) h.descriptors;
+  status_spelled = status_spelled (status_code e.running_status) (bit e.free_ca_mode) (length e.descriptors) (code_below e.running_status)
+      (bit_below e.free_ca_mode) h.descriptors;
   event_id = h.event_id;
   descriptors_loop_length = h.descriptors;
 }
@@ -39,7 +40,8 @@ event_said e h =
     let id = h.event_id in
     let n = h.descriptors in
     let written = event_written e h in
-    let whole = numbers (e.event_id / 256) (e.event_id % 256) ((status_code e.running_status * 2 + bit e.free_ca_mode) * 16 + length e.descriptors / 256) (length e.descriptors % 256) e
+    let whole = numbers (e.event_id / 256) (e.event_id % 256) ((status_code e.running_status * 2 + bit e.free_ca_mode) * 16 + length e.descriptors / 256)
+    (length e.descriptors % 256) e
     (omega (arith, id)) (omega arith) (omega (arith, r, t, n)) (omega arith) id n written.id_spelled written.status_spelled in
     let says = head_says (e.event_id / 256) (e.event_id % 256) e.start_time e.duration
     ((status_code e.running_status * 2 + bit e.free_ca_mode) * 16 + length e.descriptors / 256) (length e.descriptors % 256) h.start_time h.duration in

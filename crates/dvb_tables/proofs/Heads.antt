@@ -4,7 +4,8 @@ use Rattle.std.specs.Prelude.{slice_index}
 use Rattle.bit_fields.specs.Fields.{bit, flag}
 use Rattle.bit_fields.proofs.Fields.{bit_test}
 use Rattle.dvb_tables.specs.declared.running_status.RunningStatus.{RunningStatus}
-use Rattle.dvb_tables.specs.declared.running_status.RunningStatus.TheVariants.{Undefined, NotRunning, StartsSoon, Pausing, Running, OffAir, Reserved6, Reserved7}
+use Rattle.dvb_tables.specs.declared.running_status.RunningStatus.TheVariants.{Undefined, NotRunning, StartsSoon, Pausing, Running, OffAir, Reserved6}
+use Rattle.dvb_tables.specs.declared.running_status.RunningStatus.TheVariants.{Reserved7}
 use Rattle.dvb_tables.specs.RunningStates.{status_code, status_of}
 
 pub two : (xs : List ℕ) → length xs ≡ 2 → xs ≡ slice_index xs 0 ∷ slice_index xs 1 ∷ []
@@ -29,7 +30,8 @@ five (a ∷ b ∷ c ∷ d ∷ []) e = absurd (omega arith)
 five (a ∷ b ∷ c ∷ d ∷ f ∷ []) e = refl
 five (a ∷ b ∷ c ∷ d ∷ f ∷ g ∷ xs) e = absurd (omega arith)
 
-pub six : (xs : List ℕ) → length xs ≡ 6 → xs ≡ slice_index xs 0 ∷ slice_index xs 1 ∷ slice_index xs 2 ∷ slice_index xs 3 ∷ slice_index xs 4 ∷ slice_index xs 5 ∷ []
+pub six : (xs : List ℕ) → length xs ≡ 6 →
+    xs ≡ slice_index xs 0 ∷ slice_index xs 1 ∷ slice_index xs 2 ∷ slice_index xs 3 ∷ slice_index xs 4 ∷ slice_index xs 5 ∷ []
 six [] e = absurd (omega arith)
 six (a ∷ []) e = absurd (omega arith)
 six (a ∷ b ∷ []) e = absurd (omega arith)
@@ -39,7 +41,9 @@ six (a ∷ b ∷ c ∷ d ∷ f ∷ []) e = absurd (omega arith)
 six (a ∷ b ∷ c ∷ d ∷ f ∷ g ∷ []) e = refl
 six (a ∷ b ∷ c ∷ d ∷ f ∷ g ∷ h ∷ xs) e = absurd (omega arith)
 
-pub twelve : (xs : List ℕ) → length xs ≡ 12 → xs ≡ slice_index xs 0 ∷ slice_index xs 1 ∷ slice_index xs 2 ∷ slice_index xs 3 ∷ slice_index xs 4 ∷ slice_index xs 5 ∷ slice_index xs 6 ∷ slice_index xs 7 ∷ slice_index xs 8 ∷ slice_index xs 9 ∷ slice_index xs 10 ∷ slice_index xs 11 ∷ []
+pub twelve : (xs : List ℕ) → length xs ≡ 12 →
+    xs ≡ slice_index xs 0 ∷ slice_index xs 1 ∷ slice_index xs 2 ∷ slice_index xs 3 ∷ slice_index xs 4 ∷ slice_index xs 5 ∷ slice_index xs 6 ∷ slice_index xs 7 ∷
+    slice_index xs 8 ∷ slice_index xs 9 ∷ slice_index xs 10 ∷ slice_index xs 11 ∷ []
 twelve [] e = absurd (omega arith)
 twelve (a ∷ []) e = absurd (omega arith)
 twelve (a ∷ b ∷ []) e = absurd (omega arith)

@@ -1,5 +1,6 @@
 -- The network information table: what is read stands there, and what stands there is read.
-use Rattle.std.proofs.Common.{◌≡◌, ℕ, ◌+◌, ◌*◌, ◌/◌, ◌%◌, ◌^◌, ◌<◌, ◌==◌, refl, sym, ap, ◌∙◌, subst, arith, List, [], ◌∷◌, ◌++◌, length, Option, None, Some, Ok, append-nil, eqb-true}
+use Rattle.std.proofs.Common.{◌≡◌, ℕ, ◌+◌, ◌*◌, ◌/◌, ◌%◌, ◌^◌, ◌<◌, ◌==◌, refl, sym, ap, ◌∙◌, subst, arith, List, [], ◌∷◌, ◌++◌, length, Option, None, Some, Ok}
+use Rattle.std.proofs.Common.{append-nil, eqb-true}
 use Rattle.std.specs.Prelude.{slice_index}
 use Rattle.bit_fields.specs.Fields.{number, fields, IsBytes}
 use Rattle.bit_fields.proofs.Bind.{bind_ok, ok_is}
@@ -27,9 +28,11 @@ count_found e entry fits =
     let h = two e.head entry.head_length in
     let n : slice_index e.head 0 % 16 * 256 + slice_index e.head 1 ≡ length e.descriptors = sym (ap descriptors_length h) ∙ entry.named in
     subst (λ (head : List ℕ). IsLoopLength head (length e.descriptors)) (sym h)
-    (subst (λ (n : ℕ). IsLoopLength (slice_index e.head 0 ∷ slice_index e.head 1 ∷ []) n) n (count_is (slice_index e.head 0) (slice_index e.head 1) (fits 0) (fits 1)))
+    (subst (λ (n : ℕ). IsLoopLength (slice_index e.head 0 ∷ slice_index e.head 1 ∷ []) n) n
+    (count_is (slice_index e.head 0) (slice_index e.head 1) (fits 0) (fits 1)))
 
-count_said : (a b n reserved : ℕ) → a < 256 → b < 256 → reserved < 2 ^ 4 → n < 2 ^ 12 → number (a ∷ b ∷ []) ≡ fields ((4, reserved) ∷ (12, n) ∷ []) → a % 16 * 256 + b ≡ n
+count_said : (a b n reserved : ℕ) → a < 256 → b < 256 → reserved < 2 ^ 4 → n < 2 ^ 12 → number (a ∷ b ∷ []) ≡ fields ((4, reserved) ∷ (12, n) ∷ []) →
+    a % 16 * 256 + b ≡ n
 count_said a b n reserved ha hb hr hn e = omega arith
 
 -- a count and what it counts are an entry
@@ -39,7 +42,8 @@ count_entry head rest h fits =
     let l = two head h.len in
     record {
       head_length = h.len;
-      named = ap descriptors_length l ∙ count_said (slice_index head 0) (slice_index head 1) (length rest) h.reserved (fits 0) (fits 1) h.four_bits h.twelve_bits (ap number (sym l) ∙ h.spelled);
+      named = ap descriptors_length l ∙ count_said (slice_index head 0) (slice_index head 1) (length rest) h.reserved (fits 0) (fits 1) h.four_bits
+          h.twelve_bits (ap number (sym l) ∙ h.spelled);
     }
 
 -- what was found to the end of bytes
@@ -122,7 +126,8 @@ pub body_read : (t : NitView) (body first second loop : List ℕ) → body ≡ (
     → transport_streams_at loop ≡ Ok t.transport_streams → nit_after t.header (entry_at 2 body) ≡ Ok t
 unfolding nit_after to_the_end entry_bytes
 body_read t body first second loop is one two streams =
-    let front : entry_at 2 ((first ++ t.network_descriptors) ++ (second ++ loop)) ≡ Some (record { head = first; descriptors = t.network_descriptors }, second ++ loop)
+    let front : entry_at 2 ((first ++ t.network_descriptors) ++ (second ++ loop)) ≡ Some
+    (record { head = first; descriptors = t.network_descriptors }, second ++ loop)
     = entry_at-read 2 (record { head = first; descriptors = t.network_descriptors }) (second ++ loop) one in
     let end : entry_at 2 (second ++ loop) ≡ Some (record { head = second; descriptors = loop }, [])
     = ap (λ (b : List ℕ). entry_at 2 b) (sym (append-nil (second ++ loop))) ∙ entry_at-read 2 (record { head = second; descriptors = loop }) [] two in
@@ -134,9 +139,11 @@ unfolding nit_at
 nit_again s t fits h =
     let header = table_header_at-read 0x40 1021 s t.header (record { table_id = h.table_id; long = h.long; section_length = h.section_length }) in
     let all : IsBytes ((h.descriptors_head ++ t.network_descriptors) ++ (h.loop_head ++ h.loop)) = subst IsBytes h.is fits in
-    let left : IsBytes (h.descriptors_head ++ t.network_descriptors) = IsBytes-append_left (h.descriptors_head ++ t.network_descriptors) (h.loop_head ++ h.loop) all in
+    let left : IsBytes (h.descriptors_head ++ t.network_descriptors) =
+    IsBytes-append_left (h.descriptors_head ++ t.network_descriptors) (h.loop_head ++ h.loop) all in
     let right : IsBytes (h.loop_head ++ h.loop) = IsBytes-append_right (h.descriptors_head ++ t.network_descriptors) (h.loop_head ++ h.loop) all in
-    let one = count_entry h.descriptors_head t.network_descriptors h.network_descriptors_length (IsBytes-append_left h.descriptors_head t.network_descriptors left) in
+    let one = count_entry h.descriptors_head t.network_descriptors h.network_descriptors_length
+    (IsBytes-append_left h.descriptors_head t.network_descriptors left) in
     let two = count_entry h.loop_head h.loop h.transport_stream_loop_length (IsBytes-append_left h.loop_head h.loop right) in
     let streams = transport_streams_only h.loop t.transport_streams (IsBytes-append_right h.loop_head h.loop right) h.transport_streams in
     rw header (body_read t s.body h.descriptors_head h.loop_head h.loop h.is one two streams)

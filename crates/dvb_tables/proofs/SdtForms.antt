@@ -1,5 +1,6 @@
 -- The service description table: what is read stands there, and what stands there is read.
-use Rattle.std.proofs.Common.{◌≡◌, ℕ, ◌+◌, ◌*◌, ◌^◌, ◌<◌, ◌≤◌, nat_lt, false, refl, sym, ap, ◌∙◌, subst, arith, List, [], ◌∷◌, ◌++◌, length, take, drop, Ok, length-append}
+use Rattle.std.proofs.Common.{◌≡◌, ℕ, ◌+◌, ◌*◌, ◌^◌, ◌<◌, ◌≤◌, nat_lt, false, refl, sym, ap, ◌∙◌, subst, arith, List, [], ◌∷◌, ◌++◌, length, take, drop, Ok}
+use Rattle.std.proofs.Common.{length-append}
 use Rattle.std.proofs.lemmas.Bool.{ltb-false, le-ltb}
 use Rattle.std.proofs.lemmas.List.{length-take, take-append-drop}
 use Rattle.std.specs.Prelude.{slice_index}
@@ -59,7 +60,8 @@ sdt_is s t fits e =
 number_read : (front : List ℕ) (n reserved : ℕ) → length front ≡ 3 → IsBytes front → n < 2 ^ 16 → reserved < 2 ^ 8
     → number front ≡ fields ((16, n) ∷ (8, reserved) ∷ []) → slice_index front 0 * 256 + slice_index front 1 ≡ n
 number_read front n reserved len bytes hn hr spelled =
-    let e : number (slice_index front 0 ∷ slice_index front 1 ∷ slice_index front 2 ∷ []) ≡ fields ((16, n) ∷ (8, reserved) ∷ []) = ap number (sym (three front len)) ∙ spelled in
+    let e : number (slice_index front 0 ∷ slice_index front 1 ∷ slice_index front 2 ∷ []) ≡ fields ((16, n) ∷ (8, reserved) ∷ []) =
+    ap number (sym (three front len)) ∙ spelled in
     omega (arith, e, bytes 0, bytes 1, bytes 2)
 
 after_read : (t : SdtView) (front loop : List ℕ) → slice_index front 0 * 256 + slice_index front 1 ≡ t.original_network_id → services_at loop ≡ Ok t.services
@@ -82,6 +84,7 @@ unfolding sdt_at
 sdt_again s t fits h =
     let header = table_header_at-read 0x42 1021 s t.header (record { table_id = h.table_id; long = h.long; section_length = h.section_length }) in
     let all : IsBytes (h.front ++ h.loop) = subst IsBytes h.is fits in
-    let id = number_read h.front t.original_network_id h.reserved h.front_length (IsBytes-append_left h.front h.loop all) h.original_network_id h.eight_bits h.spelled in
+    let id = number_read h.front t.original_network_id h.reserved h.front_length (IsBytes-append_left h.front h.loop all) h.original_network_id h.eight_bits
+    h.spelled in
     let services = services_only h.loop t.services (IsBytes-append_right h.front h.loop all) h.services in
     rw header (body_read t s.body h.front h.loop h.is h.front_length id services)

@@ -41,7 +41,8 @@ unfolding entry_bytes descriptors_length
 service_found e entry fits =
     let h = five e.head entry.head_length in
     let head : IsBytes e.head = IsBytes-append_left e.head e.descriptors fits in
-    let n : descriptors_length (slice_index e.head 0 ∷ slice_index e.head 1 ∷ slice_index e.head 2 ∷ slice_index e.head 3 ∷ slice_index e.head 4 ∷ []) ≡ length e.descriptors
+    let n : descriptors_length (slice_index e.head 0 ∷ slice_index e.head 1 ∷ slice_index e.head 2 ∷ slice_index e.head 3 ∷ slice_index e.head 4 ∷ []) ≡ length
+    e.descriptors
     = sym (ap descriptors_length h) ∙ entry.named in
     subst (λ (h : List ℕ). IsService (h ++ e.descriptors) (service_of (record { head = h; descriptors = e.descriptors }))) (sym h)
     (here (slice_index e.head 0) (slice_index e.head 1) (slice_index e.head 2) (slice_index e.head 3) (slice_index e.head 4) e.descriptors

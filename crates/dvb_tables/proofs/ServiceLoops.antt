@@ -12,7 +12,8 @@ use Rattle.psi_tables.specs.Loops.{loop_at, entries_in}
 use Rattle.dvb_tables.specs.Sequences.{IsSequence}
 use Rattle.dvb_tables.specs.Services.{ServiceView, IsService, service_of, service_bytes, service_front, services_in, services_at, services_bytes}
 use Rattle.dvb_tables.specs.Fits.{ServiceFits}
-use Rattle.dvb_tables.proofs.EntrySequences.{SaysAll, whole_entries, sequence_of, entries_of, written_length, written_sequence, written_entries, entries_whole, values_read, values_after}
+use Rattle.dvb_tables.proofs.EntrySequences.{SaysAll, whole_entries, sequence_of, entries_of, written_length, written_sequence, written_entries, entries_whole}
+use Rattle.dvb_tables.proofs.EntrySequences.{values_read, values_after}
 use Rattle.dvb_tables.proofs.ServiceFields.{service_found, service_only, service_length}
 use Rattle.dvb_tables.proofs.ServiceWritten.{service_written, service_said}
 
@@ -52,10 +53,17 @@ unfolding services_bytes
 service_step out x xs = append_assoc out (service_bytes x) (services_bytes xs)
 
 -- room for one where there is room for all
-pub service_room : (out : List ℕ) (x : ServiceView) (xs : List ServiceView) (n : ℕ) → length (out ++ services_bytes (x ∷ xs)) ≤ n → length out + (5 + length x.descriptors) ≤ n
+pub service_room : (out : List ℕ) (x : ServiceView) (xs : List ServiceView) (n : ℕ) → length (out ++ services_bytes (x ∷ xs)) ≤ n →
+    length out + (5 + length x.descriptors) ≤ n
 unfolding services_bytes service_bytes service_front
 service_room out x xs n h =
-    omega (arith, h, length-append out (service_bytes x ++ services_bytes xs), length-append (service_bytes x) (services_bytes xs), length-append (service_front x) x.descriptors)
+    omega (
+      arith,
+      h,
+      length-append out (service_bytes x ++ services_bytes xs),
+      length-append (service_bytes x) (services_bytes xs),
+      length-append (service_front x) x.descriptors,
+    )
 
 -- no bytes are no services
 pub no_services : services_in [] ≡ []
@@ -85,9 +93,11 @@ unfolding service_bytes service_front
 size x = omega arith
 
 -- how many bytes a loop takes with one more
-pub more_length : (bytes : List ℕ) (x : ServiceView) → is_some (loop_at 5 bytes) ≡ true → length (services_bytes (services_in bytes ++ x ∷ [])) ≡ length bytes + (5 + length x.descriptors)
+pub more_length : (bytes : List ℕ) (x : ServiceView) → is_some (loop_at 5 bytes) ≡ true → length (services_bytes (services_in bytes ++ x ∷ [])) ≡ length bytes
+    + (5 + length x.descriptors)
 more_length bytes x whole =
-    let all : length (services_bytes (services_in bytes ++ x ∷ [])) ≡ length (services_bytes (services_in bytes) ++ service_bytes x) = ap (length {A = ℕ}) (more_bytes (services_in bytes) x) in
+    let all : length (services_bytes (services_in bytes ++ x ∷ [])) ≡ length (services_bytes (services_in bytes) ++ service_bytes x) =
+    ap (length {A = ℕ}) (more_bytes (services_in bytes) x) in
     omega (arith, all, size x, services_length bytes whole, length-append (services_bytes (services_in bytes)) (service_bytes x))
 
 -- what was read of a loop stands there

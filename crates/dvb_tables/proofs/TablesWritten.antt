@@ -1,5 +1,6 @@
 -- What is written of a table is the table, and is read again.
-use Rattle.std.proofs.Common.{◌≡◌, ℕ, ◌+◌, ◌*◌, ◌/◌, ◌%◌, ◌^◌, ◌<◌, ◌==◌, Bool, true, false, cond, refl, subst, eqb-true, arith, List, [], ◌∷◌, ◌++◌, length, lit<, append_assoc}
+use Rattle.std.proofs.Common.{◌≡◌, ℕ, ◌+◌, ◌*◌, ◌/◌, ◌%◌, ◌^◌, ◌<◌, ◌==◌, Bool, true, false, cond, refl, subst, eqb-true, arith, List, [], ◌∷◌, ◌++◌, length}
+use Rattle.std.proofs.Common.{lit<, append_assoc}
 use Rattle.psi_tables.specs.Loops.{IsEntry, descriptors_length}
 use Rattle.psi_tables.proofs.TableForms.{HasHeader, table_header_at-read}
 use Rattle.dvb_tables.specs.Laws.{TimesAreDigits, TextsAreDecoded, NitFits, NitIsRead, SdtFits, SdtIsRead, EitFits, EitIsRead, TdtIsRead}
@@ -103,7 +104,8 @@ eit_written t h =
         events = events_written t.events h.events;
       };
       read = rw read (Eits.body_read t (eit_body t) front (events_bytes t.events) refl refl
-          (record { transport_stream_id = one; original_network_id = two; segment_last_section_number = refl; last_table_id = refl }) (events_again t.events h.events));
+          (record { transport_stream_id = one; original_network_id = two; segment_last_section_number = refl; last_table_id = refl })
+          (events_again t.events h.events));
     }
 
 count_written : (n : ℕ) → n < 2 ^ 12 → IsLoopLength (loop_length_bytes n) n

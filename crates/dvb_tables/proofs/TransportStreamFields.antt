@@ -30,10 +30,13 @@ unfolding entry_bytes descriptors_length
 transport_stream_found e entry fits =
     let h = six e.head entry.head_length in
     let head : IsBytes e.head = IsBytes-append_left e.head e.descriptors fits in
-    let n : descriptors_length (slice_index e.head 0 ∷ slice_index e.head 1 ∷ slice_index e.head 2 ∷ slice_index e.head 3 ∷ slice_index e.head 4 ∷ slice_index e.head 5 ∷ []) ≡ length e.descriptors
+    let n : descriptors_length
+    (slice_index e.head 0 ∷ slice_index e.head 1 ∷ slice_index e.head 2 ∷ slice_index e.head 3 ∷ slice_index e.head 4 ∷ slice_index e.head 5 ∷ []) ≡ length
+    e.descriptors
     = sym (ap descriptors_length h) ∙ entry.named in
     subst (λ (h : List ℕ). IsTransportStream (h ++ e.descriptors) (transport_stream_of (record { head = h; descriptors = e.descriptors }))) (sym h)
-    (here (slice_index e.head 0) (slice_index e.head 1) (slice_index e.head 2) (slice_index e.head 3) (slice_index e.head 4) (slice_index e.head 5) e.descriptors
+    (here (slice_index e.head 0) (slice_index e.head 1) (slice_index e.head 2) (slice_index e.head 3) (slice_index e.head 4) (slice_index e.head 5)
+    e.descriptors
     (head 0) (head 1) (head 2) (head 3) (head 4) (head 5) n)
 
 -- the numbers of six bytes that spell a transport stream
@@ -64,7 +67,8 @@ unfolding entry_bytes descriptors_length
 transport_stream_only bytes t h fits =
     let l = six h.head h.len in
     let head : IsBytes h.head = IsBytes-append_left h.head t.descriptors (subst IsBytes h.is fits) in
-    let n = numbers (slice_index h.head 0) (slice_index h.head 1) (slice_index h.head 2) (slice_index h.head 3) (slice_index h.head 4) (slice_index h.head 5) h.reserved t
+    let n = numbers (slice_index h.head 0) (slice_index h.head 1) (slice_index h.head 2) (slice_index h.head 3) (slice_index h.head 4) (slice_index h.head 5)
+    h.reserved t
     (head 0) (head 1) (head 2) (head 3) (head 4) (head 5) h.transport_stream_id h.original_network_id h.four_bits h.transport_descriptors_length
     (ap number (sym l) ∙ h.spelled) in
     record {

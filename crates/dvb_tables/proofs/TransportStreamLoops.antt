@@ -11,14 +11,17 @@ use Rattle.dvb_tables.proofs.Seams.{accepted}
 use Rattle.bit_fields.specs.Fields.{IsBytes}
 use Rattle.psi_tables.specs.Loops.{loop_at, entries_in}
 use Rattle.dvb_tables.specs.Sequences.{IsSequence}
-use Rattle.dvb_tables.specs.TransportStreams.{TransportStreamView, IsTransportStream, transport_stream_of, transport_stream_bytes, transport_stream_front, transport_streams_in, transport_streams_at, transport_streams_bytes}
+use Rattle.dvb_tables.specs.TransportStreams.{TransportStreamView, IsTransportStream, transport_stream_of, transport_stream_bytes, transport_stream_front}
+use Rattle.dvb_tables.specs.TransportStreams.{transport_streams_in, transport_streams_at, transport_streams_bytes}
 use Rattle.dvb_tables.specs.Fits.{TransportStreamFits}
-use Rattle.dvb_tables.proofs.EntrySequences.{SaysAll, whole_entries, sequence_of, entries_of, written_length, written_sequence, written_entries, entries_whole, values_read, values_after}
+use Rattle.dvb_tables.proofs.EntrySequences.{SaysAll, whole_entries, sequence_of, entries_of, written_length, written_sequence, written_entries, entries_whole}
+use Rattle.dvb_tables.proofs.EntrySequences.{values_read, values_after}
 use Rattle.dvb_tables.proofs.TransportStreamFields.{transport_stream_found, transport_stream_only, transport_stream_length}
 use Rattle.dvb_tables.proofs.TransportStreamWritten.{transport_stream_written, transport_stream_said}
 
 -- a whole loop is transport streams
-pub transport_streams_found : (bytes : List ℕ) → IsBytes bytes → is_some (loop_at 6 bytes) ≡ true → IsSequence IsTransportStream bytes (transport_streams_in bytes)
+pub transport_streams_found : (bytes : List ℕ) → IsBytes bytes → is_some (loop_at 6 bytes) ≡ true →
+    IsSequence IsTransportStream bytes (transport_streams_in bytes)
 unfolding transport_streams_in
 transport_streams_found bytes fits whole =
     sequence_of 6 IsTransportStream transport_stream_of transport_stream_found bytes (entries_in 6 bytes) fits (whole_entries 6 bytes whole)
@@ -30,7 +33,8 @@ read bytes ts h =
     rw whole (ap Ok (values_read 6 transport_stream_of bytes ts (omega arith) h))
 
 -- transport streams are read
-pub transport_streams_only : (bytes : List ℕ) (ts : List TransportStreamView) → IsBytes bytes → IsSequence IsTransportStream bytes ts → transport_streams_at bytes ≡ Ok ts
+pub transport_streams_only : (bytes : List ℕ) (ts : List TransportStreamView) → IsBytes bytes → IsSequence IsTransportStream bytes ts →
+    transport_streams_at bytes ≡ Ok ts
 transport_streams_only bytes ts fits h = read bytes ts (entries_of 6 IsTransportStream transport_stream_of transport_stream_only bytes ts fits h)
 
 -- transport streams that are written are read again
@@ -45,21 +49,30 @@ unfolding transport_streams_bytes
 transport_streams_written ts h = written_sequence IsTransportStream transport_stream_bytes TransportStreamFits transport_stream_written ts h
 
 -- what is written of a whole loop is as long as it is
-pub transport_streams_length : (bytes : List ℕ) → is_some (loop_at 6 bytes) ≡ true → length (transport_streams_bytes (transport_streams_in bytes)) ≡ length bytes
+pub transport_streams_length : (bytes : List ℕ) → is_some (loop_at 6 bytes) ≡ true →
+    length (transport_streams_bytes (transport_streams_in bytes)) ≡ length bytes
 unfolding transport_streams_in transport_streams_bytes
 transport_streams_length bytes whole =
     written_length 6 transport_stream_of transport_stream_bytes transport_stream_length bytes (entries_in 6 bytes) (whole_entries 6 bytes whole)
 
 -- one written, the others to be written
-pub transport_stream_step : (out : List ℕ) (x : TransportStreamView) (xs : List TransportStreamView) → (out ++ transport_stream_bytes x) ++ transport_streams_bytes xs ≡ out ++ transport_streams_bytes (x ∷ xs)
+pub transport_stream_step : (out : List ℕ) (x : TransportStreamView) (xs : List TransportStreamView) →
+    (out ++ transport_stream_bytes x) ++ transport_streams_bytes xs ≡ out ++ transport_streams_bytes (x ∷ xs)
 unfolding transport_streams_bytes
 transport_stream_step out x xs = append_assoc out (transport_stream_bytes x) (transport_streams_bytes xs)
 
 -- room for one where there is room for all
-pub transport_stream_room : (out : List ℕ) (x : TransportStreamView) (xs : List TransportStreamView) (n : ℕ) → length (out ++ transport_streams_bytes (x ∷ xs)) ≤ n → length out + (6 + length x.descriptors) ≤ n
+pub transport_stream_room : (out : List ℕ) (x : TransportStreamView) (xs : List TransportStreamView) (n : ℕ) →
+    length (out ++ transport_streams_bytes (x ∷ xs)) ≤ n → length out + (6 + length x.descriptors) ≤ n
 unfolding transport_streams_bytes transport_stream_bytes transport_stream_front
 transport_stream_room out x xs n h =
-    omega (arith, h, length-append out (transport_stream_bytes x ++ transport_streams_bytes xs), length-append (transport_stream_bytes x) (transport_streams_bytes xs), length-append (transport_stream_front x) x.descriptors)
+    omega (
+      arith,
+      h,
+      length-append out (transport_stream_bytes x ++ transport_streams_bytes xs),
+      length-append (transport_stream_bytes x) (transport_streams_bytes xs),
+      length-append (transport_stream_front x) x.descriptors,
+    )
 
 -- no bytes are no transport streams
 pub no_transport_streams : transport_streams_in [] ≡ []
@@ -74,28 +87,40 @@ pub record OneMore (bytes : List ℕ) (x : TransportStreamView) : Type 0 where
 pub one_more : (bytes : List ℕ) (x : TransportStreamView) → TransportStreamFits x → is_some (loop_at 6 bytes) ≡ true → OneMore bytes x
 unfolding transport_streams_in
 one_more bytes x fits whole =
-    let h = values_after 6 transport_stream_of bytes (transport_stream_bytes x) (entries_in 6 bytes) x (whole_entries 6 bytes whole) (transport_stream_said x fits) in
+    let h = values_after 6 transport_stream_of bytes (transport_stream_bytes x) (entries_in 6 bytes) x (whole_entries 6 bytes whole)
+    (transport_stream_said x fits) in
     record {
       whole = entries_whole 6 (bytes ++ transport_stream_bytes x) h.es (omega arith) h.entries;
       values = values_read 6 transport_stream_of (bytes ++ transport_stream_bytes x) (map transport_stream_of (entries_in 6 bytes) ++ x ∷ []) (omega arith) h;
     }
 
-more_bytes : (xs : List TransportStreamView) (x : TransportStreamView) → transport_streams_bytes (xs ++ x ∷ []) ≡ transport_streams_bytes xs ++ transport_stream_bytes x
+more_bytes : (xs : List TransportStreamView) (x : TransportStreamView) → transport_streams_bytes (xs ++ x ∷ []) ≡ transport_streams_bytes xs
+    ++ transport_stream_bytes x
 unfolding transport_streams_bytes
-more_bytes xs x = flat_map-append transport_stream_bytes xs (x ∷ []) ∙ ap (λ (t : List ℕ). flat_map transport_stream_bytes xs ++ t) (append-nil (transport_stream_bytes x))
+more_bytes xs x = flat_map-append transport_stream_bytes xs (x ∷ [])
+    ∙ ap (λ (t : List ℕ). flat_map transport_stream_bytes xs ++ t) (append-nil (transport_stream_bytes x))
 
 size : (x : TransportStreamView) → length (transport_stream_bytes x) ≡ 6 + length x.descriptors
 unfolding transport_stream_bytes transport_stream_front
 size x = omega arith
 
 -- how many bytes a loop takes with one more
-pub more_length : (bytes : List ℕ) (x : TransportStreamView) → is_some (loop_at 6 bytes) ≡ true → length (transport_streams_bytes (transport_streams_in bytes ++ x ∷ [])) ≡ length bytes + (6 + length x.descriptors)
+pub more_length : (bytes : List ℕ) (x : TransportStreamView) → is_some (loop_at 6 bytes) ≡ true →
+    length (transport_streams_bytes (transport_streams_in bytes ++ x ∷ [])) ≡ length bytes + (6 + length x.descriptors)
 more_length bytes x whole =
-    let all : length (transport_streams_bytes (transport_streams_in bytes ++ x ∷ [])) ≡ length (transport_streams_bytes (transport_streams_in bytes) ++ transport_stream_bytes x) = ap (length {A = ℕ}) (more_bytes (transport_streams_in bytes) x) in
-    omega (arith, all, size x, transport_streams_length bytes whole, length-append (transport_streams_bytes (transport_streams_in bytes)) (transport_stream_bytes x))
+    let all : length (transport_streams_bytes (transport_streams_in bytes ++ x ∷ [])) ≡ length
+    (transport_streams_bytes (transport_streams_in bytes) ++ transport_stream_bytes x) = ap (length {A = ℕ}) (more_bytes (transport_streams_in bytes) x) in
+    omega (
+      arith,
+      all,
+      size x,
+      transport_streams_length bytes whole,
+      length-append (transport_streams_bytes (transport_streams_in bytes)) (transport_stream_bytes x),
+    )
 
 -- what was read of a loop stands there
-pub transport_streams_is : (bytes : List ℕ) (xs : List TransportStreamView) → IsBytes bytes → transport_streams_at bytes ≡ Ok xs → IsSequence IsTransportStream bytes xs
+pub transport_streams_is : (bytes : List ℕ) (xs : List TransportStreamView) → IsBytes bytes → transport_streams_at bytes ≡ Ok xs →
+    IsSequence IsTransportStream bytes xs
 unfolding transport_streams_at
 transport_streams_is bytes xs fits e =
     let a = accepted (is_some (loop_at 6 bytes)) (transport_streams_in bytes) Body xs e in

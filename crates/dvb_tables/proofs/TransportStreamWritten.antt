@@ -36,7 +36,8 @@ transport_stream_said t h =
     let n = h.descriptors in
     let whole = numbers (t.transport_stream_id / 256) (t.transport_stream_id % 256) (t.original_network_id / 256) (t.original_network_id % 256)
     (0xF0 + length t.descriptors / 256) (length t.descriptors % 256) 15 t
-    (omega (arith, id)) (omega arith) (omega (arith, network)) (omega arith) (omega (arith, n)) (omega arith) id network (omega arith) n (transport_stream_written t h).spelled in
+    (omega (arith, id)) (omega arith) (omega (arith, network)) (omega arith) (omega (arith, n)) (omega arith) id network (omega arith) n
+    (transport_stream_written t h).spelled in
     record {
       said = record { head = transport_stream_front t; descriptors = t.descriptors };
       is = refl;

@@ -1,5 +1,6 @@
 -- What follows the bytes that a descriptor counts.
-use Rattle.std.proofs.Common.{◌≡◌, ℕ, zero, suc, ◌<◌, ◌≤◌, Bool, true, false, cond, nat_lt, Option, None, Some, refl, List, [], ◌∷◌, ◌++◌, length, drop, sym, ap, ◌∙◌, subst, arith}
+use Rattle.std.proofs.Common.{◌≡◌, ℕ, zero, suc, ◌<◌, ◌≤◌, Bool, true, false, cond, nat_lt, Option, None, Some, refl, List, [], ◌∷◌, ◌++◌, length, drop, sym}
+use Rattle.std.proofs.Common.{ap, ◌∙◌, subst, arith}
 use Rattle.std.proofs.lemmas.List.{length-drop}
 use Rattle.dvb_tables.specs.Descriptors.{descriptor}
 use Rattle.std.specs.Borrow.{Bor}
@@ -87,10 +88,12 @@ front_is (tag ∷ n ∷ bytes) p e =
     (omega (arith, length-drop n bytes), ends_after n bytes room ∙ ap (ends_whole 0) is)
 
 -- what a descriptor at the front says of the bytes
-pub front_shorter : (bytes : List ℕ) (d : Descriptor) (rest : Bor (List ℕ)) → first_descriptor bytes ≡ Some (descriptor_view d, rest.now) → length rest.now < length bytes
+pub front_shorter : (bytes : List ℕ) (d : Descriptor) (rest : Bor (List ℕ)) → first_descriptor bytes ≡ Some (descriptor_view d, rest.now) →
+    length rest.now < length bytes
 front_shorter bytes d rest e = (front_is bytes (descriptor_view d, rest.now) e).0
 
-pub front_some : (bytes : List ℕ) (d : Descriptor) (rest : Bor (List ℕ)) → first_descriptor bytes ≡ Some (descriptor_view d, rest.now) → are_whole_descriptors bytes ≡ are_whole_descriptors rest.now
+pub front_some : (bytes : List ℕ) (d : Descriptor) (rest : Bor (List ℕ)) → first_descriptor bytes ≡ Some (descriptor_view d, rest.now) →
+    are_whole_descriptors bytes ≡ are_whole_descriptors rest.now
 front_some bytes d rest e = (front_is bytes (descriptor_view d, rest.now) e).1
 
 -- bytes without a whole descriptor at the front

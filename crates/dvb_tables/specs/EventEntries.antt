@@ -1,5 +1,6 @@
 -- An event in an event information section (EN 300 468, 5.2.4).
-use Rattle.std.specs.Prelude.{◌≡◌, ℕ, ◌+◌, ◌*◌, ◌/◌, ◌%◌, ◌^◌, ◌<◌, if◌then◌else◌, is_some, Result, Ok, Err, Bool, List, [], ◌∷◌, ◌++◌, length, take, drop, slice_index, map, flat_map}
+use Rattle.std.specs.Prelude.{◌≡◌, ℕ, ◌+◌, ◌*◌, ◌/◌, ◌%◌, ◌^◌, ◌<◌, if◌then◌else◌, is_some, Result, Ok, Err, Bool, List, [], ◌∷◌, ◌++◌, length, take, drop}
+use Rattle.std.specs.Prelude.{slice_index, map, flat_map}
 use Rattle.bit_fields.specs.Fields.{number, fields, bit, flag}
 use Rattle.psi_tables.specs.Loops.{EntryView, loop_at, entries_in}
 use Rattle.psi_tables.specs.declared.error.SectionError.{SectionError}

@@ -1,7 +1,8 @@
 -- running_status (EN 300 468, 5.2.3, table 6).
 use Rattle.std.specs.Prelude.{ℕ, zero, suc}
 use Rattle.dvb_tables.specs.declared.running_status.RunningStatus.{RunningStatus}
-use Rattle.dvb_tables.specs.declared.running_status.RunningStatus.TheVariants.{Undefined, NotRunning, StartsSoon, Pausing, Running, OffAir, Reserved6, Reserved7}
+use Rattle.dvb_tables.specs.declared.running_status.RunningStatus.TheVariants.{Undefined, NotRunning, StartsSoon, Pausing, Running, OffAir, Reserved6}
+use Rattle.dvb_tables.specs.declared.running_status.RunningStatus.TheVariants.{Reserved7}
 
 -- the three bits of a status
 abbrev pub status_code : RunningStatus → ℕ

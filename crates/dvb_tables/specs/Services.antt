@@ -1,5 +1,6 @@
 -- A service in a service description section (EN 300 468, 5.2.3).
-use Rattle.std.specs.Prelude.{◌≡◌, ℕ, ◌+◌, ◌*◌, ◌/◌, ◌%◌, ◌^◌, ◌<◌, if◌then◌else◌, Bool, is_some, Result, Ok, Err, List, [], ◌∷◌, ◌++◌, length, slice_index, map, flat_map}
+use Rattle.std.specs.Prelude.{◌≡◌, ℕ, ◌+◌, ◌*◌, ◌/◌, ◌%◌, ◌^◌, ◌<◌, if◌then◌else◌, Bool, is_some, Result, Ok, Err, List, [], ◌∷◌, ◌++◌, length, slice_index}
+use Rattle.std.specs.Prelude.{map, flat_map}
 use Rattle.bit_fields.specs.Fields.{number, fields, bit, flag}
 use Rattle.psi_tables.specs.Loops.{EntryView, loop_at, entries_in}
 use Rattle.psi_tables.specs.declared.error.SectionError.{SectionError}

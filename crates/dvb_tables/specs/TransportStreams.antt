@@ -1,5 +1,6 @@
 -- A transport stream in a network information section (EN 300 468, 5.2.1).
-use Rattle.std.specs.Prelude.{◌≡◌, ℕ, ◌+◌, ◌*◌, ◌/◌, ◌%◌, ◌^◌, ◌<◌, if◌then◌else◌, is_some, Result, Ok, Err, List, [], ◌∷◌, ◌++◌, length, slice_index, map, flat_map}
+use Rattle.std.specs.Prelude.{◌≡◌, ℕ, ◌+◌, ◌*◌, ◌/◌, ◌%◌, ◌^◌, ◌<◌, if◌then◌else◌, is_some, Result, Ok, Err, List, [], ◌∷◌, ◌++◌, length, slice_index, map}
+use Rattle.std.specs.Prelude.{flat_map}
 use Rattle.bit_fields.specs.Fields.{number, fields}
 use Rattle.psi_tables.specs.Loops.{EntryView, loop_at, entries_in}
 use Rattle.psi_tables.specs.declared.error.SectionError.{SectionError}

@@ -1,5 +1,6 @@
 -- Units of data streams that are due at one moment, one by one.
-use Rattle.std.proofs.Common.{◌≡◌, ◌≤◌, ◌<◌, ◌∙◌, ℕ, zero, suc, ◌+◌, ◌-◌, ◌%◌, ◌^◌, ◌++◌, ◌==◌, ◌&&◌, ◌||◌, nat_le, Bool, true, false, Option, Some, None, List, [], ◌∷◌, length, map, refl, sym, ap, ap₂, arith, drop, get_or, add-one}
+use Rattle.std.proofs.Common.{◌≡◌, ◌≤◌, ◌<◌, ◌∙◌, ℕ, zero, suc, ◌+◌, ◌-◌, ◌%◌, ◌^◌, ◌++◌, ◌==◌, ◌&&◌, ◌||◌, nat_le, Bool, true, false, Option, Some, None, List}
+use Rattle.std.proofs.Common.{[], ◌∷◌, length, map, refl, sym, ap, ap₂, arith, drop, get_or, add-one}
 use Rattle.std.proofs.Math.Seq.{drop-cons}
 use Rattle.std.proofs.lemmas.List.{append_assoc, append-nil, drop_all}
 use Rattle.std.proofs.lemmas.Bool.Decides.{nat_tests}
@@ -36,7 +37,8 @@ pub same_end : (i : ℕ) (u : CarriedUnit) (us : List CarriedUnit) → length us
 unfolding is_same_next
 same_end i u us over = rw (drop_all i us over) refl
 
-pub dts_more : (all out after : List ℕ) (i : ℕ) (us : List CarriedUnit) (u : CarriedUnit) (place next d : ℕ) → all ≡ out ++ apart_dts place (drop i us) → i < length us → u ≡ get_or us i u →
+pub dts_more : (all out after : List ℕ) (i : ℕ) (us : List CarriedUnit) (u : CarriedUnit) (place next d : ℕ) → all ≡ out ++ apart_dts place (drop i us) →
+    i < length us → u ≡ get_or us i u →
     d ≡ apart_by (is_same_next u (drop (i + 1) us)) place u.unit.dts → next ≡ next_place (is_same_next u (drop (i + 1) us)) place → after ≡ out ++ d ∷ [] →
     all ≡ after ++ apart_dts next (drop (i + 1) us)
 unfolding apart_dts
@@ -52,7 +54,8 @@ dts_end all out i us place is over =
 
 -- 2. Whether two in a row are due at one moment
 
-pub same_here : (i : ℕ) (us : List CarriedUnit) (u : CarriedUnit) → i < length us → u ≡ get_or us i u → is_same_next u (drop (i + 1) us) ≡ true → has_same (drop i us) ≡ true
+pub same_here : (i : ℕ) (us : List CarriedUnit) (u : CarriedUnit) → i < length us → u ≡ get_or us i u → is_same_next u (drop (i + 1) us) ≡ true →
+    has_same (drop i us) ≡ true
 unfolding has_same
 same_here i us u below here same = rw (next_unit i us u below here, same) refl
 
@@ -117,7 +120,8 @@ unfolding has_same apart_dts with_dts
 stay_from place [] none = refl
 stay_from place (u ∷ us) none =
     let two = or_false (is_same_next u us) (has_same us) none in
-    ap₂ (λ (d : ℕ) (l : List CarriedUnit). unit_with u.packet u.stream_id d u.unit.pts u.unit.marks u.unit.bytes ∷ l) (own_dts (is_same_next u us) place u.unit.dts two.0)
+    ap₂ (λ (d : ℕ) (l : List CarriedUnit). unit_with u.packet u.stream_id d u.unit.pts u.unit.marks u.unit.bytes ∷ l)
+    (own_dts (is_same_next u us) place u.unit.dts two.0)
     (stay_from (next_place (is_same_next u us) place) us two.1)
 
 pub apart_stay : ApartStay
@@ -175,11 +179,13 @@ next_rises limit base place before u (v ∷ us) none =
     let apart = (or_none (dts_not_increasing base at v.unit.dts) _ own).0 in
     and_false (u.stream_id == 0xBD) (v.unit.dts == u.unit.dts) (rises base before u.unit.dts v.unit.dts apart)
 
-none_same : (limit base place : ℕ) (before : Option ℕ) (us : List CarriedUnit) → first_fault limit base before place (map (λ x. x.unit) us) ≡ None → has_same us ≡ false
+none_same : (limit base place : ℕ) (before : Option ℕ) (us : List CarriedUnit) → first_fault limit base before place (map (λ x. x.unit) us) ≡ None →
+    has_same us ≡ false
 unfolding first_fault has_same
 none_same limit base place before [] none = refl
 none_same limit base place before (u ∷ us) none =
-    let later = (place_none place (unit_fault limit base before u.unit) (first_fault limit base (Some (dts_at base before u.unit.dts)) (place + 1) (map (λ x. x.unit) us)) none).1 in
+    let later = (place_none place (unit_fault limit base before u.unit)
+    (first_fault limit base (Some (dts_at base before u.unit.dts)) (place + 1) (map (λ x. x.unit) us)) none).1 in
     rw (next_rises limit base (place + 1) before u us later, none_same limit base (place + 1) (Some (dts_at base before u.unit.dts)) us later) refl
 
 pub sound_stay : SoundStay

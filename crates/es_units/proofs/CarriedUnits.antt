@@ -1,5 +1,6 @@
 -- Units from findings, one by one.
-use Rattle.std.proofs.Common.{◌≡◌, ◌≤◌, ◌<◌, ℕ, ◌+◌, Bool, false, Option, None, unwrap_or, List, [], ◌∷◌, length, map, drop, get_or, refl, sym, inl, inr, add-one}
+use Rattle.std.proofs.Common.{◌≡◌, ◌≤◌, ◌<◌, ℕ, ◌+◌, Bool, false, Option, None, unwrap_or, List, [], ◌∷◌, length, map, drop, get_or, refl, sym, inl, inr}
+use Rattle.std.proofs.Common.{add-one}
 use Rattle.std.specs.List.{list_any}
 use Rattle.std.specs.Option.{option_or}
 use Rattle.std.proofs.Math.Seq.{drop-cons}
@@ -7,7 +8,8 @@ use Rattle.std.proofs.lemmas.Bool.{cases_Bool}
 use Rattle.std.proofs.lemmas.List.{drop_all}
 use Rattle.demux.specs.Views.{FindingView}
 use Rattle.demux.specs.Laws.{has_pid, found_of}
-use Rattle.es_units.specs.CarriedUnits.{RoleView, Ignored, Start, Continuation, Interruption, CarriedUnit, role_of, more_bytes, continued_by, continuation, end_of, is_cut, start_id, first_id, is_part, is_split, units_from, units_in}
+use Rattle.es_units.specs.CarriedUnits.{RoleView, Ignored, Start, Continuation, Interruption, CarriedUnit, role_of, more_bytes, continued_by, continuation}
+use Rattle.es_units.specs.CarriedUnits.{end_of, is_cut, start_id, first_id, is_part, is_split, units_from, units_in}
 use Rattle.es_units.specs.Laws.{FindingsOfThePid}
 
 -- 1. What a finding of another PID is for the units
@@ -70,7 +72,8 @@ unfolding units_in
 same_in split pid [] = refl
 same_in split pid (f ∷ fs) = elim (cases_Bool (has_pid pid f.pid)) [
   | inl own ↦ rw own (same_from split pid (role_of pid f) fs (units_in split pid (found_of pid fs)) (units_in split pid fs) (same_in split pid fs))
-  | inr other ↦ rw (other, other_pid_ignored pid f other) (ignored split pid fs (units_in split pid (found_of pid fs)) (units_in split pid fs) (same_in split pid fs))
+  | inr other ↦ rw (other, other_pid_ignored pid f other)
+      (ignored split pid fs (units_in split pid (found_of pid fs)) (units_in split pid fs) (same_in split pid fs))
 ]
 
 pub same_units : FindingsOfThePid

@@ -1,5 +1,6 @@
 -- What is in no unit is told.
-use Rattle.std.proofs.Common.{◌≡◌, ◌∙◌, ℕ, ◌++◌, ◌==◌, ◌&&◌, ◌||◌, Bool, true, false, if◌then◌else◌, Option, Some, None, List, [], ◌∷◌, length, flat_map, nat_le, refl, sym, ap}
+use Rattle.std.proofs.Common.{◌≡◌, ◌∙◌, ℕ, ◌++◌, ◌==◌, ◌&&◌, ◌||◌, Bool, true, false, if◌then◌else◌, Option, Some, None, List, [], ◌∷◌, length, flat_map}
+use Rattle.std.proofs.Common.{nat_le, refl, sym, ap}
 use Rattle.std.specs.List.{list_any}
 use Rattle.std.proofs.lemmas.Bool.{eqb-true}
 use Rattle.std.proofs.lemmas.List.{append_assoc, nil_from_length}
@@ -8,9 +9,11 @@ use Rattle.pes_packet.specs.HeaderMarks.{header_marks}
 use Rattle.pes_packet.specs.declared.marks.Marks.{Marks}
 use Rattle.pes_packet.specs.declared.time_stamps.Stamps.{Stamps}
 use Rattle.pes_packet.specs.declared.time_stamps.Stamps.TheVariants.{Absent, Pts, PtsDts}
-use Rattle.demux.specs.Views.{WhatView, IsDuplicate, BreaksCounter, IsScrambled, IsTruncated, IsSection, IsBadSection, IsPes, IsBadPes, IsBadPacket, IsErrored, FindingView}
+use Rattle.demux.specs.Views.{WhatView, IsDuplicate, BreaksCounter, IsScrambled, IsTruncated, IsSection, IsBadSection, IsPes, IsBadPes, IsBadPacket, IsErrored}
+use Rattle.demux.specs.Views.{FindingView}
 use Rattle.demux.specs.Laws.{has_pid}
-use Rattle.es_units.specs.CarriedUnits.{RoleView, Ignored, Start, Continuation, CarriedUnit, unit_with, pes_role, role_of_what, is_access_point, is_unstamped, first_packet, role_of, more_bytes, continued_by, continuation, is_cut, is_split, with_more, units_from, units_in}
+use Rattle.es_units.specs.CarriedUnits.{RoleView, Ignored, Start, Continuation, CarriedUnit, unit_with, pes_role, role_of_what, is_access_point, is_unstamped}
+use Rattle.es_units.specs.CarriedUnits.{first_packet, role_of, more_bytes, continued_by, continuation, is_cut, is_split, with_more, units_from, units_in}
 use Rattle.es_units.specs.Damage.{is_left_out}
 use Rattle.es_units.specs.Laws.{NothingIsLost, body_of, bodies, leaves_out}
 use Rattle.es_units.specs.UnitWarnings.{current_after, unstamped_cause, first_cause, pes_cause, cause_of_what, id_of, cause_of, warning_list, warnings_from}
@@ -61,7 +64,8 @@ by_ignored split pid None fs next = next
 by_ignored split pid (Some id) fs next = next
 
 -- a unit in front of others
-one_before : (u : CarriedUnit) (later : List CarriedUnit) (b : Bool) → (length u.unit.bytes == 0) ≡ b → bytes_of (if b then later else u ∷ later) ≡ u.unit.bytes ++ bytes_of later
+one_before : (u : CarriedUnit) (later : List CarriedUnit) (b : Bool) → (length u.unit.bytes == 0) ≡ b → bytes_of (if b then later else u ∷ later) ≡ u.unit.bytes
+    ++ bytes_of later
 one_before u later true is = rw (nil_from_length u.unit.bytes (eqb-true (length u.unit.bytes) 0 is)) refl
 one_before u later false is = refl
 
@@ -96,32 +100,39 @@ by_same split pid place size id now body unended true fs is quiet next =
     rw is (by_part split pid now body fs there)
 
 by_unstamped : (split : Bool) (pid place size id : ℕ) (current : Option ℕ) (body : List ℕ) (unended : Bool) (fs : List FindingView) →
-    IsQuiet place (unstamped_cause current id unended size) → Follows split pid current (Continuation id body) fs → Goes split pid current (Continuation id body) fs
+    IsQuiet place (unstamped_cause current id unended size) → Follows split pid current (Continuation id body) fs →
+    Goes split pid current (Continuation id body) fs
 unfolding unstamped_cause
 by_unstamped split pid place size id None body unended fs quiet next = absurd (told place (causes.NoUnitBefore size) quiet refl)
 by_unstamped split pid place size id (Some now) body unended fs quiet next = by_same split pid place size id now body unended (id == now) fs refl quiet next
 
 by_absent : (split : Bool) (pid place size id : ℕ) (current : Option ℕ) (body : List ℕ) (unended padding : Bool) (fs : List FindingView) →
     IsQuiet place (if padding then None else unstamped_cause current id unended size) →
-    Follows split pid current (if padding then Ignored else Continuation id body) fs → Goes split pid current (if padding then Ignored else Continuation id body) fs
+    Follows split pid current (if padding then Ignored else Continuation id body) fs →
+    Goes split pid current (if padding then Ignored else Continuation id body) fs
 by_absent split pid place size id current body unended true fs quiet next = by_ignored split pid current fs next
 by_absent split pid place size id current body unended false fs quiet next = by_unstamped split pid place size id current body unended fs quiet next
 
-by_first : (split : Bool) (pid place size : ℕ) (current : Option ℕ) (u : CarriedUnit) (alone unended lost : Bool) (fs : List FindingView) → (split && is_cut u.stream_id pid fs) ≡ lost →
+by_first : (split : Bool) (pid place size : ℕ) (current : Option ℕ) (u : CarriedUnit) (alone unended lost : Bool) (fs : List FindingView) →
+    (split && is_cut u.stream_id pid fs) ≡ lost →
     IsQuiet place (first_cause lost alone unended size) → Follows split pid current (Start u) fs → Goes split pid current (Start u) fs
 unfolding first_cause
 by_first split pid place size current u alone unended true fs is quiet next = absurd (told place causes.PartLost quiet refl)
 by_first split pid place size current u alone unended false fs is quiet next = by_start split pid current u fs is next
 
-by_pes : (split : Bool) (pid packet place id : ℕ) (current : Option ℕ) (body : List ℕ) (unended : Bool) (marks : Marks) (stamps : Stamps) (fs : List FindingView) →
+by_pes : (split : Bool) (pid packet place id : ℕ) (current : Option ℕ) (body : List ℕ) (unended : Bool) (marks : Marks) (stamps : Stamps)
+    (fs : List FindingView) →
     IsQuiet place (pes_cause current (split && is_cut id pid fs) (length (continuation id pid fs) == 0) unended id stamps (length body)) →
     Follows split pid current (pes_role packet id marks stamps body) fs → Goes split pid current (pes_role packet id marks stamps body) fs
 unfolding pes_cause pes_role
-by_pes split pid packet place id current body unended marks Absent fs quiet next = by_absent split pid place (length body) id current body unended (id == 0xBE) fs quiet next
+by_pes split pid packet place id current body unended marks Absent fs quiet next =
+    by_absent split pid place (length body) id current body unended (id == 0xBE) fs quiet next
 by_pes split pid packet place id current body unended marks (Pts pts) fs quiet next =
-    by_first split pid place (length body) current (unit_with packet id pts pts marks body) (length (continuation id pid fs) == 0) unended (split && is_cut id pid fs) fs refl quiet next
+    by_first split pid place (length body) current (unit_with packet id pts pts marks body) (length (continuation id pid fs) == 0) unended
+    (split && is_cut id pid fs) fs refl quiet next
 by_pes split pid packet place id current body unended marks (PtsDts pts dts) fs quiet next =
-    by_first split pid place (length body) current (unit_with packet id dts pts marks body) (length (continuation id pid fs) == 0) unended (split && is_cut id pid fs) fs refl quiet next
+    by_first split pid place (length body) current (unit_with packet id dts pts marks body) (length (continuation id pid fs) == 0) unended
+    (split && is_cut id pid fs) fs refl quiet next
 
 by_what : (split : Bool) (pid count packet at place : ℕ) (current : Option ℕ) (unstamped access : Bool) (what : WhatView) (fs : List FindingView) →
     IsQuiet place (cause_of_what count at current (split && is_cut (id_of what) pid fs) (length (continuation (id_of what) pid fs) == 0) what) →
@@ -130,19 +141,25 @@ unfolding cause_of_what role_of_what id_of
 by_what split pid count packet at place current unstamped access IsDuplicate fs quiet next = by_ignored split pid current fs next
 by_what split pid count packet at place current unstamped access (IsBadPacket error) fs quiet next = by_ignored split pid current fs next
 by_what split pid count packet at place current unstamped access IsErrored fs quiet next = by_ignored split pid current fs next
-by_what split pid count packet at place current unstamped access (BreaksCounter expected found) fs quiet next = absurd (told place (causes.Counter expected found) quiet refl)
+by_what split pid count packet at place current unstamped access (BreaksCounter expected found) fs quiet next =
+    absurd (told place (causes.Counter expected found) quiet refl)
 by_what split pid count packet at place current unstamped access IsScrambled fs quiet next = absurd (told place causes.Scrambled quiet refl)
-by_what split pid count packet at place current unstamped access (IsTruncated bytes) fs quiet next = absurd (truncated place at count (length bytes) (nat_le count at) quiet)
+by_what split pid count packet at place current unstamped access (IsTruncated bytes) fs quiet next =
+    absurd (truncated place at count (length bytes) (nat_le count at) quiet)
 by_what split pid count packet at place current unstamped access (IsSection bytes) fs quiet next = absurd (told place causes.Section quiet refl)
 by_what split pid count packet at place current unstamped access (IsBadSection error) fs quiet next = absurd (told place (causes.BadSection error) quiet refl)
 by_what split pid count packet at place current unstamped access (IsBadPes error) fs quiet next = absurd (told place (causes.BadPes error) quiet refl)
-by_what split pid count packet at place current unstamped access (IsPes header unended body) fs quiet next = by_pes split pid packet place header.id current body unended (header_marks access header) header.stamps fs quiet next
+by_what split pid count packet at place current unstamped access (IsPes header unended body) fs quiet next =
+    by_pes split pid packet place header.id current body unended (header_marks access header) header.stamps fs quiet next
 
 -- a finding, of this PID or of another one
 by_finding : (split : Bool) (pid count packet at place : ℕ) (current : Option ℕ) (unstamped access own : Bool) (what : WhatView) (fs : List FindingView) →
-    IsQuiet place (if own then cause_of_what count at current (split && is_cut (id_of what) pid fs) (length (continuation (id_of what) pid fs) == 0) what else None) →
-    Follows split pid current (if own then role_of_what packet unstamped access what else Ignored) fs → Goes split pid current (if own then role_of_what packet unstamped access what else Ignored) fs
-by_finding split pid count packet at place current unstamped access true what fs quiet next = by_what split pid count packet at place current unstamped access what fs quiet next
+    IsQuiet place
+    (if own then cause_of_what count at current (split && is_cut (id_of what) pid fs) (length (continuation (id_of what) pid fs) == 0) what else None) →
+    Follows split pid current (if own then role_of_what packet unstamped access what else Ignored) fs →
+    Goes split pid current (if own then role_of_what packet unstamped access what else Ignored) fs
+by_finding split pid count packet at place current unstamped access true what fs quiet next =
+    by_what split pid count packet at place current unstamped access what fs quiet next
 by_finding split pid count packet at place current unstamped access false what fs quiet next = by_ignored split pid current fs next
 
 -- 3. All of them
@@ -160,11 +177,13 @@ none_at : (split : Bool) (pid : ℕ) → bodies pid [] ≡ rest_of None pid [] +
 unfolding rest_of units_in
 none_at split pid = refl
 
-here : (split : Bool) (pid count : ℕ) (current : Option ℕ) (f : FindingView) (fs : List FindingView) → IsQuiet (first_packet f.packet f.begun) (cause_of split pid count current f fs) →
+here : (split : Bool) (pid count : ℕ) (current : Option ℕ) (f : FindingView) (fs : List FindingView) →
+    IsQuiet (first_packet f.packet f.begun) (cause_of split pid count current f fs) →
     Follows split pid current (role_of pid f) fs → Goes split pid current (role_of pid f) fs
 unfolding cause_of role_of
 here split pid count current f fs quiet next =
-    by_finding split pid count (first_packet f.packet f.begun) f.packet (first_packet f.packet f.begun) current (is_unstamped f.begun) (is_access_point f.begun) (has_pid pid f.pid) f.what fs quiet next
+    by_finding split pid count (first_packet f.packet f.begun) f.packet (first_packet f.packet f.begun) current (is_unstamped f.begun) (is_access_point f.begun)
+    (has_pid pid f.pid) f.what fs quiet next
 
 joined : (split : Bool) (pid : ℕ) (current : Option ℕ) (f : FindingView) (fs : List FindingView) → Goes split pid current (role_of pid f) fs →
     bodies pid (f ∷ fs) ≡ rest_of current pid (f ∷ fs) ++ bytes_of (units_in split pid (f ∷ fs))
@@ -172,7 +191,8 @@ unfolding rest_of rest_from continuation units_in
 joined split pid None f fs goes = goes
 joined split pid (Some id) f fs goes = goes
 
-each_kept : (split : Bool) (pid count : ℕ) (current : Option ℕ) (fs : List FindingView) → list_any leaves_out (warnings_from split pid count current fs) ≡ false →
+each_kept : (split : Bool) (pid count : ℕ) (current : Option ℕ) (fs : List FindingView) →
+    list_any leaves_out (warnings_from split pid count current fs) ≡ false →
     bodies pid fs ≡ rest_of current pid fs ++ bytes_of (units_in split pid fs)
 unfolding warnings_from units_in
 each_kept split pid count None [] quiet = none_at split pid

@@ -37,7 +37,8 @@ units_each r limit base place before (u ∷ us) none some size pts =
     let both = place_none place (unit_fault limit base before u) _ none in
     let unit = unit_is r limit base before u both.0 (All-head (λ u. 1 ≤ length u.bytes) u us some) (omega (arith, size)) (omega (arith, pts)) in
     All-cons (IsUnit r) (unit_at base before u) (moved base (Some (dts_at base before u.dts)) us) unit
-    (units_each r limit base (place + 1) (Some (dts_at base before u.dts)) us both.1 (All-tail (λ u. 1 ≤ length u.bytes) u us some) (omega (arith, size)) (omega (arith, pts)))
+    (units_each r limit base (place + 1) (Some (dts_at base before u.dts)) us both.1 (All-tail (λ u. 1 ≤ length u.bytes) u us some) (omega (arith, size))
+    (omega (arith, pts)))
 
 -- 2. Their distances
 
@@ -49,7 +50,8 @@ spaced_after l base last (u ∷ us) le =
     let dts = last + distance (last + base) u.dts in
     (omega (arith, le), spaced_after l base dts us (omega (arith, le)))
 
-spaced_all : (l : OwnedStream) (base : ℕ) (us : List AccessUnit) → l.parameters.interval ≤ min_interval (moved base None us) → FirstDue l.parameters.lead (moved base None us) →
+spaced_all : (l : OwnedStream) (base : ℕ) (us : List AccessUnit) → l.parameters.interval ≤ min_interval (moved base None us) →
+    FirstDue l.parameters.lead (moved base None us) →
     Spaced l.parameters.interval l.parameters.lead (map (timed l) (moved base None us))
 unfolding moved Spaced min_interval FirstDue
 spaced_all l base [] le due = tt
@@ -76,7 +78,8 @@ grouped_all l group most (u ∷ us) size le = (
   grouped_all l group most us (omega (arith, size)) (omega (arith, le)),
 )
 
-allowed_all : (a : Allowance) (l : OwnedStream) (us : List AccessUnit) → max_unit_size us ≤ l.parameters.size → Spaced l.parameters.interval l.parameters.lead (map (timed l) us) →
+allowed_all : (a : Allowance) (l : OwnedStream) (us : List AccessUnit) → max_unit_size us ≤ l.parameters.size →
+    Spaced l.parameters.interval l.parameters.lead (map (timed l) us) →
     AllowsUnits a l.parameters.stream_id l.parameters.base0 us → KeepsAllowance a (max_packets_per_unit l.parameters) (map (timed l) us)
 allowed_all (Groups group most) l us size spaced allows = grouped_all l group most us size (omega (arith, allows))
 allowed_all (Pace burst pace) l us size spaced allows =

@@ -1,10 +1,12 @@
 -- What is made of moments, one by one.
-use Rattle.std.proofs.Common.{◌≡◌, ◌≤◌, ◌<◌, ◌∙◌, ℕ, suc, Bool, if◌then◌else◌, nat_le, arith, ◌+◌, ◌-◌, ◌%◌, ◌^◌, ◌++◌, max, true, false, nat_lt, refl, sym, ap, add-one, List, [], ◌∷◌, length, drop, get_or, None, Some}
+use Rattle.std.proofs.Common.{◌≡◌, ◌≤◌, ◌<◌, ◌∙◌, ℕ, suc, Bool, if◌then◌else◌, nat_le, arith, ◌+◌, ◌-◌, ◌%◌, ◌^◌, ◌++◌, max, true, false, nat_lt, refl, sym, ap}
+use Rattle.std.proofs.Common.{add-one, List, [], ◌∷◌, length, drop, get_or, None, Some}
 use Rattle.std.proofs.Math.Seq.{drop-cons}
 use Rattle.std.proofs.lemmas.List.{append_assoc, append-nil, drop_all, length-map}
 use Rattle.pes_packet.specs.declared.marks.Marks.{Marks}
 use Rattle.es_units.specs.CarriedUnits.{CarriedUnit, unit_with}
-use Rattle.es_units.specs.MadeDts.{nearest, moments_after, moments_of, placed, in_order, shift_of, made_dts, pts_of, made_units, max_ahead, stands_first, first_same_pts, first_late_pts, with_dts}
+use Rattle.es_units.specs.MadeDts.{nearest, moments_after, moments_of, placed, in_order, shift_of, made_dts, pts_of, made_units, max_ahead, stands_first}
+use Rattle.es_units.specs.MadeDts.{first_same_pts, first_late_pts, with_dts}
 use Rattle.es_units.proofs.UnitMoments.{content, contents}
 use Rattle.es_units.specs.declared.dts_from_pts.DtsFault.TheVariants.{SamePts, PtsTooLate}
 
@@ -15,7 +17,8 @@ pub moments_more : (moment i x : ℕ) (stamps before : List ℕ) → i < length 
     before ++ moments_after moment (drop i stamps) ≡ (before ++ nearest moment x ∷ []) ++ moments_after (nearest moment x) (drop (i + 1) stamps)
 unfolding moments_after
 moments_more moment i x stamps before below is =
-    rw (next i stamps below, is) (sym (append_assoc before (nearest moment (get_or stamps i 0) ∷ []) (moments_after (nearest moment (get_or stamps i 0)) (drop (i + 1) stamps))))
+    rw (next i stamps below, is)
+    (sym (append_assoc before (nearest moment (get_or stamps i 0) ∷ []) (moments_after (nearest moment (get_or stamps i 0)) (drop (i + 1) stamps))))
 
 pub moments_end : (moment i : ℕ) (stamps before : List ℕ) → length stamps ≤ i → before ++ moments_after moment (drop i stamps) ≡ before
 unfolding moments_after
@@ -53,12 +56,14 @@ same_none [] none = refl
 same_none (x ∷ order) none = absurd cc
 
 pub late_here : (shift i x : ℕ) (order later moments : List ℕ) → i < length moments → order ≡ x ∷ later →
-    nat_lt 90_000 (get_or moments i 0 - (x - shift)) ≡ true → first_late_pts shift i order (drop i moments) ≡ Some (PtsTooLate i (get_or moments i 0 - (x - shift)))
+    nat_lt 90_000 (get_or moments i 0 - (x - shift)) ≡ true →
+    first_late_pts shift i order (drop i moments) ≡ Some (PtsTooLate i (get_or moments i 0 - (x - shift)))
 unfolding first_late_pts
 late_here shift i x order later moments below is over = rw (next i moments below, is, over) refl
 
 pub late_later : (shift i x : ℕ) (order later moments : List ℕ) → i < length moments → order ≡ x ∷ later →
-    nat_lt 90_000 (get_or moments i 0 - (x - shift)) ≡ false → first_late_pts shift i order (drop i moments) ≡ first_late_pts shift (i + 1) later (drop (i + 1) moments)
+    nat_lt 90_000 (get_or moments i 0 - (x - shift)) ≡ false →
+    first_late_pts shift i order (drop i moments) ≡ first_late_pts shift (i + 1) later (drop (i + 1) moments)
 unfolding first_late_pts
 late_later shift i x order later moments below is within = rw (next i moments below, is, within) refl
 
@@ -79,7 +84,8 @@ late_short shift i (x ∷ order) moments none = absurd cc
 pub dts_more : (dts later : List ℕ) (d : ℕ) (us rest out : List CarriedUnit) (u x : CarriedUnit) → dts ≡ d ∷ later → us ≡ u ∷ rest →
     x ≡ unit_with u.packet u.stream_id d u.unit.pts u.unit.marks u.unit.bytes → out ++ with_dts dts us ≡ (out ++ x ∷ []) ++ with_dts later rest
 unfolding with_dts
-dts_more dts later d us rest out u x ds is at = rw (ds, is, at) (sym (append_assoc out (unit_with u.packet u.stream_id d u.unit.pts u.unit.marks u.unit.bytes ∷ []) (with_dts later rest)))
+dts_more dts later d us rest out u x ds is at =
+    rw (ds, is, at) (sym (append_assoc out (unit_with u.packet u.stream_id d u.unit.pts u.unit.marks u.unit.bytes ∷ []) (with_dts later rest)))
 
 pub dts_short : (dts : List ℕ) (us : List CarriedUnit) → length dts ≡ 0 → with_dts dts us ≡ []
 unfolding with_dts
@@ -117,14 +123,16 @@ length_order (x ∷ xs) = length_placed x (in_order xs) ∙ ap suc (length_order
 length_made : (us : List CarriedUnit) → length (made_dts (pts_of us)) ≡ length us
 length_made us =
     let moments = moments_of (pts_of us) in
-    length-map (in_order moments) (λ (m : ℕ). (m - shift_of moments) % 2 ^ 33) ∙ length_order moments ∙ length_moments (2 ^ 100) (pts_of us) ∙ length-map us (λ (u : CarriedUnit). u.unit.pts)
+    length-map (in_order moments) (λ (m : ℕ). (m - shift_of moments) % 2 ^ 33) ∙ length_order moments ∙ length_moments (2 ^ 100) (pts_of us)
+    ∙ length-map us (λ (u : CarriedUnit). u.unit.pts)
 
 pub restamped_contents : (dts : List ℕ) (us : List CarriedUnit) → length dts ≡ length us → contents (with_dts dts us) ≡ contents us
 unfolding with_dts
 restamped_contents [] [] same = refl
 restamped_contents [] (u ∷ us) same = absurd cc
 restamped_contents (d ∷ dts) [] same = absurd cc
-restamped_contents (d ∷ dts) (u ∷ us) same = ap (λ (l : List (Marks × List ℕ)). content u ∷ l) (restamped_contents dts us (let less : length dts ≡ length us = omega (arith, same) in less))
+restamped_contents (d ∷ dts) (u ∷ us) same =
+    ap (λ (l : List (Marks × List ℕ)). content u ∷ l) (restamped_contents dts us (let less : length dts ≡ length us = omega (arith, same) in less))
 
 pub made_contents : (us : List CarriedUnit) → contents (made_units us) ≡ contents us
 made_contents us = restamped_contents (made_dts (pts_of us)) us (length_made us)

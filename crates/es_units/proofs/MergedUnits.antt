@@ -1,5 +1,6 @@
 -- Units that are merged, and what is left of their streams.
-use Rattle.std.proofs.Common.{◌≡◌, ◌<◌, ◌==◌, ℕ, ◌+◌, ◌++◌, drop, Option, Some, None, List, [], ◌∷◌, All, length, map, slice_get, slice_set, slice_index_or, get_or, sum_by, zero, suc, sym, ap, ◌∙◌, inl, inr, arith}
+use Rattle.std.proofs.Common.{◌≡◌, ◌<◌, ◌==◌, ℕ, ◌+◌, ◌++◌, drop, Option, Some, None, List, [], ◌∷◌, All, length, map, slice_get, slice_set, slice_index_or}
+use Rattle.std.proofs.Common.{get_or, sum_by, zero, suc, sym, ap, ◌∙◌, inl, inr, arith}
 use Rattle.std.specs.List.{filter}
 use Rattle.std.specs.Option.{option_to_list}
 use Rattle.std.specs.Prelude.{IfSome, IfNone, option_map}
@@ -14,7 +15,8 @@ use Rattle.pes_packet.specs.Units.{units_of}
 use Rattle.es_units.specs.Merging.{AreLeft, AreMerged, AreTaken, TakesNext, due, head_dts}
 
 units_more : (j : ℕ) (units : List (ℕ × AccessUnit)) (e : ℕ × AccessUnit) → units_of j (units ++ e ∷ []) ≡ units_of j units ++ units_of j (e ∷ [])
-units_more j units e = ap (map (λ u. u.1)) (filter-append (λ u. u.0 == j) units (e ∷ [])) ∙ map-append (λ u. u.1) (filter (λ u. u.0 == j) units) (filter (λ u. u.0 == j) (e ∷ []))
+units_more j units e = ap (map (λ u. u.1)) (filter-append (λ u. u.0 == j) units (e ∷ []))
+    ∙ map-append (λ u. u.1) (filter (λ u. u.0 == j) units) (filter (λ u. u.0 == j) (e ∷ []))
 
 own_only : (k : ℕ) (u : AccessUnit) → units_of k ((k, u) ∷ []) ≡ u ∷ []
 own_only k u = elim (cases_Bool (k == k)) [ inl y ↦ rw y (λ i. u ∷ []) | inr n ↦ absurd (eqb-false k k n (λ i. k)) ]
@@ -120,7 +122,8 @@ pub some_or_none : (u : AccessUnit) (rest : List AccessUnit) → ◌≡◌ {A = 
 some_or_none u rest e = absurd cc
 
 -- when each stream is due next, after a unit is taken from stream k
-pub heads_more : {X : Type 0} (f : X → List AccessUnit) (qs after : List X) (heads : List (Option ℕ)) (k : ℕ) (q : X) (u : AccessUnit) (rest : List AccessUnit) (dts : Option ℕ) →
+pub heads_more : {X : Type 0} (f : X → List AccessUnit) (qs after : List X) (heads : List (Option ℕ)) (k : ℕ) (q : X) (u : AccessUnit) (rest : List AccessUnit)
+    (dts : Option ℕ) →
     heads ≡ map (λ s. head_dts (f s)) qs → slice_get (map f qs) k ≡ Some (u ∷ rest) → map f after ≡ slice_set (map f qs) k rest →
     slice_index_or after k q ≡ q → dts ≡ head_dts (f q) → slice_set heads k dts ≡ map (λ s. head_dts (f s)) after
 heads_more f qs after heads k q u rest dts are at left read is =
@@ -144,7 +147,8 @@ none_merged streams = record {
   order = λ i. streams;
 }
 
-pub all_merged : (streams left : List (List AccessUnit)) (units : List (ℕ × AccessUnit)) → AreLeft streams left units → All (λ us. us ≡ []) left → AreMerged streams units
+pub all_merged : (streams left : List (List AccessUnit)) (units : List (ℕ × AccessUnit)) → AreLeft streams left units → All (λ us. us ≡ []) left →
+    AreMerged streams units
 all_merged streams left units are none = record {
   each = λ k us is.
       let old = are.each k us is in

@@ -7,4 +7,5 @@ use Rattle.es_units.specs.Stamps.{dts_at, dts_after, unit_at, moved}
 pub moved_in_turn : MovedInTurn
 unfolding moved dts_after
 moved_in_turn base before [] more = refl
-moved_in_turn base before (u ∷ us) more = ap (λ (xs : List AccessUnit). unit_at base before u ∷ xs) (moved_in_turn base (Some (dts_at base before u.dts)) us more)
+moved_in_turn base before (u ∷ us) more =
+    ap (λ (xs : List AccessUnit). unit_at base before u ∷ xs) (moved_in_turn base (Some (dts_at base before u.dts)) us more)

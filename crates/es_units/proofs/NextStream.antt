@@ -1,5 +1,6 @@
 -- The stream that is due next.
-use Rattle.std.proofs.Common.{◌≡◌, ℕ, ◌+◌, suc, Option, Some, None, List, [], ◌∷◌, All, slice_get, slice_index_or, length, drop, map, ◌<◌, ◌≤◌, refl, sym, ◌∙◌, ap, ◌⊎◌, inl, inr, nat_lt, arith}
+use Rattle.std.proofs.Common.{◌≡◌, ℕ, ◌+◌, suc, Option, Some, None, List, [], ◌∷◌, All, slice_get, slice_index_or, length, drop, map, ◌<◌, ◌≤◌, refl, sym, ◌∙◌}
+use Rattle.std.proofs.Common.{ap, ◌⊎◌, inl, inr, nat_lt, arith}
 use Rattle.std.proofs.lemmas.Bool.{cases_Bool}
 use Rattle.std.proofs.lemmas.Option.{none-some}
 use Rattle.std.proofs.lemmas.List.{at_drop_more, at_drop_all}
@@ -64,7 +65,8 @@ at_first : (n i : ℕ) → n ≡ 0 + i → n ≡ i
 at_first n i is = omega (arith, is)
 
 -- the stream that is found has a unit
-pub first_next : (streams : List (List AccessUnit)) (b : ℕ × ℕ) → next_of 0 None streams ≡ Some b → (u : AccessUnit) × (rest : List AccessUnit) × (slice_get streams b.0 ≡ Some (u ∷ rest))
+pub first_next : (streams : List (List AccessUnit)) (b : ℕ × ℕ) → next_of 0 None streams ≡ Some b →
+    (u : AccessUnit) × (rest : List AccessUnit) × (slice_get streams b.0 ≡ Some (u ∷ rest))
 unfolding HasUnit
 first_next streams b is = elim (some_next 0 None streams b is) [
   | inl none ↦ absurd (none-some b none)
@@ -72,12 +74,14 @@ first_next streams b is = elim (some_next 0 None streams b is) [
 ]
 
 -- the same by the times when streams are due next
-same_next : {X : Type 0} (f : X → List AccessUnit) (k : ℕ) (best : Option (ℕ × ℕ)) (qs : List X) → next_head k best (map (λ q. head_dts (f q)) qs) ≡ next_of k best (map f qs)
+same_next : {X : Type 0} (f : X → List AccessUnit) (k : ℕ) (best : Option (ℕ × ℕ)) (qs : List X) →
+    next_head k best (map (λ q. head_dts (f q)) qs) ≡ next_of k best (map f qs)
 unfolding next_head next_of
 same_next f k best [] = refl
 same_next f k best (q ∷ qs) = same_next f (k + 1) (earlier best k (head_dts (f q))) qs
 
-pub found_by : {X : Type 0} (f : X → List AccessUnit) (qs : List X) (heads read : List (Option ℕ)) (found wanted : Option (ℕ × ℕ)) → heads ≡ map (λ q. head_dts (f q)) qs →
+pub found_by : {X : Type 0} (f : X → List AccessUnit) (qs : List X) (heads read : List (Option ℕ)) (found wanted : Option (ℕ × ℕ)) →
+    heads ≡ map (λ q. head_dts (f q)) qs →
     read ≡ heads → found ≡ next_head 0 None read → found ≡ wanted → next_of 0 None (map f qs) ≡ wanted
 found_by f qs heads read found wanted are same is wants = sym (same_next f 0 None qs) ∙ ap (next_head 0 None) (sym (same ∙ are)) ∙ sym is ∙ wants
 

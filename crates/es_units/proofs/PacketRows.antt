@@ -1,5 +1,6 @@
 -- Rows of packets that go along the units of a stream.
-use Rattle.std.proofs.Common.{◌≡◌, ◌≤◌, ◌<◌, ℕ, zero, suc, ◌+◌, ◌*◌, ◌-◌, ◌^◌, ◌∙◌, ap, subst, min, max, List, [], ◌∷◌, ◌++◌, length, take, drop, get_or, map, sum, All, refl, sym, arith, add-one}
+use Rattle.std.proofs.Common.{◌≡◌, ◌≤◌, ◌<◌, ℕ, zero, suc, ◌+◌, ◌*◌, ◌-◌, ◌^◌, ◌∙◌, ap, subst, min, max, List, [], ◌∷◌, ◌++◌, length, take, drop, get_or, map}
+use Rattle.std.proofs.Common.{sum, All, refl, sym, arith, add-one}
 use Rattle.std.proofs.lemmas.List.{drop-map, take-map, take_more, map-append, drop_more, get_or-drop, length-map, length-drop, length-take, take_all}
 use Rattle.std.proofs.Math.Nat.{mul-le-mul_left, mul-le-mul_right}
 use Rattle.std.proofs.lemmas.List.Elements.{All-nil, All-cons, All-head, All-tail, All-take, All-drop}
@@ -7,7 +8,8 @@ use Rattle.std.proofs.lemmas.List.Sums.{sum-map, sum_by-cons, sum_by_more, sum_b
 use Rattle.pes_packet.specs.AccessUnits.{AccessUnit}
 use Rattle.unit_timing.specs.PesPacket.{PesPacket, packets_of_unit, packets_of_units}
 use Rattle.es_units.specs.CountedUnits.{max_row, row_packets}
-use Rattle.es_units.specs.Declaration.{AreAtMost, CountedPacketsView, counted_packets, group_packets, max_group, max_unit_packets, max_unit_size, timed_unit, timed_units}
+use Rattle.es_units.specs.Declaration.{AreAtMost, CountedPacketsView, counted_packets, group_packets, max_group, max_unit_packets, max_unit_size, timed_unit}
+use Rattle.es_units.specs.Declaration.{timed_units}
 
 -- the number of one unit more
 pub number_more : (id base0 i n : ℕ) (units : List AccessUnit) (u : AccessUnit) (before after : List ℕ) → i < length units → u ≡ get_or units i u →
@@ -15,12 +17,14 @@ pub number_more : (id base0 i n : ℕ) (units : List AccessUnit) (u : AccessUnit
     after ≡ map packets_of_unit (timed_units id base0 (take (i + 1) units))
 number_more id base0 i n units u before after below at value so_far next =
     let more : take (i + 1) units ≡ take i units ++ u ∷ [] = take_more units i u below ∙ ap (λ (x : AccessUnit). take i units ++ x ∷ []) (sym at) in
-    let parts : map packets_of_unit (timed_units id base0 (take i units ++ u ∷ [])) ≡ map packets_of_unit (timed_units id base0 (take i units)) ++ packets_of_unit (timed_unit id base0 u) ∷ [] =
+    let parts : map packets_of_unit (timed_units id base0 (take i units ++ u ∷ [])) ≡ map packets_of_unit (timed_units id base0 (take i units))
+    ++ packets_of_unit (timed_unit id base0 u) ∷ [] =
     ap (map packets_of_unit) (map-append (timed_unit id base0) (take i units) (u ∷ []))
     ∙ map-append packets_of_unit (timed_units id base0 (take i units)) (timed_unit id base0 u ∷ []) in
     next ∙ rw (so_far, value, more) (sym parts)
 
-pub number_end : (id base0 i : ℕ) (units : List AccessUnit) (numbers : List ℕ) → length units ≤ i → numbers ≡ map packets_of_unit (timed_units id base0 (take i units)) →
+pub number_end : (id base0 i : ℕ) (units : List AccessUnit) (numbers : List ℕ) → length units ≤ i →
+    numbers ≡ map packets_of_unit (timed_units id base0 (take i units)) →
     numbers ≡ map packets_of_unit (timed_units id base0 units)
 number_end id base0 i units numbers over so_far = so_far ∙ ap (λ (us : List AccessUnit). map packets_of_unit (timed_units id base0 us)) (take_all i units over)
 
@@ -59,7 +63,8 @@ row_step group at numbers below =
     rw (begun, add-one group) (sum_by-cons (λ (n : ℕ). n) (get_or numbers at 0) (take group rest)) in
     let more : sum (take (group + 1) (drop at numbers)) ≡ sum (take group (drop at numbers)) + get_or (drop at numbers) group 0 =
     sum_by_more (λ (n : ℕ). n) (drop at numbers) group 0 (omega (arith, below, length-drop at numbers)) in
-    let entering : get_or (drop at numbers) group 0 ≡ get_or numbers (group + at) 0 = rw (get_or-drop at numbers group 0) (ap (λ (i : ℕ). get_or numbers i 0) (omega arith)) in
+    let entering : get_or (drop at numbers) group 0 ≡ get_or numbers (group + at) 0 =
+    rw (get_or-drop at numbers group 0) (ap (λ (i : ℕ). get_or numbers i 0) (omega arith)) in
     omega (arith, front, more, entering)
 
 -- the unit that enters, where there is a further one
@@ -71,7 +76,8 @@ entering_is group at n numbers later least is below =
     (omega (arith, full, long, below), rw (is, full) (get_or-drop group numbers at 0))
 
 -- and where there is none, the row has all that are left
-pub none_enters : (group at n : ℕ) (numbers later : List ℕ) → n ≡ min group (length numbers) → later ≡ drop n numbers → length later ≤ at → length numbers ≤ group + at
+pub none_enters : (group at n : ℕ) (numbers later : List ℕ) → n ≡ min group (length numbers) → later ≡ drop n numbers → length later ≤ at →
+    length numbers ≤ group + at
 none_enters group at n numbers later least is over =
     let long : length later ≡ length numbers - n = rw is (length-drop n numbers) in
     omega (arith, least, long, over)
@@ -95,7 +101,8 @@ row_end group at row units numbers is over counted =
 -- a row of few units has few packets
 pub most_of_row : (group greatest at : ℕ) (numbers : List ℕ) → All (λ (n : ℕ). n ≤ greatest) numbers → sum (take group (drop at numbers)) ≤ group * greatest
 most_of_row group greatest at numbers all =
-    let part : All (λ (n : ℕ). n ≤ greatest) (take group (drop at numbers)) = All-take (λ (n : ℕ). n ≤ greatest) group (drop at numbers) (All-drop (λ (n : ℕ). n ≤ greatest) at numbers all) in
+    let part : All (λ (n : ℕ). n ≤ greatest) (take group (drop at numbers)) =
+    All-take (λ (n : ℕ). n ≤ greatest) group (drop at numbers) (All-drop (λ (n : ℕ). n ≤ greatest) at numbers all) in
     let few : length (take group (drop at numbers)) ≤ group = omega (arith, length-take group (drop at numbers)) in
     omega (arith, sum_by-le (λ (n : ℕ). n) greatest (take group (drop at numbers)) part, mul-le-mul_right greatest few)
 
@@ -106,7 +113,8 @@ pub all_most : (group greatest : ℕ) → group ≤ 64 → greatest ≤ 2 ^ 56 �
 all_most group greatest few bound = omega (arith, mul-le-mul_right greatest few, bound)
 
 -- no row has more than as many times the greatest number, and where the first one has as many, it is the greatest
-rows_most : (group greatest : ℕ) (units : List PesPacket) → All (λ (u : PesPacket). packets_of_unit u ≤ greatest) units → max_group group units ≤ group * greatest
+rows_most : (group greatest : ℕ) (units : List PesPacket) → All (λ (u : PesPacket). packets_of_unit u ≤ greatest) units →
+    max_group group units ≤ group * greatest
 unfolding max_group
 rows_most group greatest [] all = omega arith
 rows_most group greatest (u ∷ us) all =
@@ -115,7 +123,8 @@ rows_most group greatest (u ∷ us) all =
     let later = rows_most group greatest us (All-tail (λ (v : PesPacket). packets_of_unit v ≤ greatest) u us all) in
     omega (arith, sum_by-le packets_of_unit greatest (take group (u ∷ us)) part, mul-le-mul_right greatest few, later)
 
-numbers_most : (greatest : ℕ) (units : List PesPacket) → All (λ (n : ℕ). n ≤ greatest) (map packets_of_unit units) → All (λ (u : PesPacket). packets_of_unit u ≤ greatest) units
+numbers_most : (greatest : ℕ) (units : List PesPacket) → All (λ (n : ℕ). n ≤ greatest) (map packets_of_unit units) →
+    All (λ (u : PesPacket). packets_of_unit u ≤ greatest) units
 numbers_most greatest [] all = All-nil (λ (u : PesPacket). packets_of_unit u ≤ greatest)
 numbers_most greatest (u ∷ us) all =
     All-cons (λ (v : PesPacket). packets_of_unit v ≤ greatest) u us (All-head (λ (n : ℕ). n ≤ greatest) (packets_of_unit u) (map packets_of_unit us) all)
@@ -127,7 +136,8 @@ first_row_least zero [] = omega arith
 first_row_least (suc group) [] = omega arith
 first_row_least group (u ∷ us) = omega arith
 
-pub all_greatest : (group greatest row : ℕ) (units : List PesPacket) (numbers : List ℕ) → numbers ≡ map packets_of_unit units → All (λ (n : ℕ). n ≤ greatest) numbers →
+pub all_greatest : (group greatest row : ℕ) (units : List PesPacket) (numbers : List ℕ) → numbers ≡ map packets_of_unit units →
+    All (λ (n : ℕ). n ≤ greatest) numbers →
     row ≡ sum (take group numbers) → row ≡ group * greatest → row ≡ max_group group units
 all_greatest group greatest row units numbers is all counted full =
     let each : All (λ (n : ℕ). n ≤ greatest) (map packets_of_unit units) = subst (All (λ (n : ℕ). n ≤ greatest)) is all in
@@ -167,7 +177,8 @@ pub row_packets_are : (group largest row : ℕ) (numbers : List ℕ) (counted : 
 row_packets_are group largest row numbers counted same most greatest =
     rw (sym same, sym most) (ap (max largest) (greatest (map packet_of numbers) (sym (all_count numbers)) ∙ rows_count group numbers))
 
-pub group_is : (id base0 group largest row : ℕ) (units : List AccessUnit) (numbers : List ℕ) (counted : CountedPacketsView) → numbers ≡ counted.numbers → largest ≡ counted.largest →
+pub group_is : (id base0 group largest row : ℕ) (units : List AccessUnit) (numbers : List ℕ) (counted : CountedPacketsView) → numbers ≡ counted.numbers →
+    largest ≡ counted.largest →
     counted ≡ counted_packets id base0 units → ((all : List PesPacket) → numbers ≡ map packets_of_unit all → row ≡ max_group group all) →
     max largest row ≡ group_packets id base0 group units
 unfolding counted_packets

@@ -1,5 +1,6 @@
 -- Units that keep a declaration are taken one by one.
-use Rattle.std.proofs.Common.{◌≡◌, ◌≤◌, ◌<◌, ℕ, ◌+◌, ◌^◌, ◌==◌, ◌++◌, nat_lt, Bool, false, None, List, [], ◌∷◌, length, map, refl, sym, subst, arith, All, inl, inr}
+use Rattle.std.proofs.Common.{◌≡◌, ◌≤◌, ◌<◌, ℕ, ◌+◌, ◌^◌, ◌==◌, ◌++◌, nat_lt, Bool, false, None, List, [], ◌∷◌, length, map, refl, sym, subst, arith, All, inl}
+use Rattle.std.proofs.Common.{inr}
 use Rattle.std.proofs.lemmas.Bool.{cases_Bool, le-ltb, lt-leb}
 use Rattle.std.proofs.lemmas.Bool.Decides.{nat_tests}
 use Rattle.std.proofs.lemmas.List.{append_assoc, append-nil, map-append}
@@ -60,7 +61,8 @@ room_none : (l : OwnedStream) (capacity : ℕ) (us : List AccessUnit) (u : Acces
 unfolding room_cause
 room_none l capacity us u room over =
     let few : length (left_before l 0 us).units < capacity = omega (arith, few_left l (own_before l.own 0) 0 0 us, room) in
-    rw (lt-leb capacity (length (left_before l 0 us).units) few) (packets_none l.parameters.allowance (is_over l.parameters.allowance (map (timed l) us) (timed l u)) over)
+    rw (lt-leb capacity (length (left_before l 0 us).units) few)
+    (packets_none l.parameters.allowance (is_over l.parameters.allowance (map (timed l) us) (timed l u)) over)
 
 -- 2. The units before it, and it
 

@@ -1,5 +1,6 @@
 -- Levels of units that come alike, and of units one after another.
-use Rattle.std.proofs.Common.{◌≡◌, ◌≤◌, ◌<◌, ℕ, zero, suc, ◌+◌, ◌*◌, ◌-◌, ◌∙◌, max, List, [], ◌∷◌, ◌++◌, length, drop, get_or, replicate, refl, sym, ap, arith, add-one, inl, inr}
+use Rattle.std.proofs.Common.{◌≡◌, ◌≤◌, ◌<◌, ℕ, zero, suc, ◌+◌, ◌*◌, ◌-◌, ◌∙◌, max, List, [], ◌∷◌, ◌++◌, length, drop, get_or, replicate, refl, sym, ap, arith}
+use Rattle.std.proofs.Common.{add-one, inl, inr}
 use Rattle.std.specs.Int.{div_ceil}
 use Rattle.std.specs.List.{flat_map}
 use Rattle.std.proofs.Math.Nat.{mul-le-mul_left, suc-mul}
@@ -47,7 +48,8 @@ alike_greatest pace zero level s above = omega arith
 alike_greatest pace (suc k) level s above =
     let next : s.packets * slot_units_at_1bps ≤ step_level pace level s = omega arith in
     let level' = step_level pace level s in
-    greatest_step k level (s.packets * slot_units_at_1bps) (pace * s.time) (greatest_over pace level' (replicate k s)) (level_over pace level' (replicate k s)) above
+    greatest_step k level (s.packets * slot_units_at_1bps) (pace * s.time) (greatest_over pace level' (replicate k s)) (level_over pace level' (replicate k s))
+    above
     (alike_after pace k level' s next) (alike_greatest pace k level' s next)
 
 pub run_after : (pace level n k first last : ℕ) (s : UnitStep) → n ≡ suc k → first ≡ step_level pace level s → last ≡ level_over pace first (replicate k s) →
@@ -71,14 +73,17 @@ greatest_both pace level [] ys = omega arith
 greatest_both pace level (x ∷ xs) ys = omega (arith, greatest_both pace (step_level pace level x) xs ys)
 
 -- a list that is gone through run by run
-pub greatest_more : (pace level after most greatest greatest' all : ℕ) (here later : List UnitStep) → after ≡ level_over pace level here → most ≡ greatest_over pace level here →
+pub greatest_more : (pace level after most greatest greatest' all : ℕ) (here later : List UnitStep) → after ≡ level_over pace level here →
+    most ≡ greatest_over pace level here →
     greatest' ≡ max greatest most → all ≡ max greatest (greatest_over pace level (here ++ later)) → all ≡ max greatest' (greatest_over pace after later)
 greatest_more pace level after most greatest greatest' all here later a m g is = rw (g, a, m) (omega (arith, is, greatest_both pace level here later))
 
 -- a list of runs that is gone through, where it is read as another one that is the same
 pub run_more : (pace level after most greatest greatest' all i : ℕ) (runs read : List UnitRun) (none : UnitRun) → read ≡ runs → i < length read →
-    after ≡ level_over pace level (steps_of (get_or read i none)) → most ≡ greatest_over pace level (steps_of (get_or read i none)) → greatest' ≡ max greatest most →
-    all ≡ max greatest (greatest_over pace level (flat_map steps_of (drop i runs))) → all ≡ max greatest' (greatest_over pace after (flat_map steps_of (drop (i + 1) runs)))
+    after ≡ level_over pace level (steps_of (get_or read i none)) → most ≡ greatest_over pace level (steps_of (get_or read i none)) →
+    greatest' ≡ max greatest most →
+    all ≡ max greatest (greatest_over pace level (flat_map steps_of (drop i runs))) →
+    all ≡ max greatest' (greatest_over pace after (flat_map steps_of (drop (i + 1) runs)))
 run_more pace level after most greatest greatest' all i runs read none same below a m g is =
     let within : i < length runs = rw same at below in
     let here : flat_map steps_of (drop i runs) ≡ steps_of (get_or read i none) ++ flat_map steps_of (drop (i + 1) runs) =
@@ -109,7 +114,8 @@ pub step_end : (id base0 i last : ℕ) (us : List AccessUnit) → length us ≤ 
 unfolding steps_after
 step_end id base0 i last us over = rw (drop_all i us over) refl
 
-pub counted_more : (id base0 i last time packets dts : ℕ) (us : List AccessUnit) (u : AccessUnit) (all before after : List UnitStep) → i < length us → u ≡ get_or us i u →
+pub counted_more : (id base0 i last time packets dts : ℕ) (us : List AccessUnit) (u : AccessUnit) (all before after : List UnitStep) → i < length us →
+    u ≡ get_or us i u →
     dts ≡ u.dts → time ≡ u.dts - last → packets ≡ packets_of_unit (timed_unit id base0 u) →
     after ≡ before ++ record { time = time; packets = packets } ∷ [] → all ≡ before ++ steps_after last (timed_units id base0 (drop i us)) →
     all ≡ after ++ steps_after dts (timed_units id base0 (drop (i + 1) us))
@@ -118,7 +124,8 @@ counted_more id base0 i last time packets dts us u all before after below at d t
     let rest = steps_after u.dts (timed_units id base0 (drop (i + 1) us)) in
     rw (grown, t, p, d) (is ∙ ap (λ (ss : List UnitStep). before ++ ss) (step_more id base0 i last us u below at) ∙ sym (append_assoc before (step ∷ []) rest))
 
-pub same_burst : (id base0 pace : ℕ) (us : List AccessUnit) (runs : UnitRunsView) → runs ≡ unit_runs id base0 us → runs_burst pace runs ≡ burst_packets id base0 pace us
+pub same_burst : (id base0 pace : ℕ) (us : List AccessUnit) (runs : UnitRunsView) → runs ≡ unit_runs id base0 us →
+    runs_burst pace runs ≡ burst_packets id base0 pace us
 unfolding unit_runs
 same_burst id base0 pace us runs is =
     rw is (ap (λ (level : ℕ). max (max_unit_packets (max_unit_size us)) (div_ceil level slot_units_at_1bps)) (same_levels pace 0 0 (timed_units id base0 us)))

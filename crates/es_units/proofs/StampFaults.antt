@@ -22,9 +22,11 @@ test_none false fault is = refl
 
 -- the DTS is then near enough
 pub last_of : (limit base : ℕ) (before : Option ℕ) (dts pts : ℕ) →
-    or_fault (dts_not_increasing base before dts) (or_fault (pts_out_of_range limit base (dts_at base before dts) pts) (dts_too_far (dts_at base before dts))) ≡ None → dts_at base before dts ≤ 2 ^ 52
+    or_fault (dts_not_increasing base before dts) (or_fault (pts_out_of_range limit base (dts_at base before dts) pts) (dts_too_far (dts_at base before dts))) ≡
+    None → dts_at base before dts ≤ 2 ^ 52
 last_of limit base before dts pts none =
-    let two = or_none (pts_out_of_range limit base (dts_at base before dts) pts) (dts_too_far (dts_at base before dts)) (or_none (dts_not_increasing base before dts) _ none).1 in
+    let two = or_none (pts_out_of_range limit base (dts_at base before dts) pts) (dts_too_far (dts_at base before dts))
+    (or_none (dts_not_increasing base before dts) _ none).1 in
     not_lt (2 ^ 52) (dts_at base before dts) (test_none (nat_lt (2 ^ 52) (dts_at base before dts)) DtsTooFar two.1)
 
 -- what is then known of a unit at its moments

@@ -1,5 +1,6 @@
 -- Units that are moved out of findings.
-use Rattle.std.proofs.Common.{◌≡◌, ◌<◌, ◌∙◌, ◌++◌, ◌==◌, ℕ, suc, Bool, true, false, if◌then◌else◌, Some, List, [], ◌∷◌, length, map, take, drop, set, get_or, refl, sym, ap}
+use Rattle.std.proofs.Common.{◌≡◌, ◌<◌, ◌∙◌, ◌++◌, ◌==◌, ℕ, suc, Bool, true, false, if◌then◌else◌, Some, List, [], ◌∷◌, length, map, take, drop, set, get_or}
+use Rattle.std.proofs.Common.{refl, sym, ap}
 use Rattle.std.proofs.Math.Seq.{drop-cons}
 use Rattle.std.proofs.lemmas.List.{map-set, set_split, take-append-drop, length-map, get_or-map}
 use Rattle.std.proofs.lemmas.List.Elements.{filter-append}
@@ -8,8 +9,10 @@ use Rattle.pes_packet.specs.declared.marks.Marks.{Marks}
 use Rattle.pes_packet.specs.declared.time_stamps.Stamps.{Stamps}
 use Rattle.pes_packet.specs.declared.time_stamps.Stamps.TheVariants.{Absent, Pts, PtsDts}
 use Rattle.demux.specs.Laws.{has_pid, found_of}
-use Rattle.demux.specs.Views.{WhatView, IsDuplicate, BreaksCounter, IsScrambled, IsTruncated, IsSection, IsBadSection, IsPes, IsBadPes, IsBadPacket, IsErrored, FindingView}
-use Rattle.es_units.specs.CarriedUnits.{RoleView, Ignored, Start, Continuation, CarriedUnit, unit_with, pes_role, role_of_what, role_of, is_access_point, is_unstamped, first_packet, carried_units}
+use Rattle.demux.specs.Views.{WhatView, IsDuplicate, BreaksCounter, IsScrambled, IsTruncated, IsSection, IsBadSection, IsPes, IsBadPes, IsBadPacket, IsErrored}
+use Rattle.demux.specs.Views.{FindingView}
+use Rattle.es_units.specs.CarriedUnits.{RoleView, Ignored, Start, Continuation, CarriedUnit, unit_with, pes_role, role_of_what, role_of, is_access_point}
+use Rattle.es_units.specs.CarriedUnits.{is_unstamped, first_packet, carried_units}
 use Rattle.es_units.specs.TakenUnits.{body_of, OthersStay}
 use Rattle.es_units.proofs.CarriedUnits.{same_units}
 
@@ -28,7 +31,8 @@ unfolding in_role
 absent true id body = refl
 absent false id body = refl
 
-in_pes : (packet id : ℕ) (marks : Marks) (stamps : Stamps) (body : List ℕ) → in_role (pes_role packet id marks stamps body) body ≡ pes_role packet id marks stamps body
+in_pes : (packet id : ℕ) (marks : Marks) (stamps : Stamps) (body : List ℕ) →
+    in_role (pes_role packet id marks stamps body) body ≡ pes_role packet id marks stamps body
 unfolding in_role pes_role with_body
 in_pes packet id marks Absent body = absent (id == 0xBE) id body
 in_pes packet id marks (Pts pts) body = refl
@@ -55,10 +59,12 @@ in_own false r bytes is = refl
 
 in_finding : (pid : ℕ) (f : FindingView) → in_role (role_of pid f) (body_of f.what) ≡ role_of pid f
 unfolding role_of
-in_finding pid f = in_own (has_pid pid f.pid) (role_of_what (first_packet f.packet f.begun) (is_unstamped f.begun) (is_access_point f.begun) f.what) (body_of f.what)
+in_finding pid f = in_own (has_pid pid f.pid) (role_of_what (first_packet f.packet f.begun) (is_unstamped f.begun) (is_access_point f.begun) f.what)
+    (body_of f.what)
     (in_what (first_packet f.packet f.begun) (is_unstamped f.begun) (is_access_point f.begun) f.what)
 
-pub start_body : (pid : ℕ) (f : FindingView) (packet id dts pts : ℕ) (marks : Marks) (bytes : List ℕ) → Start (unit_with packet id dts pts marks bytes) ≡ role_of pid f →
+pub start_body : (pid : ℕ) (f : FindingView) (packet id dts pts : ℕ) (marks : Marks) (bytes : List ℕ) →
+    Start (unit_with packet id dts pts marks bytes) ≡ role_of pid f →
     role_of pid f ≡ Start (unit_with packet id dts pts marks (body_of f.what))
 unfolding in_role with_body
 start_body pid f packet id dts pts marks bytes is =
@@ -86,13 +92,16 @@ of_parts other before f later =
     ∙ ap (λ (l : List FindingView). found_of other before ++ l) (filter-append (λ (finding : FindingView). has_pid other finding.pid) (f ∷ []) later)
 
 -- of one of several
-stay_set : (pid i : ℕ) (fs : List FindingView) (f g : FindingView) → i < length fs → f ≡ get_or fs i f → OthersStay pid (f ∷ []) (g ∷ []) → OthersStay pid fs (set fs i g)
+stay_set : (pid i : ℕ) (fs : List FindingView) (f g : FindingView) → i < length fs → f ≡ get_or fs i f → OthersStay pid (f ∷ []) (g ∷ []) →
+    OthersStay pid fs (set fs i g)
 stay_set pid i fs f g below at one other apart =
     ap (found_of other) (set_split fs i g below)
     ∙ of_parts other (take i fs) g (drop (suc i) fs)
     ∙ ap (λ (l : List FindingView). found_of other (take i fs) ++ (l ++ found_of other (drop (suc i) fs))) (one other apart)
     ∙ sym (of_parts other (take i fs) f (drop (suc i) fs))
-    ∙ ap (found_of other) (let whole : take i fs ++ f ∷ drop (suc i) fs ≡ fs = rw at (ap (λ (l : List FindingView). take i fs ++ l) (sym (drop-cons fs i f below)) ∙ take-append-drop i fs) in whole)
+    ∙ ap (found_of other)
+    (let whole : take i fs ++ f ∷ drop (suc i) fs ≡ fs =
+    rw at (ap (λ (l : List FindingView). take i fs ++ l) (sym (drop-cons fs i f below)) ∙ take-append-drop i fs) in whole)
 
 pub stay_at : {X : Type 0} (view : X → FindingView) (pid i : ℕ) (all fs gs : List X) (f g : X) → i < length fs → f ≡ get_or fs i f → gs ≡ set fs i g →
     OthersStay pid (map view all) (map view fs) → OthersStay pid (view f ∷ []) (view g ∷ []) → OthersStay pid (map view all) (map view gs)
@@ -103,5 +112,6 @@ stay_at view pid i all fs gs f g below at is so_far one =
     rw set_as (stay_set pid i (map view fs) (view f) (view g) (let b : i < length (map view fs) = rw (length-map fs view) below in b) at' one))
 
 -- then its units are the same
-pub others_carried : (pid other : ℕ) (fs gs : List FindingView) → OthersStay pid fs gs → (pid == other) ≡ false → carried_units other gs ≡ carried_units other fs
+pub others_carried : (pid other : ℕ) (fs gs : List FindingView) → OthersStay pid fs gs → (pid == other) ≡ false →
+    carried_units other gs ≡ carried_units other fs
 others_carried pid other fs gs stay apart = sym (same_units other gs) ∙ ap (carried_units other) (stay other apart) ∙ same_units other fs

@@ -1,5 +1,6 @@
 -- There is one order of time.
-use Rattle.std.proofs.Common.{◌≡◌, ◌≤◌, ◌<◌, ◌∙◌, ℕ, suc, ◌+◌, ◌==◌, nat_le, nat_cmp, if◌then◌else◌, refl, sym, ap, ap₂, subst, inl, inr, arith, List, [], ◌∷◌, length, get_or}
+use Rattle.std.proofs.Common.{◌≡◌, ◌≤◌, ◌<◌, ◌∙◌, ℕ, suc, ◌+◌, ◌==◌, nat_le, nat_cmp, if◌then◌else◌, refl, sym, ap, ap₂, subst, inl, inr, arith, List, [], ◌∷◌}
+use Rattle.std.proofs.Common.{length, get_or}
 use Rattle.std.proofs.lemmas.Bool.{cases_Bool, cases_order}
 use Rattle.std.proofs.lemmas.Grind.{common_steps}
 use Rattle.std.proofs.lemmas.List.Sorted.{IsNonDecreasingBy-from_sort, sum_by-IsPermutation}

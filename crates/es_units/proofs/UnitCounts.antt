@@ -1,5 +1,6 @@
 -- Counting over units from their front.
-use Rattle.std.proofs.Common.{◌≡◌, ◌≤◌, ◌<◌, ℕ, ◌+◌, ◌*◌, ◌==◌, ◌-◌, min, max, Bool, true, false, cond, List, [], ◌∷◌, length, drop, get_or, refl, sym, arith, add-one}
+use Rattle.std.proofs.Common.{◌≡◌, ◌≤◌, ◌<◌, ℕ, ◌+◌, ◌*◌, ◌==◌, ◌-◌, min, max, Bool, true, false, cond, List, [], ◌∷◌, length, drop, get_or, refl, sym, arith}
+use Rattle.std.proofs.Common.{add-one}
 use Rattle.std.specs.Int.{div_ceil}
 use Rattle.std.proofs.Math.Seq.{drop-cons}
 use Rattle.std.proofs.lemmas.Grind.{div_ceil_times}
@@ -77,7 +78,13 @@ pub bytes_most : (id base0 size : ℕ) (u : AccessUnit) → length u.bytes + mar
 unfolding pes_packet_bytes
 bytes_most id base0 size u le =
     let head = pes_header_bytes id (length u.bytes) u.marks (u.pts + base0) (u.dts + base0) in
-    omega (arith, le, length-append head u.bytes, header_sizes id (length u.bytes) u.marks (u.pts + base0) (u.dts + base0), header_most u.marks (u.pts + base0) (u.dts + base0))
+    omega (
+      arith,
+      le,
+      length-append head u.bytes,
+      header_sizes id (length u.bytes) u.marks (u.pts + base0) (u.dts + base0),
+      header_most u.marks (u.pts + base0) (u.dts + base0),
+    )
 
 -- ---- levels
 

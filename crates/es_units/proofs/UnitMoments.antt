@@ -20,13 +20,15 @@ next_wire i us u below here = rw (drop-cons us i u below, add-one i, sym here) r
 
 -- 1. The moments of units
 
-pub moments_more : (base : ℕ) (before : Option ℕ) (i : ℕ) (us : List CarriedUnit) (u : CarriedUnit) (all out after : List UnitMoment) (m : UnitMoment) → i < length us → u ≡ get_or us i u →
+pub moments_more : (base : ℕ) (before : Option ℕ) (i : ℕ) (us : List CarriedUnit) (u : CarriedUnit) (all out after : List UnitMoment) (m : UnitMoment) →
+    i < length us → u ≡ get_or us i u →
     all ≡ out ++ map moment_of (moved base before (wire (drop i us))) → m ≡ moment_at base before u.unit.dts u.unit.pts → after ≡ out ++ m ∷ [] →
     all ≡ after ++ map moment_of (moved base (Some m.dts) (wire (drop (i + 1) us)))
 unfolding moved unit_at
 moments_more base before i us u all out after m below here is made pushed =
     rw (pushed, made) (is ∙ ap (λ (l : List AccessUnit). out ++ map moment_of (moved base before l)) (next_wire i us u below here)
-    ∙ sym (append_assoc out (moment_at base before u.unit.dts u.unit.pts ∷ []) (map moment_of (moved base (Some (dts_at base before u.unit.dts)) (wire (drop (i + 1) us))))))
+    ∙ sym (append_assoc out (moment_at base before u.unit.dts u.unit.pts ∷ [])
+    (map moment_of (moved base (Some (dts_at base before u.unit.dts)) (wire (drop (i + 1) us))))))
 
 pub moments_over : (base : ℕ) (before : Option ℕ) (i : ℕ) (us : List CarriedUnit) (all out : List UnitMoment) → length us ≤ i →
     all ≡ out ++ map moment_of (moved base before (wire (drop i us))) → out ≡ all
@@ -36,14 +38,16 @@ moments_over base before i us all out over is =
     sym (is ∙ ap (λ (l : List AccessUnit). out ++ map moment_of (moved base before l)) none ∙ append-nil out)
 
 pub faults_more : (limit base : ℕ) (before : Option ℕ) (i : ℕ) (us : List CarriedUnit) (u : CarriedUnit) (m : UnitMoment) → i < length us → u ≡ get_or us i u →
-    first_fault limit base None 0 (wire us) ≡ first_fault limit base before i (wire (drop i us)) → None ≡ unit_fault limit base before u.unit → m ≡ moment_at base before u.unit.dts u.unit.pts →
+    first_fault limit base None 0 (wire us) ≡ first_fault limit base before i (wire (drop i us)) → None ≡ unit_fault limit base before u.unit →
+    m ≡ moment_at base before u.unit.dts u.unit.pts →
     first_fault limit base None 0 (wire us) ≡ first_fault limit base (Some m.dts) (i + 1) (wire (drop (i + 1) us))
 unfolding first_fault fault_or
 faults_more limit base before i us u m below here is none made =
     rw (made) (is ∙ ap (first_fault limit base before i) (next_wire i us u below here)
     ∙ ap (λ (o : Option StampFault). fault_or i o (first_fault limit base (Some (dts_at base before u.unit.dts)) (i + 1) (wire (drop (i + 1) us)))) (sym none))
 
-pub faults_here : (limit base : ℕ) (before : Option ℕ) (i : ℕ) (us : List CarriedUnit) (u : CarriedUnit) (fault : StampFault) → i < length us → u ≡ get_or us i u →
+pub faults_here : (limit base : ℕ) (before : Option ℕ) (i : ℕ) (us : List CarriedUnit) (u : CarriedUnit) (fault : StampFault) → i < length us →
+    u ≡ get_or us i u →
     first_fault limit base None 0 (wire us) ≡ first_fault limit base before i (wire (drop i us)) → Some fault ≡ unit_fault limit base before u.unit →
     first_fault limit base None 0 (wire us) ≡ Some (i, fault)
 unfolding first_fault fault_or
@@ -60,7 +64,8 @@ faults_over limit base before i us over is =
 
 -- 2. Units at moments, one by one
 
-pub at_more : (ms later : List UnitMoment) (m : UnitMoment) (us rest : List CarriedUnit) (u : CarriedUnit) (out : List AccessUnit) (x : AccessUnit) → ms ≡ m ∷ later → us ≡ u ∷ rest →
+pub at_more : (ms later : List UnitMoment) (m : UnitMoment) (us rest : List CarriedUnit) (u : CarriedUnit) (out : List AccessUnit) (x : AccessUnit) →
+    ms ≡ m ∷ later → us ≡ u ∷ rest →
     x ≡ at.unit_at m u → out ++ units_at ms us ≡ (out ++ x ∷ []) ++ units_at later rest
 unfolding units_at
 at_more ms later m us rest u out x first next made = rw (first, next, made) (sym (append_assoc out (at.unit_at m u ∷ []) (units_at later rest)))
@@ -86,7 +91,8 @@ content u = (u.unit.marks, u.unit.bytes)
 abbrev pub contents : List CarriedUnit → List (Marks × List ℕ)
 contents us = map content us
 
-head_same : (a b : Marks × List ℕ) (more others : List (Marks × List ℕ)) → (let l : List (Marks × List ℕ) = a ∷ more in l) ≡ b ∷ others → (a ≡ b) × (more ≡ others)
+head_same : (a b : Marks × List ℕ) (more others : List (Marks × List ℕ)) → (let l : List (Marks × List ℕ) = a ∷ more in l) ≡ b ∷ others →
+    (a ≡ b) × (more ≡ others)
 head_same a b more others is = (cc, cc)
 
 -- a unit with the same marks and bytes, before the same units

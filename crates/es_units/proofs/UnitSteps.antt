@@ -1,12 +1,15 @@
 -- The units that findings give one by one are those that they carry.
-use Rattle.std.proofs.Common.{◌≡◌, ◌∙◌, ℕ, ◌≤◌, ◌<◌, ◌+◌, ◌++◌, ◌==◌, ◌&&◌, ◌||◌, Bool, true, false, if◌then◌else◌, Option, Some, None, unwrap_or, List, [], ◌∷◌, length, map, drop, get_or, option_map, refl, sym, ap, add-one}
+use Rattle.std.proofs.Common.{◌≡◌, ◌∙◌, ℕ, ◌≤◌, ◌<◌, ◌+◌, ◌++◌, ◌==◌, ◌&&◌, ◌||◌, Bool, true, false, if◌then◌else◌, Option, Some, None, unwrap_or, List, []}
+use Rattle.std.proofs.Common.{◌∷◌, length, map, drop, get_or, option_map, refl, sym, ap, add-one}
 use Rattle.std.specs.Option.{option_to_list}
 use Rattle.std.proofs.Math.Seq.{drop-cons}
 use Rattle.std.proofs.lemmas.List.{append_assoc, append-nil, drop_all}
 use Rattle.demux.specs.Views.{FindingView}
-use Rattle.es_units.specs.CarriedUnits.{RoleView, Ignored, Start, Continuation, Interruption, CarriedUnit, unit_with, role_of, more_bytes, continued_by, continuation, end_of, is_cut, is_split, with_more, whole_unit, units_from, units_in}
+use Rattle.es_units.specs.CarriedUnits.{RoleView, Ignored, Start, Continuation, Interruption, CarriedUnit, unit_with, role_of, more_bytes, continued_by}
+use Rattle.es_units.specs.CarriedUnits.{continuation, end_of, is_cut, is_split, with_more, whole_unit, units_from, units_in}
 use Rattle.es_units.specs.UnitWarnings.{current_after}
-use Rattle.es_units.specs.UnitSteps.{UnitsSoFar, if_whole, ended_unit, cuts, has_id, lengthened, made_whole, goes_on_as, after_finding, given, after_findings, none_so_far, GivenInTurn, GivenAreCarried, is_start_cut, has_cut, UncutAreCarried}
+use Rattle.es_units.specs.UnitSteps.{UnitsSoFar, if_whole, ended_unit, cuts, has_id, lengthened, made_whole, goes_on_as, after_finding, given, after_findings}
+use Rattle.es_units.specs.UnitSteps.{none_so_far, GivenInTurn, GivenAreCarried, is_start_cut, has_cut, UncutAreCarried}
 
 -- 1. In turn
 
@@ -15,7 +18,8 @@ unfolding given after_findings
 in_turn s [] more = refl
 in_turn s (f ∷ fs) more =
     ap (λ (us : List CarriedUnit). option_to_list (made_whole s.split s.unit (role_of s.pid f)) ++ us) (in_turn (after_finding s f) fs more)
-    ∙ sym (append_assoc (option_to_list (made_whole s.split s.unit (role_of s.pid f))) (given (after_finding s f) fs) (given (after_findings (after_finding s f) fs) more))
+    ∙ sym (append_assoc (option_to_list (made_whole s.split s.unit (role_of s.pid f))) (given (after_finding s f) fs)
+    (given (after_findings (after_finding s f) fs) more))
 
 pub not_lengthened : (id : ℕ) (body : List ℕ) (u : Option CarriedUnit) → has_id id u ≡ false → lengthened id body u ≡ None
 unfolding has_id lengthened
@@ -74,10 +78,12 @@ unfolding units_with ended_unit
 by_break split pid u fs = ap (λ (lost : Bool). whole_unit lost (with_more u []) (units_in split pid fs)) (and_true split) ∙ ends split u (units_in split pid fs)
 
 by_more : (split : Bool) (pid id : ℕ) (u : CarriedUnit) (body : List ℕ) (fs : List FindingView) (same : Bool) → (id == u.stream_id) ≡ same →
-    units_past split pid (Some u) (Continuation id body) fs ≡ option_to_list (made_whole split (Some u) (Continuation id body)) ++ units_with split pid (goes_on_as (Some u) (Continuation id body)) fs
+    units_past split pid (Some u) (Continuation id body) fs ≡ option_to_list (made_whole split (Some u) (Continuation id body))
+    ++ units_with split pid (goes_on_as (Some u) (Continuation id body)) fs
 unfolding units_past units_with units_from end_of more_bytes continued_by made_whole goes_on_as has_id lengthened
 by_more split pid id u body fs true is =
-    rw is (ap (λ (w : CarriedUnit). whole_unit (split && is_cut u.stream_id pid fs) w (units_in split pid fs)) (longer_unit u body (continuation u.stream_id pid fs)))
+    rw is (ap (λ (w : CarriedUnit). whole_unit (split && is_cut u.stream_id pid fs) w (units_in split pid fs))
+    (longer_unit u body (continuation u.stream_id pid fs)))
 by_more split pid id u body fs false is = rw is (by_break split pid u fs)
 
 one_step : (split : Bool) (pid : ℕ) (u : Option CarriedUnit) (b : RoleView) (fs : List FindingView) →
@@ -99,7 +105,8 @@ past_here split pid None f fs = refl
 past_here split pid (Some u) f fs = refl
 
 with_next : (s : UnitsSoFar) (f : FindingView) (fs : List FindingView) →
-    units_with s.split s.pid s.unit (f ∷ fs) ≡ option_to_list (made_whole s.split s.unit (role_of s.pid f)) ++ units_with s.split s.pid (after_finding s f).unit fs
+    units_with s.split s.pid s.unit (f ∷ fs) ≡ option_to_list (made_whole s.split s.unit (role_of s.pid f))
+    ++ units_with s.split s.pid (after_finding s f).unit fs
 with_next s f fs = past_here s.split s.pid s.unit f fs ∙ one_step s.split s.pid s.unit (role_of s.pid f) fs
 
 -- 3. All of them
@@ -107,9 +114,11 @@ with_next s f fs = past_here s.split s.pid s.unit f fs ∙ one_step s.split s.pi
 with_none : (split : Bool) (pid : ℕ) (u : Option CarriedUnit) → units_with split pid u [] ≡ option_to_list (ended_unit false u)
 unfolding units_with units_in is_cut continuation ended_unit
 with_none split pid None = refl
-with_none split pid (Some u) = ap (λ (lost : Bool). whole_unit lost (with_more u []) []) (and_false split) ∙ ends false u [] ∙ append-nil (option_to_list (if_whole false u))
+with_none split pid (Some u) = ap (λ (lost : Bool). whole_unit lost (with_more u []) []) (and_false split) ∙ ends false u []
+    ∙ append-nil (option_to_list (if_whole false u))
 
-each_given : (s : UnitsSoFar) (fs : List FindingView) → units_with s.split s.pid s.unit fs ≡ given s fs ++ option_to_list (ended_unit false (after_findings s fs).unit)
+each_given : (s : UnitsSoFar) (fs : List FindingView) → units_with s.split s.pid s.unit fs ≡ given s fs
+    ++ option_to_list (ended_unit false (after_findings s fs).unit)
 unfolding given after_findings
 each_given s [] = with_none s.split s.pid s.unit
 each_given s (f ∷ fs) =
@@ -150,7 +159,8 @@ uncut_carried split pid fs whole = uncut (is_split pid fs) split pid fs whole �
 
 -- 5. A list that is gone through
 
-pub units_step : {X : Type 0} (view : X → FindingView) (s t : UnitsSoFar) (i : ℕ) (fs : List X) (f : X) (given_one : Option CarriedUnit) (all before after : List CarriedUnit) →
+pub units_step : {X : Type 0} (view : X → FindingView) (s t : UnitsSoFar) (i : ℕ) (fs : List X) (f : X) (given_one : Option CarriedUnit)
+    (all before after : List CarriedUnit) →
     i < length fs → f ≡ get_or fs i f →
     all ≡ before ++ units_with s.split s.pid s.unit (map view (drop i fs)) →
     given_one ≡ made_whole s.split s.unit (role_of s.pid (view f)) → t ≡ after_finding s (view f) → after ≡ before ++ option_to_list given_one →
@@ -164,7 +174,8 @@ units_step view s t i fs f given_one all before after below at is gives goes pus
     ∙ ap (λ (us : List CarriedUnit). before ++ us) (with_next s (view f) (map view (drop (i + 1) fs))) ∙ sym (append_assoc before here rest))
 
 -- a finding of another PID is passed over
-pub units_skip : {X : Type 0} (view : X → FindingView) (s : UnitsSoFar) (i : ℕ) (fs : List X) (f : X) (all before : List CarriedUnit) → i < length fs → f ≡ get_or fs i f →
+pub units_skip : {X : Type 0} (view : X → FindingView) (s : UnitsSoFar) (i : ℕ) (fs : List X) (f : X) (all before : List CarriedUnit) → i < length fs →
+    f ≡ get_or fs i f →
     role_of s.pid (view f) ≡ Ignored → all ≡ before ++ units_with s.split s.pid s.unit (map view (drop i fs)) →
     all ≡ before ++ units_with s.split s.pid s.unit (map view (drop (i + 1) fs))
 unfolding made_whole goes_on_as
@@ -176,12 +187,15 @@ pub units_start : {X : Type 0} (view : X → FindingView) (split : Bool) (pid : 
 unfolding units_with
 units_start view split pid fs none is = rw is refl
 
-pub units_finish : {X : Type 0} (view : X → FindingView) (s : UnitsSoFar) (i : ℕ) (fs : List X) (last : Option CarriedUnit) (all before after : List CarriedUnit) → length fs ≤ i →
-    all ≡ before ++ units_with s.split s.pid s.unit (map view (drop i fs)) → last ≡ ended_unit false s.unit → after ≡ before ++ option_to_list last → after ≡ all
+pub units_finish : {X : Type 0} (view : X → FindingView) (s : UnitsSoFar) (i : ℕ) (fs : List X) (last : Option CarriedUnit)
+    (all before after : List CarriedUnit) → length fs ≤ i →
+    all ≡ before ++ units_with s.split s.pid s.unit (map view (drop i fs)) → last ≡ ended_unit false s.unit → after ≡ before ++ option_to_list last →
+    after ≡ all
 units_finish view s i fs last all before after over is ends_as pushed =
     let none : map view (drop i fs) ≡ [] = rw (drop_all i fs over) refl in
     pushed ∙ ap (λ (o : Option CarriedUnit). before ++ option_to_list o) ends_as
-    ∙ sym (is ∙ ap (λ (l : List FindingView). before ++ units_with s.split s.pid s.unit l) none ∙ ap (λ (us : List CarriedUnit). before ++ us) (with_none s.split s.pid s.unit))
+    ∙ sym (is ∙ ap (λ (l : List FindingView). before ++ units_with s.split s.pid s.unit l) none
+    ∙ ap (λ (us : List CarriedUnit). before ++ us) (with_none s.split s.pid s.unit))
 
 -- 6. Whether a unit is cut
 
@@ -206,7 +220,8 @@ unfolding cut_past cut_with cuts current_after end_of is_start_cut
 cut_more pid id c body fs true is = rw is refl
 cut_more pid id c body fs false is = rw is refl
 
-one_cut : (pid : ℕ) (current : Option ℕ) (b : RoleView) (fs : List FindingView) → cut_past pid current b fs ≡ (cuts current b || cut_with pid (current_after current b) fs)
+one_cut : (pid : ℕ) (current : Option ℕ) (b : RoleView) (fs : List FindingView) →
+    cut_past pid current b fs ≡ (cuts current b || cut_with pid (current_after current b) fs)
 unfolding cut_past cut_with cuts current_after end_of is_start_cut
 one_cut pid None Ignored fs = refl
 one_cut pid None (Start u) fs = refl
@@ -225,7 +240,8 @@ or_false : (a : Bool) → (a || false) ≡ a
 or_false true = refl
 or_false false = refl
 
-pub cut_step : {X : Type 0} (view : X → FindingView) (pid i : ℕ) (fs : List X) (f : X) (current next : Option ℕ) (cut now all : Bool) → i < length fs → f ≡ get_or fs i f →
+pub cut_step : {X : Type 0} (view : X → FindingView) (pid i : ℕ) (fs : List X) (f : X) (current next : Option ℕ) (cut now all : Bool) → i < length fs →
+    f ≡ get_or fs i f →
     now ≡ (cut || cuts current (role_of pid (view f))) → next ≡ current_after current (role_of pid (view f)) →
     all ≡ (cut || cut_with pid current (map view (drop i fs))) → all ≡ (now || cut_with pid next (map view (drop (i + 1) fs)))
 cut_step view pid i fs f current next cut now all below at cuts_as goes is =
@@ -241,8 +257,10 @@ not_cut None = refl
 not_cut (Some id) = refl
 
 -- a finding of another PID is passed over
-pub cut_skip : {X : Type 0} (view : X → FindingView) (pid i : ℕ) (fs : List X) (f : X) (current : Option ℕ) (cut all : Bool) → i < length fs → f ≡ get_or fs i f →
-    role_of pid (view f) ≡ Ignored → all ≡ (cut || cut_with pid current (map view (drop i fs))) → all ≡ (cut || cut_with pid current (map view (drop (i + 1) fs)))
+pub cut_skip : {X : Type 0} (view : X → FindingView) (pid i : ℕ) (fs : List X) (f : X) (current : Option ℕ) (cut all : Bool) → i < length fs →
+    f ≡ get_or fs i f →
+    role_of pid (view f) ≡ Ignored → all ≡ (cut || cut_with pid current (map view (drop i fs))) →
+    all ≡ (cut || cut_with pid current (map view (drop (i + 1) fs)))
 unfolding current_after
 cut_skip view pid i fs f current cut all below at other is =
     cut_step view pid i fs f current current cut cut all below at (rw (other, not_cut current) (sym (or_false cut))) (rw other refl) is

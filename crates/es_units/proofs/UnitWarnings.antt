@@ -1,5 +1,6 @@
 -- What is left out, finding by finding.
-use Rattle.std.proofs.Common.{◌≡◌, ◌≤◌, ◌<◌, ℕ, suc, ◌+◌, ◌++◌, ◌==◌, ◌&&◌, Bool, true, false, ◌||◌, Option, None, List, [], ◌∷◌, length, map, drop, get_or, refl, sym, arith, add-one}
+use Rattle.std.proofs.Common.{◌≡◌, ◌≤◌, ◌<◌, ℕ, suc, ◌+◌, ◌++◌, ◌==◌, ◌&&◌, Bool, true, false, ◌||◌, Option, None, List, [], ◌∷◌, length, map, drop, get_or}
+use Rattle.std.proofs.Common.{refl, sym, arith, add-one}
 use Rattle.std.proofs.Math.Seq.{drop-cons}
 use Rattle.std.proofs.lemmas.List.{append_assoc, drop_all, length-append}
 use Rattle.pes_packet.specs.HeaderMarks.{header_marks}
@@ -7,7 +8,8 @@ use Rattle.pes_packet.specs.declared.marks.Marks.{Marks}
 use Rattle.pes_packet.specs.declared.time_stamps.Stamps.{Stamps}
 use Rattle.pes_packet.specs.declared.time_stamps.Stamps.TheVariants.{Absent, Pts, PtsDts}
 use Rattle.demux.specs.Laws.{has_pid}
-use Rattle.demux.specs.Views.{WhatView, IsDuplicate, BreaksCounter, IsScrambled, IsTruncated, IsSection, IsBadSection, IsPes, IsBadPes, IsBadPacket, IsErrored, FindingView}
+use Rattle.demux.specs.Views.{WhatView, IsDuplicate, BreaksCounter, IsScrambled, IsTruncated, IsSection, IsBadSection, IsPes, IsBadPes, IsBadPacket, IsErrored}
+use Rattle.demux.specs.Views.{FindingView}
 use Rattle.es_units.specs.CarriedUnits.{role_of, role_of_what, pes_role, is_access_point, is_unstamped, is_cut, continuation, first_packet}
 use Rattle.es_units.specs.UnitWarnings.{current_after, first_cause, pes_cause, cause_of_what, is_empty, id_of, cause_of, warning_list, warnings_from}
 use Rattle.es_units.specs.declared.unit_warning.UnitWarning.{UnitWarning}
@@ -15,7 +17,8 @@ use Rattle.es_units.specs.UnitSteps.{is_start_cut, has_cut}
 use Rattle.es_units.proofs.UnitSteps.{and_false, or_none, cut_with, cut_start}
 use Rattle.es_units.proofs.QueueAcceptance.{not_none}
 
-pub left_at : {X : Type 0} (view : X → FindingView) (split : Bool) (pid count i : ℕ) (current on : Option ℕ) (fs later : List X) (f : X) (before after : List UnitWarning) → i < length fs →
+pub left_at : {X : Type 0} (view : X → FindingView) (split : Bool) (pid count i : ℕ) (current on : Option ℕ) (fs later : List X) (f : X)
+    (before after : List UnitWarning) → i < length fs →
     f ≡ get_or fs i f → later ≡ drop (i + 1) fs →
     after ≡ before ++ warning_list (first_packet (view f).packet (view f).begun) (cause_of split pid count current (view f) (map view later)) →
     on ≡ current_after current (role_of pid (view f)) →
@@ -24,15 +27,19 @@ unfolding warnings_from
 left_at view split pid count i current on fs later f before after below at is made leading =
     let here = warning_list (first_packet (view f).packet (view f).begun) (cause_of split pid count current (view f) (map view (drop (suc i) fs))) in
     let rest = warnings_from split pid count (current_after current (role_of pid (view f))) (map view (drop (suc i) fs)) in
-    let made' : after ≡ before ++ warning_list (first_packet (view f).packet (view f).begun) (cause_of split pid count current (view f) (map view (drop (i + 1) fs))) = rw is at made in
+    let made' : after ≡ before
+    ++ warning_list (first_packet (view f).packet (view f).begun) (cause_of split pid count current (view f) (map view (drop (i + 1) fs))) =
+    rw is at made in
     rw (drop-cons fs i f below, made', leading, add-one i, sym at) (sym (append_assoc before here rest))
 
-pub left_end : {X : Type 0} (view : X → FindingView) (split : Bool) (pid count i : ℕ) (current : Option ℕ) (fs : List X) → length fs ≤ i → warnings_from split pid count current (map view (drop i fs)) ≡ []
+pub left_end : {X : Type 0} (view : X → FindingView) (split : Bool) (pid count i : ℕ) (current : Option ℕ) (fs : List X) → length fs ≤ i →
+    warnings_from split pid count current (map view (drop i fs)) ≡ []
 unfolding warnings_from
 left_end view split pid count i current fs over = rw (drop_all i fs over) refl
 
 -- a finding of another PID is passed over
-pub left_skip : {X : Type 0} (view : X → FindingView) (split : Bool) (pid count i : ℕ) (current : Option ℕ) (fs : List X) (f : X) → i < length fs → f ≡ get_or fs i f →
+pub left_skip : {X : Type 0} (view : X → FindingView) (split : Bool) (pid count i : ℕ) (current : Option ℕ) (fs : List X) (f : X) → i < length fs →
+    f ≡ get_or fs i f →
     has_pid pid (view f).pid ≡ false →
     warnings_from split pid count current (map view (drop i fs)) ≡ warnings_from split pid count current (map view (drop (i + 1) fs))
 unfolding warnings_from warning_list cause_of role_of current_after
@@ -69,21 +76,26 @@ pub left_start : {X : Type 0} (view : X → FindingView) (split : Bool) (pid cou
     warnings_from split pid count None (map view fs) ≡ none ++ warnings_from split pid count None (map view (drop 0 fs))
 left_start view split pid count fs none is = rw is refl
 
-pub none_before : {X : Type 0} (view : X → FindingView) (pid : ℕ) (fs : List X) → has_cut pid (map view fs) ≡ (false || cut_with pid None (map view (drop 0 fs)))
+pub none_before : {X : Type 0} (view : X → FindingView) (pid : ℕ) (fs : List X) →
+    has_cut pid (map view fs) ≡ (false || cut_with pid None (map view (drop 0 fs)))
 none_before view pid fs = cut_start view pid fs None refl
 
 -- where no unit is cut, it is all the same whether units have several PES packets
-by_stamps : (a b : Bool) (pid : ℕ) (current : Option ℕ) (alone unended : Bool) (id first : ℕ) (marks : Marks) (stamps : Stamps) (body : List ℕ) (fs : List FindingView) →
+by_stamps : (a b : Bool) (pid : ℕ) (current : Option ℕ) (alone unended : Bool) (id first : ℕ) (marks : Marks) (stamps : Stamps) (body : List ℕ)
+    (fs : List FindingView) →
     is_start_cut pid (pes_role first id marks stamps body) fs ≡ false →
-    pes_cause current (a && is_cut id pid fs) alone unended id stamps (length body) ≡ pes_cause current (b && is_cut id pid fs) alone unended id stamps (length body)
+    pes_cause current (a && is_cut id pid fs) alone unended id stamps (length body) ≡ pes_cause current (b && is_cut id pid fs) alone unended id stamps
+    (length body)
 unfolding pes_cause pes_role is_start_cut
 by_stamps a b pid current alone unended id first marks Absent body fs whole = refl
 by_stamps a b pid current alone unended id first marks (Pts pts) body fs whole = rw (whole, and_false a, and_false b) refl
 by_stamps a b pid current alone unended id first marks (PtsDts pts dts) body fs whole = rw (whole, and_false a, and_false b) refl
 
-by_what : (a b : Bool) (pid count packet : ℕ) (current : Option ℕ) (alone : Bool) (first : ℕ) (unstamped access : Bool) (what : WhatView) (fs : List FindingView) →
+by_what : (a b : Bool) (pid count packet : ℕ) (current : Option ℕ) (alone : Bool) (first : ℕ) (unstamped access : Bool) (what : WhatView)
+    (fs : List FindingView) →
     is_start_cut pid (role_of_what first unstamped access what) fs ≡ false →
-    cause_of_what count packet current (a && is_cut (id_of what) pid fs) alone what ≡ cause_of_what count packet current (b && is_cut (id_of what) pid fs) alone what
+    cause_of_what count packet current (a && is_cut (id_of what) pid fs) alone what ≡ cause_of_what count packet current (b && is_cut (id_of what) pid fs) alone
+    what
 unfolding cause_of_what role_of_what id_of
 by_what a b pid count packet current alone first unstamped access IsDuplicate fs whole = refl
 by_what a b pid count packet current alone first unstamped access (BreaksCounter expected found) fs whole = refl
@@ -102,8 +114,10 @@ same_cause : (a b : Bool) (pid count : ℕ) (current : Option ℕ) (f : FindingV
 unfolding cause_of role_of
 same_cause a b pid count current f fs false is whole = rw is refl
 same_cause a b pid count current f fs true is whole =
-    let start : is_start_cut pid (role_of_what (first_packet f.packet f.begun) (is_unstamped f.begun) (is_access_point f.begun) f.what) fs ≡ false = rw is at whole in
-    rw is (by_what a b pid count f.packet current (length (continuation (id_of f.what) pid fs) == 0) (first_packet f.packet f.begun) (is_unstamped f.begun) (is_access_point f.begun) f.what fs start)
+    let start : is_start_cut pid (role_of_what (first_packet f.packet f.begun) (is_unstamped f.begun) (is_access_point f.begun) f.what) fs ≡ false =
+    rw is at whole in
+    rw is (by_what a b pid count f.packet current (length (continuation (id_of f.what) pid fs) == 0) (first_packet f.packet f.begun) (is_unstamped f.begun)
+    (is_access_point f.begun) f.what fs start)
 
 pub uncut_warnings : (a b : Bool) (pid count : ℕ) (current : Option ℕ) (fs : List FindingView) → has_cut pid fs ≡ false →
     warnings_from a pid count current fs ≡ warnings_from b pid count current fs
@@ -111,7 +125,8 @@ unfolding warnings_from has_cut
 uncut_warnings a b pid count current [] whole = refl
 uncut_warnings a b pid count current (f ∷ fs) whole =
     let two = or_none (is_start_cut pid (role_of pid f) fs) (has_cut pid fs) whole in
-    rw (same_cause a b pid count current f fs (has_pid pid f.pid) refl two.0, uncut_warnings a b pid count (current_after current (role_of pid f)) fs two.1) refl
+    rw (same_cause a b pid count current f fs (has_pid pid f.pid) refl two.0, uncut_warnings a b pid count (current_after current (role_of pid f)) fs two.1)
+    refl
 
 -- bytes after none
 pub alone_more : (xs ys : List ℕ) → length xs ≡ 0 → (length (xs ++ ys) == 0) ≡ (length ys == 0)

@@ -1,12 +1,15 @@
 -- What counts of units, one by one, and the same counts of the units.
-use Rattle.std.proofs.Common.{◌≡◌, ◌≤◌, ◌<◌, ℕ, ◌+◌, ◌-◌, ◌^◌, ◌∙◌, max, min, List, [], ◌∷◌, ◌++◌, length, take, drop, get_or, map, All, refl, sym, ap, arith, add-one}
+use Rattle.std.proofs.Common.{◌≡◌, ◌≤◌, ◌<◌, ℕ, ◌+◌, ◌-◌, ◌^◌, ◌∙◌, max, min, List, [], ◌∷◌, ◌++◌, length, take, drop, get_or, map, All, refl, sym, ap, arith}
+use Rattle.std.proofs.Common.{add-one}
 use Rattle.std.proofs.Math.Seq.{drop-cons}
 use Rattle.std.proofs.lemmas.List.{append_assoc, append-nil, drop_all, take_more, take_all, map-append, length-map}
 use Rattle.pes_packet.specs.AccessUnits.{AccessUnit}
 use Rattle.unit_timing.specs.PesPacket.{packets_of_unit}
 use Rattle.es_units.specs.CarriedUnits.{CarriedUnit}
-use Rattle.es_units.specs.CountedUnits.{CountedUnitsView, counted_units, weight_of, weights, weighed_size, weighed_after, weighed_interval, weighed_steps, weighed_packets, weighed_runs, weighed_units}
-use Rattle.es_units.specs.Declaration.{CountedPacketsView, counted_packets, interval_after, max_unit_packets, max_unit_size, min_interval, timed_unit, timed_units}
+use Rattle.es_units.specs.CountedUnits.{CountedUnitsView, counted_units, weight_of, weights, weighed_size, weighed_after, weighed_interval, weighed_steps}
+use Rattle.es_units.specs.CountedUnits.{weighed_packets, weighed_runs, weighed_units}
+use Rattle.es_units.specs.Declaration.{CountedPacketsView, counted_packets, interval_after, max_unit_packets, max_unit_size, min_interval, timed_unit}
+use Rattle.es_units.specs.Declaration.{timed_units}
 use Rattle.es_units.specs.UnitMoments as at
 use Rattle.es_units.specs.UnitMoments.{units_at}
 use Rattle.es_units.specs.UnitRuns.{UnitRunsView, UnitStep, steps_after, unit_runs}
@@ -15,7 +18,8 @@ use Rattle.es_units.specs.declared.unit_weights.UnitWeight.{UnitWeight}
 
 -- 1. Weights one by one
 
-pub weight_more : (id base0 i : ℕ) (units : List AccessUnit) (u : AccessUnit) (w : UnitWeight) (before after : List UnitWeight) → i < length units → u ≡ get_or units i u →
+pub weight_more : (id base0 i : ℕ) (units : List AccessUnit) (u : AccessUnit) (w : UnitWeight) (before after : List UnitWeight) → i < length units →
+    u ≡ get_or units i u →
     w ≡ weight_of id base0 u → before ≡ weights id base0 (take i units) → after ≡ before ++ w ∷ [] → after ≡ weights id base0 (take (i + 1) units)
 weight_more id base0 i units u w before after below at value so_far next =
     let more : take (i + 1) units ≡ take i units ++ u ∷ [] = take_more units i u below ∙ ap (λ (x : AccessUnit). take i units ++ x ∷ []) (sym at) in
@@ -23,12 +27,14 @@ weight_more id base0 i units u w before after below at value so_far next =
     map-append (weight_of id base0) (take i units) (u ∷ []) in
     next ∙ rw (so_far, value, more) (sym parts)
 
-pub weight_end : (id base0 i : ℕ) (units : List AccessUnit) (ws : List UnitWeight) → length units ≤ i → ws ≡ weights id base0 (take i units) → ws ≡ weights id base0 units
+pub weight_end : (id base0 i : ℕ) (units : List AccessUnit) (ws : List UnitWeight) → length units ≤ i → ws ≡ weights id base0 (take i units) →
+    ws ≡ weights id base0 units
 weight_end id base0 i units ws over so_far = so_far ∙ ap (weights id base0) (take_all i units over)
 
 -- of units at moments
 
-found_more : (id base0 : ℕ) (ms later : List UnitMoment) (m : UnitMoment) (us rest : List CarriedUnit) (u : CarriedUnit) (all before after : List UnitWeight) (w : UnitWeight) →
+found_more : (id base0 : ℕ) (ms later : List UnitMoment) (m : UnitMoment) (us rest : List CarriedUnit) (u : CarriedUnit) (all before after : List UnitWeight)
+    (w : UnitWeight) →
     ms ≡ m ∷ later → us ≡ u ∷ rest → w ≡ weight_of id base0 (at.unit_at m u) → after ≡ before ++ w ∷ [] →
     all ≡ before ++ weights id base0 (units_at ms us) → all ≡ after ++ weights id base0 (units_at later rest)
 unfolding units_at
@@ -37,7 +43,8 @@ found_more id base0 ms later m us rest u all before after w first next made grow
     let begun : weights id base0 (units_at ms us) ≡ w ∷ rest_are = rw (first, next, made) refl in
     rw grown (is ∙ ap (λ (ws : List UnitWeight). before ++ ws) begun ∙ sym (append_assoc before (w ∷ []) rest_are))
 
-pub found_next : (id base0 i : ℕ) (ms later : List UnitMoment) (m : UnitMoment) (us : List CarriedUnit) (u : CarriedUnit) (all before after : List UnitWeight) (w : UnitWeight) →
+pub found_next : (id base0 i : ℕ) (ms later : List UnitMoment) (m : UnitMoment) (us : List CarriedUnit) (u : CarriedUnit) (all before after : List UnitWeight)
+    (w : UnitWeight) →
     i < length us → u ≡ get_or us i u → ms ≡ m ∷ later → w ≡ weight_of id base0 (at.unit_at m u) → after ≡ before ++ w ∷ [] →
     all ≡ before ++ weights id base0 (units_at ms (drop i us)) → all ≡ after ++ weights id base0 (units_at later (drop (i + 1) us))
 found_next id base0 i ms later m us u all before after w below here first made grown is =
@@ -52,7 +59,8 @@ found_end id base0 rest all before none is = sym (is ∙ ap (λ (us : List Acces
 abbrev pub none : UnitWeight
 none = record { dts = 0; size = 0; packets = 0 }
 
-pub size_more : (i : ℕ) (ws : List UnitWeight) (w : UnitWeight) → i < length ws → w ≡ get_or ws i none → weighed_size (drop i ws) ≡ max w.size (weighed_size (drop (i + 1) ws))
+pub size_more : (i : ℕ) (ws : List UnitWeight) (w : UnitWeight) → i < length ws → w ≡ get_or ws i none →
+    weighed_size (drop i ws) ≡ max w.size (weighed_size (drop (i + 1) ws))
 unfolding weighed_size
 size_more i ws w below at = rw (drop-cons ws i none below, add-one i, sym at) refl
 

@@ -138,7 +138,8 @@ whole_unit lost u later = if lost then later else (if length u.unit.bytes == 0 t
 
 -- the unit that starts with a finding, with those after it
 unfoldable pub units_from : Bool → ℕ → RoleView → List FindingView → List CarriedUnit → List CarriedUnit
-units_from split pid (Start u) findings later = whole_unit (split && is_cut u.stream_id pid findings) (with_more u (continuation u.stream_id pid findings)) later
+units_from split pid (Start u) findings later =
+    whole_unit (split && is_cut u.stream_id pid findings) (with_more u (continuation u.stream_id pid findings)) later
 units_from split pid _ findings later = later
 
 unfoldable pub units_in : Bool → ℕ → List FindingView → List CarriedUnit

@@ -1,7 +1,8 @@
 -- Which warnings say that a stream is damaged, and which that something is in no unit.
 use Rattle.std.specs.Prelude.{Bool, true, false}
 use Rattle.es_units.specs.declared.unit_warning.UnitWarningCause.{UnitWarningCause}
-use Rattle.es_units.specs.declared.unit_warning.UnitWarningCause.TheVariants.{Counter, Scrambled, Truncated, TruncatedByEnd, Section, BadSection, BadPes, NoUnitBefore, OtherStreamId, PartLost, EmptyUnit, OpenEnded}
+use Rattle.es_units.specs.declared.unit_warning.UnitWarningCause.TheVariants.{Counter, Scrambled, Truncated, TruncatedByEnd, Section, BadSection, BadPes}
+use Rattle.es_units.specs.declared.unit_warning.UnitWarningCause.TheVariants.{NoUnitBefore, OtherStreamId, PartLost, EmptyUnit, OpenEnded}
 
 -- the end of a capture, a PES packet that may go on with a unit from before it, and a unit without bytes are no damage; nor is
 -- that a part of a unit is lost, since what it is lost by is damage, unless it is the end of a capture. A unit that is carried

@@ -1,5 +1,6 @@
 -- The units of several streams in one list, by their decoding times.
-use Rattle.std.specs.Prelude.{◌≡◌, ◌<◌, ℕ, ◌+◌, ◌++◌, List, [], ◌∷◌, length, slice_get, slice_set, get_or, drop, Option, Some, None, option_map, All, nat_lt, if◌then◌else◌}
+use Rattle.std.specs.Prelude.{◌≡◌, ◌<◌, ℕ, ◌+◌, ◌++◌, List, [], ◌∷◌, length, slice_get, slice_set, get_or, drop, Option, Some, None, option_map, All, nat_lt}
+use Rattle.std.specs.Prelude.{if◌then◌else◌}
 use Rattle.pes_packet.specs.AccessUnits.{AccessUnit}
 use Rattle.pes_packet.specs.Units.{units_of}
 
@@ -47,7 +48,8 @@ pub record TakesNext (before after : List (List AccessUnit)) (k : ℕ) (u : Acce
 
 -- units that are merged already, and what is left of the streams
 pub record AreLeft (streams left : List (List AccessUnit)) (units : List (ℕ × AccessUnit)) : Type 0 where
-  pub each : (k : ℕ) (us : List AccessUnit) → slice_get streams k ≡ Some us → (rest : List AccessUnit) × (slice_get left k ≡ Some rest) × (units_of k units ++ rest ≡ us)
+  pub each : (k : ℕ) (us : List AccessUnit) → slice_get streams k ≡ Some us →
+      (rest : List AccessUnit) × (slice_get left k ≡ Some rest) × (units_of k units ++ rest ≡ us)
   pub numbered : All (λ e. e.0 < length streams) units
   pub same : length left ≡ length streams
   pub order : AreTaken streams units left

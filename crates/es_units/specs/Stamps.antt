@@ -39,7 +39,8 @@ dts_after base before (u ∷ us) = dts_after base (Some (dts_at base before u.dt
 unfoldable pub dts_not_increasing : ℕ → Option ℕ → ℕ → Option StampFault
 dts_not_increasing base None stamp = None
 dts_not_increasing base (Some before) stamp =
-    if distance (before + base) stamp == 0 || nat_le (2 ^ 32) (distance (before + base) stamp) then Some (DtsNotIncreasing (distance stamp (before + base))) else None
+    if distance (before + base) stamp == 0 || nat_le (2 ^ 32) (distance (before + base) stamp) then Some (DtsNotIncreasing (distance stamp (before + base)))
+    else None
 
 -- a PTS that is more than a limit after its DTS, or before it
 abbrev pub pts_out_of_range : ℕ → ℕ → ℕ → ℕ → Option StampFault
@@ -57,7 +58,8 @@ or_fault None next = next
 -- of a unit after a DTS or after none
 abbrev pub unit_fault : ℕ → ℕ → Option ℕ → AccessUnit → Option StampFault
 unit_fault limit base before u =
-    or_fault (dts_not_increasing base before u.dts) (or_fault (pts_out_of_range limit base (dts_at base before u.dts) u.pts) (dts_too_far (dts_at base before u.dts)))
+    or_fault (dts_not_increasing base before u.dts)
+    (or_fault (pts_out_of_range limit base (dts_at base before u.dts) u.pts) (dts_too_far (dts_at base before u.dts)))
 
 -- of units one after another: the place of the first unit that has one, and its fault
 unfoldable pub fault_or : ℕ → Option StampFault → Option (ℕ × StampFault) → Option (ℕ × StampFault)

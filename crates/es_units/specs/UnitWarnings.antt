@@ -2,7 +2,8 @@
 use Rattle.std.specs.Prelude.{ℕ, ◌==◌, ◌&&◌, Bool, false, nat_le, if◌then◌else◌, Option, Some, None, List, [], ◌∷◌, ◌++◌, length}
 use Rattle.pes_packet.specs.declared.time_stamps.Stamps.{Stamps}
 use Rattle.pes_packet.specs.declared.time_stamps.Stamps.TheVariants.{Absent, Pts, PtsDts}
-use Rattle.demux.specs.Views.{WhatView, IsDuplicate, BreaksCounter, IsScrambled, IsTruncated, IsSection, IsBadSection, IsPes, IsBadPes, IsBadPacket, IsErrored, FindingView}
+use Rattle.demux.specs.Views.{WhatView, IsDuplicate, BreaksCounter, IsScrambled, IsTruncated, IsSection, IsBadSection, IsPes, IsBadPes, IsBadPacket, IsErrored}
+use Rattle.demux.specs.Views.{FindingView}
 use Rattle.demux.specs.Laws.{has_pid}
 use Rattle.es_units.specs.CarriedUnits.{RoleView, Ignored, Start, Continuation, Interruption, role_of, first_packet, continuation, is_cut, is_split}
 use Rattle.es_units.specs.declared.unit_warning.UnitWarningCause.{UnitWarningCause}
@@ -66,7 +67,8 @@ is_empty _ = false
 
 unfoldable pub cause_of : Bool → ℕ → ℕ → Option ℕ → FindingView → List FindingView → Option UnitWarningCause
 cause_of split pid count current finding later =
-    if has_pid pid finding.pid then cause_of_what count finding.packet current (split && is_cut (id_of finding.what) pid later) (length (continuation (id_of finding.what) pid later) == 0) finding.what else None
+    if has_pid pid finding.pid then cause_of_what count finding.packet current (split && is_cut (id_of finding.what) pid later)
+    (length (continuation (id_of finding.what) pid later) == 0) finding.what else None
 
 -- 2. All findings in order, each with the packet of its first byte
 
@@ -77,7 +79,8 @@ warning_list packet (Some cause) = record { packet = packet; cause = cause } ∷
 unfoldable pub warnings_from : Bool → ℕ → ℕ → Option ℕ → List FindingView → List UnitWarning
 warnings_from split pid count current [] = []
 warnings_from split pid count current (finding ∷ later) =
-    warning_list (first_packet finding.packet finding.begun) (cause_of split pid count current finding later) ++ warnings_from split pid count (current_after current (role_of pid finding)) later
+    warning_list (first_packet finding.packet finding.begun) (cause_of split pid count current finding later)
+    ++ warnings_from split pid count (current_after current (role_of pid finding)) later
 
 -- in a stream of `count` whole packets
 abbrev pub unit_warnings : ℕ → ℕ → List FindingView → List UnitWarning

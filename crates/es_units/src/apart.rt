@@ -85,8 +85,9 @@ fn has_same<A: Allocator>(found: &[FoundUnit<'_, A>]) -> bool
     false
 }
 
-/// Returns the units of a stream, each with a DTS of its own where several of private_stream_1 in a row have one: the last
-/// keeps it, and those before it are decoded up to 63 units of 90 kHz earlier, one after another. All else is unchanged.
+/// Returns the units of a stream, each with a DTS of its own where several of private_stream_1 in a row have one: the
+/// last keeps it, and those before it are decoded up to 63 units of 90 kHz earlier, one after another. All else is
+/// unchanged.
 #[tactic(auto, using(crate::proofs::ApartUnits::apart_stay))]
 pub fn apart_units<'f, A: Allocator + Clone>(
     alloc: A,

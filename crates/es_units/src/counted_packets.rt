@@ -85,7 +85,8 @@ fn greatest_row(numbers: &[u64], greatest: u64, group: usize) -> u64
 }
 
 impl<A: Allocator + Clone> CountedPackets<A> {
-    /// Counts the packets of each unit with the clock's first value `base0`, which decides which of them have a DTS in their header.
+    /// Counts the packets of each unit with the clock's first value `base0`, which decides which of them have a DTS in
+    /// their header.
     pub fn of_units(alloc: A, base0: u64, units: &[Unit<A>]) -> Result<Self, AllocError>
         ensures { IfOk result (λ packets. (id : ℕ) → packets ≡ spec.counted_packets id base0 units.now) }
     {
@@ -111,8 +112,8 @@ impl<A: Allocator> CountedPackets<A> {
         })
     }
 
-    /// Returns the most packets of `group` units in a row, or of all if they are fewer; at least as many as a unit of the largest
-    /// size has, whatever its header.
+    /// Returns the most packets of `group` units in a row, or of all if they are fewer; at least as many as a unit of
+    /// the largest size has, whatever its header.
     pub fn of_group(&self, group: u8) -> u64
         requires { group ≤ 64 }
         ensures value { result ≡ row_packets group self.now }

@@ -119,9 +119,9 @@ fn ordered_moments<A: Allocator + Clone>(
     Ok((moments, order))
 }
 
-/// Returns DTS for units with these PTS, in the order of the units, all stamps of 33 bits: DTS number i is the i-th PTS in
-/// order of time less the least time for all that leaves no DTS after its PTS. PTS are taken in turn, each nearest to the
-/// PTS before.
+/// Returns DTS for units with these PTS, in the order of the units, all stamps of 33 bits: DTS number i is the i-th PTS
+/// in order of time less the least time for all that leaves no DTS after its PTS. PTS are taken in turn, each nearest
+/// to the PTS before.
 #[tactic(auto, unfolding(crate::specs::MadeDts::fault_of_moments))]
 pub fn made_dts<A: Allocator + Clone>(alloc: A, pts: &[u64]) -> Result<Vec<u64, A>, DtsError>
     ensures made { IfOk result (λ dts. dts.items ≡ spec.made_dts pts.now) }

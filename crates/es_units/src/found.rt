@@ -39,9 +39,9 @@ fn units_by<'f, A: Allocator + Clone>(
     Ok((units, cut))
 }
 
-/// Returns the units of a PID in the findings of a stream: each PES packet with a PTS is a unit, with the bytes of the PES
-/// packets without a PTS and with its stream_id that follow it, if the PID has only padding_stream in between. A unit that
-/// lost a part is left out, and so is a unit without bytes.
+/// Returns the units of a PID in the findings of a stream: each PES packet with a PTS is a unit, with the bytes of the
+/// PES packets without a PTS and with its stream_id that follow it, if the PID has only padding_stream in between. A
+/// unit that lost a part is left out, and so is a unit without bytes.
 #[tactic(auto, using(crate::proofs::UnitSteps::uncut))]
 pub fn found_units<'f, A: Allocator + Clone>(
     alloc: A,

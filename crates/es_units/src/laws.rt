@@ -10,22 +10,24 @@ pub fn findings_of_the_pid()
     ensures { FindingsOfThePid }
 {}
 
-/// States that the units that a PID's findings make whole one by one, and the last one, are its units; what later findings give
-/// changes none that was given before; and where nothing is lost after a unit, the same units are given whether units are taken
-/// to have several PES packets or one.
+/// States that the units that a PID's findings make whole one by one, and the last one, are its units; what later
+/// findings give changes none that was given before; and where nothing is lost after a unit, the same units are given
+/// whether units are taken to have several PES packets or one.
 pub fn given_as_carried()
     ensures in_turn { GivenInTurn }
     ensures carried { GivenAreCarried }
     ensures uncut { UncutAreCarried }
 {}
 
-/// States that the bytes of a PID's PES packets, joined, are the bytes of its units, joined, if no warning leaves anything out.
+/// States that the bytes of a PID's PES packets, joined, are the bytes of its units, joined, if no warning leaves
+/// anything out.
 pub fn nothing_is_lost()
     ensures { NothingIsLost }
 {}
 
-/// States that units of a data stream that are due at one moment are decoded one after another, up to 63 units of 90 kHz earlier:
-/// all but their DTS is kept, and nothing changes if no two in a row have one DTS, as those whose stamps can be moments.
+/// States that units of a data stream that are due at one moment are decoded one after another, up to 63 units of 90
+/// kHz earlier: all but their DTS is kept, and nothing changes if no two in a row have one DTS, as those whose stamps
+/// can be moments.
 pub fn apart_by_one()
     ensures keep { ApartKeep }
     ensures stay { ApartStay }
@@ -33,7 +35,8 @@ pub fn apart_by_one()
     ensures apart { RowRises }
 {}
 
-/// States that the moments of a stream's units are their stamps less one constant: plus that, modulo 2^33, they are the stamps.
+/// States that the moments of a stream's units are their stamps less one constant: plus that, modulo 2^33, they are the
+/// stamps.
 pub fn moved_by_one_constant()
     ensures { MovedByOneConstant }
 {}
@@ -43,8 +46,8 @@ pub fn moved_in_turn()
     ensures { MovedInTurn }
 {}
 
-/// States that, with the constant of a clock, the least first DTS of its streams is at the moment that was asked for, and each
-/// other one is as long after it as on the wire.
+/// States that, with the constant of a clock, the least first DTS of its streams is at the moment that was asked for,
+/// and each other one is as long after it as on the wire.
 pub fn constant_is_least()
     ensures { ConstantIsLeast }
 {}

@@ -53,8 +53,8 @@ pub(crate) fn with_dts<'f, A: Allocator>(
     Ok(units)
 }
 
-/// Returns the units of a stream with DTS that `made_dts` makes from their PTS, all else unchanged. For streams without DTS
-/// whose pictures are in another order than they are shown, or whose DTS do not rise.
+/// Returns the units of a stream with DTS that `made_dts` makes from their PTS, all else unchanged. For streams without
+/// DTS whose pictures are in another order than they are shown, or whose DTS do not rise.
 pub fn units_with_made_dts<'f, A: Allocator + Clone>(
     alloc: A,
     found: Vec<FoundUnit<'f, A>, A>,

@@ -123,8 +123,8 @@ fn min_distance(from: u64, most: u64, stamps: &[u64]) -> u64
 }
 
 /// Returns what the clock shows at moment 0, given the first DTS of each stream that counts by it, if the least of them
-/// is to be at `earliest`. Of two stamps, which one is the earlier follows from the shorter way round the range; all are
-/// compared with `first`.
+/// is to be at `earliest`. Of two stamps, which one is the earlier follows from the shorter way round the range; all
+/// are compared with `first`.
 pub fn constant(earliest: u64, first: u64, others: &[u64]) -> u64
     requires { first < 2 ^ 33 }
     ensures value { result ≡ spec.constant_of earliest first others.now }

@@ -19,8 +19,8 @@ pub fn first_other<A: Allocator>(id: u8, units: &[FoundUnit<'_, A>]) -> Option<u
     None
 }
 
-/// Returns the stream_id that is written for a stream_id of the input: AC-3 that has 253, extended_stream_id, is written
-/// as private_stream_1; `None` for a stream_id that no unit may have.
+/// Returns the stream_id that is written for a stream_id of the input: AC-3 that has 253, extended_stream_id, is
+/// written as private_stream_1; `None` for a stream_id that no unit may have.
 #[tactic(auto, unfolding(crate::specs::StreamIds::written_id))]
 pub fn written_id(id: u8, is_ac3: bool) -> Option<u8>
     ensures { result ≡ spec.written_id id is_ac3 }

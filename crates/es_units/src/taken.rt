@@ -52,8 +52,9 @@ fn take_next<A: Allocator + Clone>(
     push_unit(units, unit)
 }
 
-/// Returns the units that `found_units` gives. The body of the first PES packet of each is moved out of its finding, which
-/// then is the finding of a repeated packet: this PID has no more units, and the units of other PIDs are unchanged.
+/// Returns the units that `found_units` gives. The body of the first PES packet of each is moved out of its finding,
+/// which then is the finding of a repeated packet: this PID has no more units, and the units of other PIDs are
+/// unchanged.
 pub fn taken_units<A: Allocator + Clone>(
     alloc: A,
     pid: u16,

@@ -27,8 +27,8 @@ pub struct UnitMoment {
     pub pts: u64,
 }
 
-// The moments of a unit of these stamps, after a DTS or after none, where the clock shows `base` at moment 0, its PTS at
-// most `limit` after its DTS; or why it can't have any.
+// The moments of a unit of these stamps, after a DTS or after none, where the clock shows `base` at moment 0, its PTS
+// at most `limit` after its DTS; or why it can't have any.
 fn moment(
     limit: u32,
     base: u64,
@@ -81,8 +81,8 @@ pub fn moved_unit<A: Allocator>(
 }
 
 /// Returns the moments of units, where the clock shows `base` at moment 0: each DTS at the first moment after the DTS
-/// before at which the clock shows it, the first one at the first such moment of all, each PTS at the first from its DTS
-/// on, at most `limit` later.
+/// before at which the clock shows it, the first one at the first such moment of all, each PTS at the first from its
+/// DTS on, at most `limit` later.
 pub fn found_moments<A: Allocator>(
     alloc: A,
     limit: u32,

@@ -29,7 +29,8 @@ pub(crate) struct UnitRun {
     pub count: u64,
 }
 
-/// The units of a stream, as far as their packets at any pace go: 24 bytes of memory for units in a row that come alike.
+/// The units of a stream, as far as their packets at any pace go: 24 bytes of memory for units in a row that come
+/// alike.
 #[derive(Drop)]
 pub struct UnitRuns<A: Allocator = Global> {
     runs: Vec<UnitRun, A>,
@@ -147,8 +148,8 @@ fn run_levels(pace: u32, level: u128, run: UnitRun) -> (u128, u128)
 }
 
 impl<A: Allocator + Clone> UnitRuns<A> {
-    /// Returns the units of a stream, with the clock's first value `base0`, which decides which of them have a DTS in their
-    /// header.
+    /// Returns the units of a stream, with the clock's first value `base0`, which decides which of them have a DTS in
+    /// their header.
     pub fn of_units(alloc: A, base0: u64, units: &[Unit<A>]) -> Result<Self, AllocError>
         ensures { IfOk result (λ runs. (id : ℕ) → runs ≡ spec.unit_runs id base0 units.now) }
     {
@@ -169,8 +170,8 @@ impl<A: Allocator> UnitRuns<A> {
         Ok(UnitRuns { runs, largest })
     }
 
-    /// Returns the packets of the least burst that lets the units keep a pace in bits/s of whole packets, or the greatest
-    /// number if they are more; at least as many as a unit of the largest size has, whatever its header.
+    /// Returns the packets of the least burst that lets the units keep a pace in bits/s of whole packets, or the
+    /// greatest number if they are more; at least as many as a unit of the largest size has, whatever its header.
     pub fn burst_packets(&self, pace: u32) -> u64
         ensures value { result ≡ min (spec.runs_burst pace self.now) (2 ^ 64 - 1) }
         ensures of_units { (id base0 : ℕ) (us : List AccessUnit) → self.now ≡ spec.unit_runs id base0 us →

@@ -161,8 +161,8 @@ fn lengthen<B: UnitBytes>(
 }
 
 impl<B: UnitBytes> UnitTaker<B> {
-    /// Returns the state before the first finding of a PID. `split`: whether its units may have several PES packets; then a
-    /// loss after a unit may be a part of the unit, and the unit is left out.
+    /// Returns the state before the first finding of a PID. `split`: whether its units may have several PES packets;
+    /// then a loss after a unit may be a part of the unit, and the unit is left out.
     pub fn new(pid: u16, split: bool) -> UnitTaker<B>
         ensures { result ≡ spec.none_so_far pid split }
     {
@@ -277,8 +277,8 @@ impl<B: UnitBytes> UnitTaker<B> {
 }
 
 impl<A: Allocator + Clone> UnitTaker<Vec<u8, A>> {
-    /// Returns the same as `take`, where the body of a PES packet with which a unit starts is moved out of its finding: of
-    /// this nothing is left then but a packet that comes twice.
+    /// Returns the same as `take`, where the body of a PES packet with which a unit starts is moved out of its finding:
+    /// of this nothing is left then but a packet that comes twice.
     #[tactic(auto, unfolding(crate::specs::UnitSteps::made_whole, crate::specs::UnitSteps::goes_on_as))]
     pub(crate) fn take_moved(
         &mut self,

@@ -18,8 +18,11 @@ use Rattle.es_view.specs.declared.stream_entry.StreamEntry.{StreamEntry}
 use Rattle.es_view.specs.declared.tally.Tally.{Tally}
 use Rattle.es_view.specs.declared.video_tally.VideoTally.{VideoTally}
 use Rattle.es_view.specs.declared.view_options.ViewOptions.{ViewOptions}
-use Rattle.es_view.specs.EntryFrames.{AreCounted, Counted, FramedPayload, frames_among, payload_after, payload_events, place_of, walk_in, whole_after, whole_events, front_after, count_of}
-use Rattle.es_view.specs.Entries.{AreFrames, EntryState, Framed, IsEntry, arriving_at, beginning_in, counted_at, entry_after, entry_entered, events_entered, framed_after, held_after, held_in, is_unread, parts_delayed, payload_at, payload_of, seen_held, seen_tally, tally_in, unit_stay, video_tally_after, counter_after}
+use Rattle.es_view.specs.EntryFrames.{AreCounted, Counted, FramedPayload, frames_among, payload_after, payload_events, place_of, walk_in, whole_after}
+use Rattle.es_view.specs.EntryFrames.{whole_events, front_after, count_of}
+use Rattle.es_view.specs.Entries.{AreFrames, EntryState, Framed, IsEntry, arriving_at, beginning_in, counted_at, entry_after, entry_entered, events_entered}
+use Rattle.es_view.specs.Entries.{framed_after, held_after, held_in, is_unread, parts_delayed, payload_at, payload_of, seen_held, seen_tally, tally_in}
+use Rattle.es_view.specs.Entries.{unit_stay, video_tally_after, counter_after}
 use Rattle.es_view.specs.MarkTallies.{with_beginning}
 use Rattle.es_view.specs.declared.mark_tally.MarkTally.{MarkTally}
 use Rattle.es_view.specs.Tallies.{more, none_counted}
@@ -66,7 +69,8 @@ pub whole_video : (entry : StreamEntry) (e : EntryState) → IsEntry entry e →
 unfolding held_in
 whole_video entry e k none = subst (λ (o : Option Framed). HoldsVideoOf entry.seen.buffers e.video (held_in o e.held)) none k.video
 
-pub framed_counted : (entry : StreamEntry) (e : EntryState) (f : Framed) → IsEntry entry e → e.framed ≡ Some f → AreCounted entry.seen (counted_of e f.held f.tally)
+pub framed_counted : (entry : StreamEntry) (e : EntryState) (f : Framed) → IsEntry entry e → e.framed ≡ Some f →
+    AreCounted entry.seen (counted_of e f.held f.tally)
 unfolding held_in tally_in
 framed_counted entry e f k is = record {
   held = subst (λ (o : Option Framed). IsHeld entry.seen.buffers (held_in o e.held)) is k.held;
@@ -79,9 +83,12 @@ unfolding held_in
 framed_video entry e f k is = subst (λ (o : Option Framed). HoldsVideoOf entry.seen.buffers e.video (held_in o e.held)) is k.video
 
 -- a packet has entered the buffers of one that is not
-pub whole_entered : (entry entry' : StreamEntry) (options : ViewOptions) (index window : ℕ) (clock : Option PcrSample) (e : EntryState) (packet : PacketView) → IsEntry entry e → e.framed ≡ None →
-    entry'.pid ≡ entry.pid → entry'.clock_pid ≡ entry.clock_pid → entry'.counter ≡ entry.counter → entry'.frames ≡ None → entry'.limit ≡ entry.limit → entry'.mark_tally ≡ entry.mark_tally →
-    AreCounted entry'.seen (whole_after options window (is_unread (beginning_in e.counter packet)) (arriving_at options index clock e packet) (counted_of e e.held e.tally)) →
+pub whole_entered : (entry entry' : StreamEntry) (options : ViewOptions) (index window : ℕ) (clock : Option PcrSample) (e : EntryState) (packet : PacketView) →
+    IsEntry entry e → e.framed ≡ None →
+    entry'.pid ≡ entry.pid → entry'.clock_pid ≡ entry.clock_pid → entry'.counter ≡ entry.counter → entry'.frames ≡ None → entry'.limit ≡ entry.limit →
+    entry'.mark_tally ≡ entry.mark_tally →
+    AreCounted entry'.seen
+    (whole_after options window (is_unread (beginning_in e.counter packet)) (arriving_at options index clock e packet) (counted_of e e.held e.tally)) →
     HoldsVideoOf entry'.seen.buffers e.video (after e.held options.arrival (arriving_at options index clock e packet)) →
     entry'.video_tally ≡ with_video e.video_tally (video_of e.video e.held options.arrival (arriving_at options index clock e packet))
     (video_unit_of e.video e.held options.arrival (arriving_at options index clock e packet)) →
@@ -107,8 +114,10 @@ unfolding events_entered
 whole_found options index clock place e packet none = rw none refl
 
 -- and of one that is
-pub framed_entered : (entry entry' : StreamEntry) (options : ViewOptions) (index window : ℕ) (clock : Option PcrSample) (e : EntryState) (packet : PacketView) (f : Framed) (fr : EntryFrames) →
-    IsEntry entry e → e.framed ≡ Some f → entry'.pid ≡ entry.pid → entry'.clock_pid ≡ entry.clock_pid → entry'.counter ≡ entry.counter → entry'.frames ≡ Some fr →
+pub framed_entered : (entry entry' : StreamEntry) (options : ViewOptions) (index window : ℕ) (clock : Option PcrSample) (e : EntryState) (packet : PacketView)
+    (f : Framed) (fr : EntryFrames) →
+    IsEntry entry e → e.framed ≡ Some f → entry'.pid ≡ entry.pid → entry'.clock_pid ≡ entry.clock_pid → entry'.counter ≡ entry.counter →
+    entry'.frames ≡ Some fr →
     entry'.limit ≡ entry.limit → entry'.video_tally ≡ entry.video_tally → entry'.mark_tally ≡ entry.mark_tally →
     fr.walk ≡ walk_after (walk_in (payload_at options index clock e.counter packet f) f.walk) (payload_at options index clock e.counter packet f).bytes →
     fr.tick ≡ unwrap_or (payload_at options index clock e.counter packet f).tick f.tick →
@@ -130,8 +139,10 @@ framed_entered entry entry' options index window clock e packet f fr k is pid cl
   delayed = rw is counted.delayed;
 }
 
-pub framed_found : (options : ViewOptions) (index : ℕ) (clock : Option PcrSample) (place : Place) (e : EntryState) (packet : PacketView) (f : Framed) → e.framed ≡ Some f →
-    payload_events options place e.limit (payload_at options index clock e.counter packet f) f.walk f.tick f.held ≡ events_entered options index clock place e packet e.framed
+pub framed_found : (options : ViewOptions) (index : ℕ) (clock : Option PcrSample) (place : Place) (e : EntryState) (packet : PacketView) (f : Framed) →
+    e.framed ≡ Some f →
+    payload_events options place e.limit (payload_at options index clock e.counter packet f) f.walk f.tick f.held ≡ events_entered options index clock place e
+    packet e.framed
 unfolding events_entered
 framed_found options index clock place e packet f is = rw is refl
 
@@ -141,13 +152,16 @@ pub entered_held : (options : ViewOptions) (index window : ℕ) (clock : Option 
 unfolding held_in framed_after held_after
 entered_held options index window clock e packet = by e.framed
   where
-    by : (o : Option Framed) → held_in (framed_after options index window clock e.limit e.counter e.delayed packet o) (after e.held options.arrival (arriving_at options index clock e packet))
+    by : (o : Option Framed) →
+        held_in (framed_after options index window clock e.limit e.counter e.delayed packet o)
+        (after e.held options.arrival (arriving_at options index clock e packet))
         ≡ held_after options index clock e packet o
     by None = refl
     by (Some f) =
         let p = payload_at options index clock e.counter packet f in
         held_alone options (place_of e.limit p f.tick) window
-        (front_after options window (is_unread (beginning_in e.counter packet)) p.arriving (count_of p f.walk) (counted_of e f.held f.tally)) (frames_among p f.walk)
+        (front_after options window (is_unread (beginning_in e.counter packet)) p.arriving (count_of p f.walk) (counted_of e f.held f.tally))
+        (frames_among p f.walk)
 
 -- and once it is counted
 pub entry_counted : (entry entry' : StreamEntry) (options : ViewOptions) (index window : ℕ) (clock : Option PcrSample) (e : EntryState) (packet : PacketView) →

@@ -9,14 +9,16 @@ use Rattle.events.specs.declared.event.Event.{Event}
 use Rattle.es_view.specs.declared.counted_buffers.FramePlace.{FramePlace}
 use Rattle.es_view.specs.declared.entry_events.Place.{Place}
 use Rattle.es_view.specs.declared.view_options.ViewOptions.{ViewOptions}
-use Rattle.es_view.specs.EntryFrames.{Counted, FramedPayload, count_of, frames_after, frames_among, frames_events, front_after, front_events, front_held, payload_after, payload_events, place_of}
+use Rattle.es_view.specs.EntryFrames.{Counted, FramedPayload, count_of, frames_after, frames_among, frames_events, front_after, front_events, front_held}
+use Rattle.es_view.specs.EntryFrames.{payload_after, payload_events, place_of}
 
 pub same_place : (limit base base' tick tick' : ℕ) → base ≡ base' → tick ≡ tick' →
     ◌≡◌ {A = FramePlace} (record { limit = limit; base = base; tick = tick }) (record { limit = limit; base = base'; tick = tick' })
 same_place limit base base' tick tick' p q = rw (p, q) refl
 
 -- what is said of the buffers after the payload's front and its frames is said of them after the payload
-pub after_payload : (S : Counted → Type 0) (options : ViewOptions) (window : ℕ) (unread : Bool) (limit : ℕ) (p : FramedPayload) (w : WalkView) (tick : ℕ) (c : Counted) (at : FramePlace) (count : ℕ)
+pub after_payload : (S : Counted → Type 0) (options : ViewOptions) (window : ℕ) (unread : Bool) (limit : ℕ) (p : FramedPayload) (w : WalkView) (tick : ℕ)
+    (c : Counted) (at : FramePlace) (count : ℕ)
     (parts : List FramePart) → at ≡ place_of limit p tick → count ≡ count_of p w → parts ≡ frames_among p w →
     S (frames_after options at window (front_after options window unread p.arriving count c) parts) → S (payload_after options window unread limit p w tick c)
 after_payload S options window unread limit p w tick c at count parts is_at is_count are k =
@@ -25,8 +27,10 @@ after_payload S options window unread limit p w tick c at count parts is_at is_c
     (subst (λ (ps : List FramePart). S (frames_after options at window (front_after options window unread p.arriving count c) ps)) are k))
 
 -- and what is found of it
-pub payload_written : (options : ViewOptions) (place : Place) (limit : ℕ) (p : FramedPayload) (w : WalkView) (tick : ℕ) (h : Held) (at : FramePlace) (count : ℕ) (parts : List FramePart)
-    (t0 t1 t2 : List Event) → at ≡ place_of limit p tick → count ≡ count_of p w → parts ≡ frames_among p w → t1 ≡ t0 ++ front_events options place p.arriving count h →
+pub payload_written : (options : ViewOptions) (place : Place) (limit : ℕ) (p : FramedPayload) (w : WalkView) (tick : ℕ) (h : Held) (at : FramePlace) (count : ℕ)
+    (parts : List FramePart)
+    (t0 t1 t2 : List Event) → at ≡ place_of limit p tick → count ≡ count_of p w → parts ≡ frames_among p w →
+    t1 ≡ t0 ++ front_events options place p.arriving count h →
     t2 ≡ t1 ++ frames_events options place at (after_first h options.arrival p.arriving (min count (size_of p.arriving))) parts →
     t2 ≡ t0 ++ payload_events options place limit p w tick h
 payload_written options place limit p w tick h at count parts t0 t1 t2 is_at is_count are first second =
@@ -40,7 +44,8 @@ payload_written options place limit p w tick h at count parts t0 t1 t2 is_at is_
     two ∙ ap (λ (t : List Event). t ++ b) one ∙ append_assoc t0 a b
 
 -- alike payloads, in alike states, leave alike buffers
-pub alike_after : (S : Counted → Type 0) (options : ViewOptions) (window : ℕ) (unread unread' : Bool) (limit limit' : ℕ) (p p' : FramedPayload) (w w' : WalkView) (tick tick' : ℕ) (c : Counted) →
+pub alike_after : (S : Counted → Type 0) (options : ViewOptions) (window : ℕ) (unread unread' : Bool) (limit limit' : ℕ) (p p' : FramedPayload)
+    (w w' : WalkView) (tick tick' : ℕ) (c : Counted) →
     unread ≡ unread' → limit ≡ limit' → p ≡ p' → w ≡ w' → tick ≡ tick' →
     S (payload_after options window unread limit p w tick c) → S (payload_after options window unread' limit' p' w' tick' c)
 alike_after S options window unread unread' limit limit' p p' w w' tick tick' c h1 h2 h3 h4 h5 k =
@@ -51,7 +56,8 @@ alike_after S options window unread unread' limit limit' p p' w w' tick tick' c 
     (subst (λ (x : Bool). S (payload_after options window x limit p w tick c)) h1 k))))
 
 -- and alike events
-pub alike_events : (options : ViewOptions) (place : Place) (limit limit' : ℕ) (p p' : FramedPayload) (w w' : WalkView) (tick tick' : ℕ) (h : Held) → limit ≡ limit' → p ≡ p' → w ≡ w' → tick ≡ tick' →
+pub alike_events : (options : ViewOptions) (place : Place) (limit limit' : ℕ) (p p' : FramedPayload) (w w' : WalkView) (tick tick' : ℕ) (h : Held) →
+    limit ≡ limit' → p ≡ p' → w ≡ w' → tick ≡ tick' →
     payload_events options place limit p w tick h ≡ payload_events options place limit' p' w' tick' h
 alike_events options place limit limit' p p' w w' tick tick' h h1 h2 h3 h4 =
     ap (λ (x : ℕ). payload_events options place x p w tick h) h1

@@ -2,7 +2,8 @@
 --
 -- The bytes of a stream arrive in time, and the last clock reference of a program before a unit says what the clock shows then. A time is
 -- counted in bytes at a constant rate, and in ticks of 27 MHz on lines: a byte of a rate of 216,000,000 bits a second is a tick.
-use Rattle.std.specs.Prelude.{ℕ, ◌+◌, ◌-◌, ◌*◌, ◌/◌, ◌%◌, ◌^◌, max, min, nat_eq, nat_lt, Bool, if◌then◌else◌, List, [], Option, Some, None, option_and_then, Result, Ok, Err}
+use Rattle.std.specs.Prelude.{ℕ, ◌+◌, ◌-◌, ◌*◌, ◌/◌, ◌%◌, ◌^◌, max, min, nat_eq, nat_lt, Bool, if◌then◌else◌, List, [], Option, Some, None, option_and_then}
+use Rattle.std.specs.Prelude.{Result, Ok, Err}
 use Rattle.std.specs.Map.{lookup}
 use Rattle.indexmap.specs.IndexMap.{insert_entry}
 use Rattle.clock27.specs.Reference.{Reference}

@@ -2,7 +2,8 @@
 -- what its buffers hold by PES packets, and what is counted of it; of video the sizes of its two buffers, if they are viewed, and what is
 -- counted of them; of sound what its buffers hold by access units, if these are viewed; how long a byte may stay in them, and how many units
 -- had bytes that stayed longer; and what is counted of the marks of its units.
-use Rattle.std.specs.Prelude.{◌≡◌, ℕ, ◌+◌, ◌-◌, ◌/◌, ◌^◌, ◌==◌, ◌&&◌, min, not, is_some, nat_le, nat_lt, unwrap_or, Bool, true, false, if◌then◌else◌, length, List, [], ◌++◌, Option, Some, None}
+use Rattle.std.specs.Prelude.{◌≡◌, ℕ, ◌+◌, ◌-◌, ◌/◌, ◌^◌, ◌==◌, ◌&&◌, min, not, is_some, nat_le, nat_lt, unwrap_or, Bool, true, false, if◌then◌else◌, length}
+use Rattle.std.specs.Prelude.{List, [], ◌++◌, Option, Some, None}
 use Rattle.ts_packet.specs.Views.{PacketView}
 use Rattle.arrival.specs.Arrivals.{step_of}
 use Rattle.arrival.specs.Clock.{pcr_period}
@@ -28,7 +29,8 @@ use Rattle.es_view.specs.MarkTallies.{mark_events, with_beginning}
 use Rattle.es_view.specs.declared.mark_tally.MarkTally.{MarkTally}
 use Rattle.es_view.specs.Tallies.{more, tally_after, with_unit_if}
 use Rattle.es_view.specs.EntryStays.{busy_closing, delayed_events, is_idle, overstay_if, payload_byte}
-use Rattle.es_view.specs.EntryFrames.{Counted, FramedPayload, busy_seen, frame_bytes, frames_among, frames_held, front_held, is_leak_idle, leak_busy_of, leak_under_way, payload_after, payload_events, place_of, stays_ended, unit_tick, walk_in, whole_events}
+use Rattle.es_view.specs.EntryFrames.{Counted, FramedPayload, busy_seen, frame_bytes, frames_among, frames_held, front_held, is_leak_idle, leak_busy_of}
+use Rattle.es_view.specs.EntryFrames.{leak_under_way, payload_after, payload_events, place_of, stays_ended, unit_tick, walk_in, whole_events}
 use Rattle.es_view.specs.declared.entry_frames.EntryFrames.{EntryFrames}
 use Rattle.stream_coding.specs.FrameWalks.{WalkView, walk_after}
 use Rattle.events.specs.declared.rule_event.BufferKind.{BufferKind}
@@ -197,11 +199,13 @@ parts_delayed options index window clock limit counter delayed packet (Some f) =
 
 abbrev pub delayed_after : ViewOptions → ℕ → ℕ → Option PcrSample → ℕ → Option ℕ → ℕ → PacketView → Option Framed → ℕ
 delayed_after options index window clock limit counter delayed packet framed =
-    more (parts_delayed options index window clock limit counter delayed packet framed) (if is_some (unit_stay options index clock limit counter packet) then 1 else 0)
+    more (parts_delayed options index window clock limit counter delayed packet framed)
+    (if is_some (unit_stay options index clock limit counter packet) then 1 else 0)
 
 -- the two buffers of video are viewed of streams that are not viewed by access units
 unfoldable pub video_tally_after : ViewOptions → ℕ → Option PcrSample → Option Framed → EntryState → PacketView → VideoTally
-video_tally_after options index clock None e packet = with_video e.video_tally (video_at options index clock e packet) (video_unit_at options index clock e packet)
+video_tally_after options index clock None e packet =
+    with_video e.video_tally (video_at options index clock e packet) (video_unit_at options index clock e packet)
 video_tally_after options index clock (Some f) e packet = e.video_tally
 
 -- the packet has entered the buffers
@@ -264,7 +268,8 @@ last_buffer (Some sizes) = Elementary
 unfoldable pub held_after : ViewOptions → ℕ → Option PcrSample → EntryState → PacketView → Option Framed → Held
 held_after options index clock e packet None = after e.held options.arrival (arriving_at options index clock e packet)
 held_after options index clock e packet (Some f) =
-    frames_held options (place_of e.limit (payload_at options index clock e.counter packet f) f.tick) (front_held options (payload_at options index clock e.counter packet f) f.walk f.held)
+    frames_held options (place_of e.limit (payload_at options index clock e.counter packet f) f.tick)
+    (front_held options (payload_at options index clock e.counter packet f) f.walk f.held)
     (frames_among (payload_at options index clock e.counter packet f) f.walk)
 
 abbrev pub entry_events : ViewOptions → ℕ → Option PcrSample → EntryState → PacketView → List Event
@@ -281,7 +286,8 @@ units_of options window e = tally_events options window (place_at 0 e) (seen_tal
 -- those at the end
 abbrev pub stays_closing : ViewOptions → Place → EntryState → List Event
 stays_closing options place e =
-    busy_closing options place Transport (transport_busy_under_way (seen_held e)) ++ busy_closing options place Multiplexing (leak_under_way e.video (seen_held e))
+    busy_closing options place Transport (transport_busy_under_way (seen_held e))
+    ++ busy_closing options place Multiplexing (leak_under_way e.video (seen_held e))
 
 abbrev pub end_events : ViewOptions → ℕ → ℕ → EntryState → List Event
 end_events options packets window e =

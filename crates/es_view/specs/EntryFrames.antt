@@ -1,7 +1,8 @@
 -- A stream of sound whose main buffer is viewed by access units: each of its frames leaves the main buffer at its own decoding time, the first
 -- frame of a unit at the unit's stamp and together with the header of its PES packet, each further one when the frame before it has sounded
 -- (ISO/IEC 13818-1, 2.4.2.3 and 2.7.5). Bytes that are no frames leave with the frame before them.
-use Rattle.std.specs.Prelude.{◌≡◌, ℕ, ◌+◌, ◌-◌, ◌*◌, ◌^◌, min, nat_eq, is_some, unwrap_or, Bool, true, false, if◌then◌else◌, length, drop, slice_get, List, [], ◌∷◌, ◌++◌, Option, Some, None}
+use Rattle.std.specs.Prelude.{◌≡◌, ℕ, ◌+◌, ◌-◌, ◌*◌, ◌^◌, min, nat_eq, is_some, unwrap_or, Bool, true, false, if◌then◌else◌, length, drop, slice_get, List, []}
+use Rattle.std.specs.Prelude.{◌∷◌, ◌++◌, Option, Some, None}
 use Rattle.ts_packet.specs.Views.{PacketView}
 use Rattle.arrival.specs.Arrivals.{step_of}
 use Rattle.arrival.specs.declared.clock.PcrSample.{PcrSample}
@@ -143,7 +144,8 @@ frames_after options at window c (p ∷ ps) = frames_after options at window (fr
 
 unfoldable pub frames_events : ViewOptions → Place → FramePlace → Held → List FramePart → List Event
 frames_events options place at h [] = []
-frames_events options place at h (p ∷ ps) = frame_events options place at h p ++ frames_events options place at (after_part h options.arrival (part_of options at h p)) ps
+frames_events options place at h (p ∷ ps) =
+    frame_events options place at h p ++ frames_events options place at (after_part h options.arrival (part_of options at h p)) ps
 
 -- and what the buffers hold then
 unfoldable pub frames_held : ViewOptions → FramePlace → Held → List FramePart → Held
@@ -208,7 +210,8 @@ leak_ended options place (Some w) None = []
 leak_ended options place (Some w) (Some v) = busy_ended options place Multiplexing w v
 
 abbrev pub stays_ended : ViewOptions → Place → BusySeen → BusySeen → List Event
-stays_ended options place before after = busy_ended options place Transport before.transport after.transport ++ leak_ended options place before.multiplexing after.multiplexing
+stays_ended options place before after = busy_ended options place Transport before.transport after.transport
+    ++ leak_ended options place before.multiplexing after.multiplexing
 
 unfoldable pub is_leak_idle : Option BusyWatch → Option Stay → Bool
 is_leak_idle None under_way = true

@@ -1,6 +1,7 @@
 -- How long the bytes of a stream stay in its buffers, and how long the buffers are not empty (ISO/IEC 13818-1, 2.4.2.6; ETSI TR 101 290, 5.2.3,
 -- 3.9 and 3.10).
-use Rattle.std.specs.Prelude.{ℕ, ◌+◌, ◌-◌, ◌*◌, ◌/◌, ◌^◌, ◌==◌, ◌&&◌, not, max, min, nat_lt, is_some, Bool, if◌then◌else◌, List, [], ◌∷◌, ◌++◌, Option, Some, None, option_map}
+use Rattle.std.specs.Prelude.{ℕ, ◌+◌, ◌-◌, ◌*◌, ◌/◌, ◌^◌, ◌==◌, ◌&&◌, not, max, min, nat_lt, is_some, Bool, if◌then◌else◌, List, [], ◌∷◌, ◌++◌, Option, Some}
+use Rattle.std.specs.Prelude.{None, option_map}
 use Rattle.arrival.specs.Arrivals.{moment_on, step_of}
 use Rattle.arrival.specs.declared.arrival.Arrival.{Arrival}
 use Rattle.arrival.specs.declared.arrival.Arrival.TheVariants.{Unknown, AtRate, OnLines}

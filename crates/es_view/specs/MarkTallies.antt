@@ -1,5 +1,6 @@
 -- What is counted of the marks of a stream's units (ISO/IEC 13818-1, 2.4.3.5 and 2.4.3.7).
-use Rattle.std.specs.Prelude.{ℕ, ◌+◌, ◌-◌, ◌*◌, ◌/◌, ◌%◌, ◌^◌, ◌==◌, max, min, nat_lt, unwrap_or, Bool, false, if◌then◌else◌, List, [], ◌∷◌, slice_get, Option, Some, None}
+use Rattle.std.specs.Prelude.{ℕ, ◌+◌, ◌-◌, ◌*◌, ◌/◌, ◌%◌, ◌^◌, ◌==◌, max, min, nat_lt, unwrap_or, Bool, false, if◌then◌else◌, List, [], ◌∷◌, slice_get, Option}
+use Rattle.std.specs.Prelude.{Some, None}
 use Rattle.ts_packet.specs.Views.{AdaptationView, PacketView, NoFlags, WithFlags}
 use Rattle.events.specs.declared.event.Event.{Event}
 use Rattle.events.specs.declared.event.Event.TheVariants as found

@@ -27,7 +27,17 @@ more n count = min (n + count) (2 ^ 64 - 1)
 
 -- another window than the last packet's has none yet
 abbrev pub in_window : Tally → ℕ → Tally
-in_window t window = if t.window == window then t else record t { window = window; window_transport = 0; window_main = 0; window_least = None; window_units = 0; window_late = 0; slack = 2 ^ 128 - 1 }
+in_window t window =
+    if t.window == window then t else record t {
+      window = window;
+      window_transport = 0;
+      window_main = 0;
+      window_least = None;
+      window_units = 0;
+      window_late =
+          0;
+      slack = 2 ^ 128 - 1;
+    }
 
 -- what the buffers held when a packet of the window entered: the most in each, and the least that a byte of it found in the main buffer
 abbrev pub grown : Tally → EnteredView → Tally

@@ -92,7 +92,8 @@ impl Clocks {
         }
     }
 
-    /// Returns the last reference of a PID, searched first at the place of the first clock: most streams have a single clock.
+    /// Returns the last reference of a PID, searched first at the place of the first clock: most streams have a single
+    /// clock.
     pub fn last(&self, pid: u16) -> Option<PcrSample>
         ensures { result ≡ spec.clock_of self.now pid }
     {
@@ -156,7 +157,8 @@ pub(crate) fn ahead_of(clock: &PcrSample, dts: u64) -> u64
     (dts % (1 << 33) * 300 + PCR_PERIOD - clock.ticks % PCR_PERIOD) % PCR_PERIOD
 }
 
-// The whole ticks from the stream's first byte to that of a reference, where a byte takes `rate` to leave a buffer at its own rate.
+// The whole ticks from the stream's first byte to that of a reference, where a byte takes `rate` to leave a buffer at
+// its own rate.
 fn tick_of(rate: u64, clock: &PcrSample) -> u128
     ensures { result ≡ spec.tick_of rate clock.now }
 {
@@ -176,8 +178,8 @@ pub(crate) fn due_tick(rate: u64, clock: &PcrSample, dts: u64) -> u128
     }
 }
 
-/// Returns when a unit is due with that DTS, by the last clock reference before it, where a byte takes `rate` to leave a buffer at its own
-/// rate, at a buffer that is drained at `rx` bits a second.
+/// Returns when a unit is due with that DTS, by the last clock reference before it, where a byte takes `rate` to leave
+/// a buffer at its own rate, at a buffer that is drained at `rx` bits a second.
 pub(crate) fn due_at(rate: u64, rx: u32, clock: &PcrSample, dts: u64) -> DueTime
     requires { rate < 4294967296 }
     ensures { result ≡ spec.due_at rate rx clock.now dts }

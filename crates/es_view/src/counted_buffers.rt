@@ -40,8 +40,8 @@ pub(crate) struct BusySeen {
     pub multiplexing: Option<BusyWatch>,
 }
 
-/// Where the frames of a payload are: how long in ticks a byte may stay, the first of its bytes of frames, and when the unit is due, in ticks
-/// from the stream's first byte.
+/// Where the frames of a payload are: how long in ticks a byte may stay, the first of its bytes of frames, and when the
+/// unit is due, in ticks from the stream's first byte.
 #[derive(Clone, Copy)]
 pub(crate) struct FramePlace {
     pub limit: u64,

@@ -17,8 +17,8 @@ use stream_coding::{Buffers, Coding};
 use stream_programs::FoundStream;
 use tstd_rows::{Entered, Excess, StreamBuffers, TRANSPORT_BYTES, UnitSeen};
 
-/// Where an event is found: the stream, the packet, the rate out of the transport buffer in bits a second, and the size of the buffer
-/// in bytes.
+/// Where an event is found: the stream, the packet, the rate out of the transport buffer in bits a second, and the size
+/// of the buffer in bytes.
 #[derive(Clone, Copy)]
 pub struct Place {
     pub pid: u16,

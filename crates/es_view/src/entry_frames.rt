@@ -24,8 +24,8 @@ pub struct EntryFrames {
     pub tick: u128,
 }
 
-/// A payload among whose bytes frames begin: what its packet is to the buffers, the first of its bytes among all, when the unit is due that
-/// begins with it, if one does, what begins with it, and its bytes of frames.
+/// A payload among whose bytes frames begin: what its packet is to the buffers, the first of its bytes among all, when
+/// the unit is due that begins with it, if one does, what begins with it, and its bytes of frames.
 #[derive(Clone, Copy)]
 pub(crate) struct FramedPayload<'a> {
     pub arriving: Arriving,

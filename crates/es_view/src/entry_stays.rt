@@ -44,7 +44,8 @@ fn ticks_at(arrival: &Arrival, byte: u64) -> Option<u128>
     }
 }
 
-/// Returns how long a byte stays that is decoded at `end`, in ticks from the stream's first byte, if it is longer than `limit`.
+/// Returns how long a byte stays that is decoded at `end`, in ticks from the stream's first byte, if it is longer than
+/// `limit`.
 #[tactic(auto, unfolding(crate::specs::EntryStays::overstay))]
 pub(crate) fn overstay_of(options: &ViewOptions, limit: u64, byte: u64, end: u128) -> Option<Stay>
     ensures { result ≡ spec.overstay_of options.now limit byte end }

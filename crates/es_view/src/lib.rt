@@ -1,7 +1,8 @@
 //! The events of one elementary stream, as its packets arrive: what its buffers hold, and when its units leave.
 //!
-//! [`stream_entry`]: a stream that the tables name, from the first packet of its buffers on. The main buffer of sound whose frames have headers is
-//! viewed by access units (`specs/EntryFrames`), unless its buffers are given; all other main buffers by PES packets; video in two buffers, MB and EB.
+//! [`stream_entry`]: a stream that the tables name, from the first packet of its buffers on. The main buffer of sound
+//! whose frames have headers is viewed by access units (`specs/EntryFrames`), unless its buffers are given; all other
+//! main buffers by PES packets; video in two buffers, MB and EB.
 #![tactic(auto)]
 
 pub mod clocks;

@@ -8,8 +8,8 @@ use events::{Event, MarkTotals};
 use std::alloc::AllocError;
 use ts_packet::{Adaptation, Packet};
 
-/// What is counted of the marks of a stream's units: units whose header was read, those with random_access_indicator, the
-/// DTS of the last of these and the greatest time from one to the next, in units of 90 kHz, and those with
+/// What is counted of the marks of a stream's units: units whose header was read, those with random_access_indicator,
+/// the DTS of the last of these and the greatest time from one to the next, in units of 90 kHz, and those with
 /// data_alignment_indicator. Numbers stop at 2^64 - 1.
 #[derive(Clone, Copy)]
 pub struct MarkTally {

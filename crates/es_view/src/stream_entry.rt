@@ -31,8 +31,9 @@ use tstd_rows::{Arriving, BusyWatch, DueTime, Stay, StreamBuffers, TRANSPORT_BYT
 /// The most units of a stream that may wait in its main buffer while more of its transport stream is viewed.
 const MOST_WAITING: usize = 4_096;
 
-/// A stream: its PID, the PID of its program's clock references, the counter of its last packet with a payload, its buffers with what is
-/// counted of them, and what is counted of its two buffers of video, and of the marks of its units.
+/// A stream: its PID, the PID of its program's clock references, the counter of its last packet with a payload, its
+/// buffers with what is counted of them, and what is counted of its two buffers of video, and of the marks of its
+/// units.
 #[derive(Drop)]
 pub struct StreamEntry {
     pub pid: u16,
@@ -190,7 +191,8 @@ fn payload_of<'a>(
     }
 }
 
-// When the unit is due that begins, in ticks from the stream's first byte; none where none does, or no clock reference has come.
+// When the unit is due that begins, in ticks from the stream's first byte; none where none does, or no clock reference
+// has come.
 #[tactic(auto, unfolding(crate::specs::EntryFrames::unit_tick))]
 fn unit_tick(options: &ViewOptions, clock: &Option<PcrSample>, beginning: Beginning) -> Option<u128>
     ensures { result ≡ frames.unit_tick options.now clock.now beginning }
@@ -465,8 +467,8 @@ impl StreamEntry {
             && is_leak_idle(&busy.multiplexing, &self.seen.leak_under_way())
     }
 
-    /// Returns whether no buffer held more than its size, no unit was late, no byte stayed too long, and no buffer was not empty for more than a
-    /// second.
+    /// Returns whether no buffer held more than its size, no unit was late, no byte stayed too long, and no buffer was
+    /// not empty for more than a second.
     pub fn is_good(&self) -> bool
         ensures { (e : EntryState) → IsEntry self.now e → result ≡ spec.is_good e }
     {

@@ -17,8 +17,9 @@ pub struct Tally {
     pub late: u64,
     /// PES packets whose header was not read.
     pub unread: u64,
-    /// The window of the last packet; the most bytes that were in each buffer when any of its packets entered, the least that any of their
-    /// bytes found in the main buffer, the units that ended in it, how many of them were late, and the least slack of a unit.
+    /// The window of the last packet; the most bytes that were in each buffer when any of its packets entered, the
+    /// least that any of their bytes found in the main buffer, the units that ended in it, how many of them were late,
+    /// and the least slack of a unit.
     pub window: u64,
     pub window_transport: u128,
     pub window_main: u64,

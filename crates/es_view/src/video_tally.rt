@@ -5,8 +5,8 @@ ghost use Rattle.es_view.specs.VideoTallies as spec;
 
 use tstd_rows::{VideoEntered, VideoUnit};
 
-/// What is counted of the multiplexing buffer and of the elementary stream buffer of a stream: excesses of both that have ended, and units
-/// that were late in the latter. Numbers stop at 2^64 - 1.
+/// What is counted of the multiplexing buffer and of the elementary stream buffer of a stream: excesses of both that
+/// have ended, and units that were late in the latter. Numbers stop at 2^64 - 1.
 #[derive(Clone, Copy)]
 pub struct VideoTally {
     pub multiplexing: u64,

@@ -1,7 +1,9 @@
 -- The checks of ETSI TR 101 290 that are made of a stream: their numbers and names, as its tables 5.0a, 5.0b and 5.0c have them.
 use Rattle.std.specs.Prelude.{ℕ, ◌==◌, if◌then◌else◌, List, codes, Option, Some, None}
 use Rattle.events.specs.declared.check.Check.{Check}
-use Rattle.events.specs.declared.check.Check.TheVariants.{SyncLoss, SyncByte, Pat, Continuity, Pmt, Pid, Transport, Crc, PcrRepetition, PcrDiscontinuity, PcrAccuracy, Pts, Cat, NitActual, NitOther, SiRepetition, Buffer, Unreferenced, SdtActual, SdtOther, EitActual, EitOther, Rst, Tdt, EmptyBuffer, DataDelay}
+use Rattle.events.specs.declared.check.Check.TheVariants.{SyncLoss, SyncByte, Pat, Continuity, Pmt, Pid, Transport, Crc, PcrRepetition, PcrDiscontinuity}
+use Rattle.events.specs.declared.check.Check.TheVariants.{PcrAccuracy, Pts, Cat, NitActual, NitOther, SiRepetition, Buffer, Unreferenced, SdtActual, SdtOther}
+use Rattle.events.specs.declared.check.Check.TheVariants.{EitActual, EitOther, Rst, Tdt, EmptyBuffer, DataDelay}
 
 unfoldable pub number_of : Check → List ℕ
 number_of SyncLoss = codes "1.1"
@@ -91,9 +93,20 @@ place_of DataDelay = 25
 -- that a section fails which comes too late or too soon, by its table_id (EN 300 468, table 2)
 abbrev pub check_of_table : ℕ → Option Check
 check_of_table id =
-    if id == 0 then Some Pat else (if id == 2 then Some Pmt else (if id == 64 then Some NitActual else (if id == 65 then Some NitOther else (if id == 66 then Some SdtActual else (if id == 70 then Some SdtOther else (if id == 78 then Some EitActual else (if id == 79 then Some EitOther else (if id == 112 then Some Tdt else (if id == 113 then Some Rst else None)))))))))
+    if id == 0 then Some Pat
+    else (if id == 2 then Some Pmt
+    else (if id == 64 then Some NitActual
+    else (if id == 65 then Some NitOther
+    else (if id == 66 then Some SdtActual
+    else (if id == 70 then Some SdtOther
+    else (if id == 78 then Some EitActual
+    else (if id == 79 then Some EitOther else (if id == 112 then Some Tdt else (if id == 113 then Some Rst else None)))))))))
 
 -- that a section of another table fails, by the PID of a table (EN 300 468, table 1)
 abbrev pub check_of_pid : ℕ → Option Check
 check_of_pid pid =
-    if pid == 0 then Some Pat else (if pid == 1 then Some Cat else (if pid == 16 then Some NitActual else (if pid == 17 then Some SdtActual else (if pid == 18 then Some EitActual else (if pid == 19 then Some Rst else (if pid == 20 then Some Tdt else None))))))
+    if pid == 0 then Some Pat
+    else (if pid == 1 then Some Cat
+    else (if pid == 16 then Some NitActual
+    else (if pid == 17 then Some SdtActual
+    else (if pid == 18 then Some EitActual else (if pid == 19 then Some Rst else (if pid == 20 then Some Tdt else None))))))

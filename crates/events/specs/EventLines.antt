@@ -4,7 +4,11 @@ use Rattle.events.specs.declared.event.BufferExcess.{BufferExcess}
 use Rattle.events.specs.declared.event.ClockFault.{ClockFault}
 use Rattle.events.specs.declared.event.ClockTotals.{ClockTotals}
 use Rattle.events.specs.declared.event.Event.{Event}
-use Rattle.events.specs.declared.event.Event.TheVariants.{Input, Stream, Window, Held, Units, Excess, MainExcess, MultiplexingExcess, ElementaryExcess, SystemExcess, SystemMainExcess, Late, ElementaryLate, Ahead, PcrRepetition, PcrDiscontinuity, PcrAccuracy, TableRepetition, Unclocked, Refused, Continuity, CheckWord, Transport, Main, Multiplexing, Elementary, Marks, System, Clock, Table, Pid, Unreferenced, Missing, Check, End, Rule, Summary}
+use Rattle.events.specs.declared.event.Event.TheVariants.{Input, Stream, Window, Held, Units, Excess, MainExcess, MultiplexingExcess, ElementaryExcess}
+use Rattle.events.specs.declared.event.Event.TheVariants.{SystemExcess, SystemMainExcess, Late, ElementaryLate, Ahead, PcrRepetition, PcrDiscontinuity}
+use Rattle.events.specs.declared.event.Event.TheVariants.{PcrAccuracy, TableRepetition, Unclocked, Refused, Continuity, CheckWord, Transport, Main}
+use Rattle.events.specs.declared.event.Event.TheVariants.{Multiplexing, Elementary, Marks, System, Clock, Table, Pid, Unreferenced, Missing, Check, End, Rule}
+use Rattle.events.specs.declared.event.Event.TheVariants.{Summary}
 use Rattle.events.specs.declared.event.FarAhead.{FarAhead}
 use Rattle.events.specs.declared.event.HeldFigures.{HeldFigures}
 use Rattle.events.specs.declared.event.LateUnit.{LateUnit}

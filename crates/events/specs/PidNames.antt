@@ -4,7 +4,8 @@ use Rattle.std.specs.Prelude.{ℕ, ◌==◌, if◌then◌else◌, unwrap_or, Lis
 use Rattle.stream_coding.specs.declared.coding.Coding.{Coding}
 use Rattle.stream_coding.specs.declared.coding.Coding.TheVariants as codings
 use Rattle.events.specs.declared.pid_name.PidName.{PidName}
-use Rattle.events.specs.declared.pid_name.PidName.TheVariants.{Pat, Cat, Nit, Sdt, Eit, Tdt, Null, Pmt, Pcr, Mpeg2, Avc, Hevc, Audio, Aac, Ac3, Subtitles, Teletext, Other}
+use Rattle.events.specs.declared.pid_name.PidName.TheVariants.{Pat, Cat, Nit, Sdt, Eit, Tdt, Null, Pmt, Pcr, Mpeg2, Avc, Hevc, Audio, Aac, Ac3, Subtitles}
+use Rattle.events.specs.declared.pid_name.PidName.TheVariants.{Teletext, Other}
 
 -- what a PID always carries
 abbrev pub fixed : ℕ → Option PidName

@@ -38,7 +38,9 @@ units_text e = codes "units: " ++ (decimal e.late ++ (codes " of " ++ (decimal e
 
 unfoldable pub checks_by : Option CheckTotals → List ℕ
 checks_by None = []
-checks_by (Some e) = codes ": " ++ (number_of e.check ++ (codes " " ++ (name_of e.check ++ (codes ", faults " ++ (decimal e.count.faults ++ time_text e.count.from e.count.to)))))
+checks_by (Some e) =
+    codes ": " ++
+    (number_of e.check ++ (codes " " ++ (name_of e.check ++ (codes ", faults " ++ (decimal e.count.faults ++ time_text e.count.from e.count.to)))))
 
 abbrev pub checks_text : CheckVerdict → List ℕ
 checks_text e = codes "checks: " ++ (decimal e.failed ++ (codes " of " ++ (decimal e.checks ++ (codes " failed" ++ checks_by e.first))))

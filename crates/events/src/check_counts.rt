@@ -17,7 +17,8 @@ pub struct FaultCount {
     pub first: u64,
     /// The packet of the last fault; 0 if there is none.
     pub last: u64,
-    /// The moment at which the first fault begins, and the moment at which the last fault ends, in ticks, if they are known.
+    /// The moment at which the first fault begins, and the moment at which the last fault ends, in ticks, if they are
+    /// known.
     pub from: Option<u128>,
     pub to: Option<u128>,
 }

@@ -1,7 +1,7 @@
 //! Events of a transport stream, as plain data.
 //!
-//! Times are in ticks of 27 MHz, moments from the stream's first byte on; numbers of packets and of windows begin with 0; sizes and
-//! fullness are in bytes, rates in bits a second.
+//! Times are in ticks of 27 MHz, moments from the stream's first byte on; numbers of packets and of windows begin with
+//! 0; sizes and fullness are in bytes, rates in bits a second.
 use crate::check_counts::CheckTotals;
 use crate::input_event::InputEvent;
 use crate::mark_event::MarkTotals;
@@ -37,7 +37,8 @@ pub struct WindowFigures {
     /// Packets with a clock reference.
     pub pcrs: u64,
     pub rate: u128,
-    /// The program of the PID, the coding of what it carries, and the name of the program's service, as far as they are known.
+    /// The program of the PID, the coding of what it carries, and the name of the program's service, as far as they are
+    /// known.
     pub program: Option<u16>,
     pub coding: PidName,
     pub service: Option<String>,
@@ -67,7 +68,8 @@ pub struct HeldFigures {
     /// The number of the window.
     pub number: u64,
     pub pid: u16,
-    /// The most bytes that were in the transport buffer, and in the main buffer; and the least that a byte found in that.
+    /// The most bytes that were in the transport buffer, and in the main buffer; and the least that a byte found in
+    /// that.
     pub transport: u128,
     pub main: u64,
     pub main_least: u64,

@@ -42,7 +42,8 @@ pub enum FaultKind {
     Rest,
 }
 
-/// Where a fault is: in the whole stream, in the stream of a PID, in the tables of a program, or in a table by PID and table_id.
+/// Where a fault is: in the whole stream, in the stream of a PID, in the tables of a program, or in a table by PID and
+/// table_id.
 #[derive(Clone, Copy)]
 pub enum FaultSource {
     Whole,

@@ -4,7 +4,8 @@ ghost use Rattle.events.specs.PidNames as spec;
 
 use stream_coding::Coding;
 
-/// What a PID carries: a table by its PID, null packets, the map of a program, its clock references alone, or a stream of a coding.
+/// What a PID carries: a table by its PID, null packets, the map of a program, its clock references alone, or a stream
+/// of a coding.
 #[derive(Clone, Copy)]
 pub enum PidName {
     Pat,

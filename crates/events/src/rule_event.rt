@@ -4,7 +4,8 @@ ghost use Rattle.events.specs.BufferKinds as spec;
 
 use crate::event::{ClockFault, TableFault};
 
-/// A buffer of the decoder model (ISO/IEC 13818-1, 2.4.2.3): TB, MB, EB and B of a stream, and both buffers of a program's tables.
+/// A buffer of the decoder model (ISO/IEC 13818-1, 2.4.2.3): TB, MB, EB and B of a stream, and both buffers of a
+/// program's tables.
 #[derive(Clone, Copy)]
 pub enum BufferKind {
     Transport,

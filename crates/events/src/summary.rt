@@ -7,7 +7,8 @@ use crate::fault::{Fault, Measured};
 use crate::fault_kind::{FaultKind, FaultSource};
 use crate::rule_event::BufferKind;
 
-/// All faults of a kind at one place: how many, the first and the last, and the worst value with its limit, if values are measured.
+/// All faults of a kind at one place: how many, the first and the last, and the worst value with its limit, if values
+/// are measured.
 #[derive(Clone, Copy)]
 pub struct FaultTotals {
     pub kind: FaultKind,
@@ -16,7 +17,8 @@ pub struct FaultTotals {
     pub worst: Option<Measured>,
 }
 
-/// The buffer that is furthest over its size: the most bytes that it held, and the time from its first excess to its last one.
+/// The buffer that is furthest over its size: the most bytes that it held, and the time from its first excess to its
+/// last one.
 #[derive(Clone, Copy)]
 pub struct WorstBuffer {
     /// The PID of the stream, or the number of the program whose tables it holds.

@@ -5,7 +5,8 @@ ghost use Rattle.events.specs.LateCauses.{word_of};
 /// Why a unit of video is not whole in the elementary stream buffer when it is decoded.
 #[derive(Clone, Copy, Debug, PartialEq, Eq)]
 pub enum LateCause {
-    /// The multiplexing buffer alone makes it late: the multiplex sent its bytes too late, or too many of them at a time.
+    /// The multiplexing buffer alone makes it late: the multiplex sent its bytes too late, or too many of them at a
+    /// time.
     Multiplex,
     /// The elementary stream buffer was full: the stream does not keep to its own video buffer.
     FullBuffer,

@@ -144,8 +144,8 @@ fn rest_text(alloc: Global, bytes: &[u8]) -> Result<String, AllocError>
     Ok(text)
 }
 
-/// Returns the first fault of a job in words: of its description, its plan, a second plan, its records or its units; an empty
-/// text if none is known.
+/// Returns the first fault of a job in words: of its description, its plan, a second plan, its records or its units; an
+/// empty text if none is known.
 #[tactic(auto, using(crate::proofs::Explained::words_first, crate::proofs::Explained::words_after))]
 pub fn explain_job(alloc: Global, bytes: &[u8]) -> Result<String, AllocError>
     ensures { IfOk result (λ text. spec.IsJobExplained bytes.now (string_bytes text)) }

@@ -20,7 +20,8 @@ one_more fault earlier row = by (fails row.check fault) refl
     by true e = rw e refl
     by false e = rw e refl
 
-all_more : (fault : Fault) (earlier : List Fault) (rows : List CheckCount) → map (row_with fault) (map (row_of earlier) rows) ≡ map (row_of (fault ∷ earlier)) rows
+all_more : (fault : Fault) (earlier : List Fault) (rows : List CheckCount) →
+    map (row_with fault) (map (row_of earlier) rows) ≡ map (row_of (fault ∷ earlier)) rows
 all_more fault earlier [] = refl
 all_more fault earlier (row ∷ rows) =
     ap (λ (r : CheckCount). r ∷ map (row_with fault) (map (row_of earlier) rows)) (one_more fault earlier row)
@@ -52,8 +53,10 @@ found : (key k : ℕ) (x : FaultTotals) (es : List (ℕ × FaultTotals)) (t : Bo
 found key k x [] t e = rw (turned_test key k ∙ e) refl
 found key k x (y ∷ es) t e = by t e (k == y.0) refl (found key k x es t e)
   where
-    by : (t : Bool) → (k == key) ≡ t → (u : Bool) → (k == y.0) ≡ u → lookup (nat_eq key) (insert_entry nat_eq es k x) ≡ cond t (Some x) (lookup (nat_eq key) es) →
-        lookup (nat_eq key) (cond u ((y.0, x) ∷ es) (y ∷ insert_entry nat_eq es k x)) ≡ cond t (Some x) (cond (nat_eq key y.0) (Some y.1) (lookup (nat_eq key) es))
+    by : (t : Bool) → (k == key) ≡ t → (u : Bool) → (k == y.0) ≡ u →
+        lookup (nat_eq key) (insert_entry nat_eq es k x) ≡ cond t (Some x) (lookup (nat_eq key) es) →
+        lookup (nat_eq key) (cond u ((y.0, x) ∷ es) (y ∷ insert_entry nat_eq es k x)) ≡ cond t (Some x)
+        (cond (nat_eq key y.0) (Some y.1) (lookup (nat_eq key) es))
     by true e true f h = let g : (key == y.0) ≡ true = subst (λ (n : ℕ). (n == y.0) ≡ true) (same_number k key e) f in rw g refl
     by false e true f h = let g : (key == y.0) ≡ false = subst (λ (n : ℕ). (key == n) ≡ false) (same_number k y.0 f) (turned_test key k ∙ e) in rw g refl
     by true e false f h = let g : (key == y.0) ≡ false = subst (λ (n : ℕ). (n == y.0) ≡ false) (same_number k key e) f in rw g h

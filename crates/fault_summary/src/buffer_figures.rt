@@ -17,7 +17,8 @@ pub struct BufferMost {
     pub size: u64,
 }
 
-/// How many buffers there are, how many of them were over their size, and the one that was furthest over it; the units of all streams.
+/// How many buffers there are, how many of them were over their size, and the one that was furthest over it; the units
+/// of all streams.
 #[derive(Clone, Copy)]
 pub struct BufferFigures {
     pub buffers: u64,

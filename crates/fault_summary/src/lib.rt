@@ -1,5 +1,5 @@
-//! What the events of a transport stream come to: how often each check of ETSI TR 101 290 fails, faults by kind and stream, and a verdict for
-//! a person.
+//! What the events of a transport stream come to: how often each check of ETSI TR 101 290 fails, faults by kind and
+//! stream, and a verdict for a person.
 //!
 //! - [`Summary`]: takes events with their faults; `push_end` appends the rows and the verdict.
 //! - [`FaultRows`]: faults by kind and source. [`BufferFigures`]: how many buffers were over their size, and which one most.

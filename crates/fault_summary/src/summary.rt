@@ -9,8 +9,8 @@ use events::{CheckCounts, Event, Fault, RuleEvent, StreamTime};
 use std::alloc::{AllocError, Global};
 use std::marker::Model;
 
-/// The faults of a stream by check, and by kind and source; their number, which stops at 2^64 - 1; what its buffers held; and whether its
-/// rate varies.
+/// The faults of a stream by check, and by kind and source; their number, which stops at 2^64 - 1; what its buffers
+/// held; and whether its rate varies.
 #[derive(Drop)]
 pub struct Summary {
     pub counts: CheckCounts,
@@ -93,8 +93,8 @@ impl Summary {
         self.rows.is_empty()
     }
 
-    /// Appends the row of each check, the faults by kind and source, and the verdict: `good`: nothing is wrong; `clocked`: packets
-    /// have moments.
+    /// Appends the row of each check, the faults by kind and source, and the verdict: `good`: nothing is wrong;
+    /// `clocked`: packets have moments.
     pub fn push_end(
         &self,
         alloc: Global,

@@ -1,7 +1,7 @@
 //! Types of the values that the options of a job have: names, the base of the clock, and by what packets are declared.
 //!
-//! `ServiceName` and `NetworkName` are names in place of a stream's own names (`specs/GivenNames`), `ClockBase` is what the system
-//! clock shows as a run begins, `DeclareBy` by what the packets of units are declared.
+//! `ServiceName` and `NetworkName` are names in place of a stream's own names (`specs/GivenNames`), `ClockBase` is what
+//! the system clock shows as a run begins, `DeclareBy` by what the packets of units are declared.
 #![tactic(auto)]
 
 mod clock_base;

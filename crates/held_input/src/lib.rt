@@ -3,7 +3,8 @@
 //! `HeldInput` is a `Source` that shows the bytes it holds: its next reads give these bytes, and call no device.
 //! `BufferedInput` is a `HeldInput` with a buffer; a `Counted` holds no bytes.
 //!
-//! Definitions are in `specs/`: `Holding` says what a `BufferedInput` shows, and what a read of held bytes leaves of it.
+//! Definitions are in `specs/`: `Holding` says what a `BufferedInput` shows, and what a read of held bytes leaves of
+//! it.
 #![tactic(auto)]
 
 mod buffered;

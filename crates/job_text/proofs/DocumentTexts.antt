@@ -1,5 +1,6 @@
 -- The texts of a heading, of events, of a network, of programs and of streams are one document.
-use Rattle.std.proofs.Common.{◌≡◌, ℕ, suc, pos, ◌≤◌, Bool, true, false, ◌==◌, Option, Some, None, option_map, List, [], ◌∷◌, ◌++◌, length, map, codes, refl, sym, ap, ap₂, subst, ◌∙◌, arith, append_assoc, append-nil}
+use Rattle.std.proofs.Common.{◌≡◌, ℕ, suc, pos, ◌≤◌, Bool, true, false, ◌==◌, Option, Some, None, option_map, List, [], ◌∷◌, ◌++◌, length, map, codes, refl}
+use Rattle.std.proofs.Common.{sym, ap, ap₂, subst, ◌∙◌, arith, append_assoc, append-nil}
 use Rattle.std.proofs.lemmas.Bool.Decides.{nat_tests}
 use Rattle.std.specs.Prelude.{All, IfSome}
 use Rattle.std.specs.List.{flat_map}
@@ -18,14 +19,18 @@ use Rattle.toml.proofs.Lines.{IsLinesText-append, after}
 use Rattle.toml.proofs.ReadBack.{parse_document-printed}
 use Rattle.job_text.specs.DescriptionParts.{EventPartView, HeadingView, NetworkPartView, ProgramPartView, StreamPartView, TablePartView}
 use Rattle.job_text.specs.KeyLines.{with_numbers, with_hex, with_list, hex_line, list_line, key_line, number_lines}
-use Rattle.job_text.specs.Fields.{program_numbers, burst_numbers, frame_numbers, group_numbers, time_numbers, size_numbers, pace_numbers, place_numbers, leak_numbers, limit_numbers, drain_numbers, last_numbers}
-use Rattle.job_text.specs.Documents.{document, elements_of, with_table, with_tables, event_table, network_table, program_table, stream_last, stream_drain, stream_place, stream_middle, stream_rest, stream_members, stream_table, table_table}
+use Rattle.job_text.specs.Fields.{program_numbers, burst_numbers, frame_numbers, group_numbers, time_numbers, size_numbers, pace_numbers, place_numbers}
+use Rattle.job_text.specs.Fields.{leak_numbers, limit_numbers, drain_numbers, last_numbers}
+use Rattle.job_text.specs.Documents.{document, elements_of, with_table, with_tables, event_table, network_table, program_table, stream_last, stream_drain}
+use Rattle.job_text.specs.Documents.{stream_place, stream_middle, stream_rest, stream_members, stream_table, table_table}
 use Rattle.job_text.specs.Texts.{event_text, heading_text, network_text, network_if_any, program_text, stream_text, table_text}
-use Rattle.job_text.specs.Laws.{Fits, FitsEvent, FitsHeading, FitsNetwork, FitsProgram, FitsAllowance, FitsMultiplexing, FitsFraming, FitsStream, FitsTable, TextsAreRead}
+use Rattle.job_text.specs.Laws.{Fits, FitsEvent, FitsHeading, FitsNetwork, FitsProgram, FitsAllowance, FitsMultiplexing, FitsFraming, FitsStream, FitsTable}
+use Rattle.job_text.specs.Laws.{TextsAreRead}
 use Rattle.job_text.proofs.FlatArrays.{list_none, list_some, numbers_are, numbers_sorted, digits_are, digits_sorted}
 use Rattle.job_text.proofs.Scalars.{AreScalars, IsScalar, scalar_lines, lines_are_text}
 use Rattle.job_text.proofs.TableArrays.{AreTables, element_lines, elements_are_text, pairs_past, sections_with, shallow, dated_past, sorted_past, before_tables}
-use Rattle.job_text.proofs.SingleTables.{IsTable, lines_if_any, expressions_if_any, table_is_text, pairs_past_table, sections_with_table, shallow_table, dated_past_table, sorted_past_table, before_table}
+use Rattle.job_text.proofs.SingleTables.{IsTable, lines_if_any, expressions_if_any, table_is_text, pairs_past_table, sections_with_table, shallow_table}
+use Rattle.job_text.proofs.SingleTables.{dated_past_table, sorted_past_table, before_table}
 
 -- numbers are scalars
 small : (n : ℕ) → Fits n → IsScalar (integer (pos n))
@@ -67,7 +72,8 @@ hex_after : (key : List ℕ) (bytes : List ℕ) (more : Members) → is_lt (slic
 hex_after key [] more first last = ap (is_before key) (hex_none more) ∙ last
 hex_after key (b ∷ bytes) more first last = ap (is_before key) (hex_some b bytes more) ∙ first
 
-hex_lines : (bytes : List ℕ) (more : Members) → scalar_lines (with_hex (codes "descriptors") bytes more) ≡ hex_line (codes "descriptors") bytes ++ scalar_lines more
+hex_lines : (bytes : List ℕ) (more : Members) → scalar_lines (with_hex (codes "descriptors") bytes more) ≡ hex_line (codes "descriptors") bytes
+    ++ scalar_lines more
 hex_lines [] more = ap scalar_lines (hex_none more) ∙ ap (λ (l : List ℕ). l ++ scalar_lines more) (sym line_none)
 hex_lines (b ∷ bytes) more = ap scalar_lines (hex_some b bytes more) ∙ ap (λ (l : List ℕ). l ++ scalar_lines more) (sym (line_some b bytes))
 
@@ -94,7 +100,8 @@ list_lines (n ∷ ns) more = ap (λ (l : List ℕ). l ++ scalar_lines more) (sym
 -- an event
 event_scalars : (e : EventPartView) → FitsEvent e → AreScalars (event_table e)
 unfolding key_text
-event_scalars e h = (refl, small e.duration h.duration, (refl, small e.id h.id, (refl, tt, (refl, tt, (refl, small e.program h.program, (refl, tt, (refl, tt, tt)))))))
+event_scalars e h =
+    (refl, small e.duration h.duration, (refl, small e.id h.id, (refl, tt, (refl, tt, (refl, small e.program h.program, (refl, tt, (refl, tt, tt)))))))
 
 event_lines : (e : EventPartView) → element_lines (codes "event") (event_table e) ≡ event_text e
 event_lines e = simp (append_assoc, append-nil)
@@ -138,7 +145,15 @@ program_scalars p h =
     hex_scalars p.descriptors (program_rest p) (
       refl,
       tt,
-      (refl, small p.number h.number, (refl, small p.pcr_limit h.pcr_limit, (refl, small p.pcr_pid h.pcr_pid, (refl, small p.pmt_pid h.pmt_pid, (refl, tt, (refl, small p.service_type h.service_type, tt)))))),
+      (
+        refl,
+        small p.number h.number,
+        (
+          refl,
+          small p.pcr_limit h.pcr_limit,
+          (refl, small p.pcr_pid h.pcr_pid, (refl, small p.pmt_pid h.pmt_pid, (refl, tt, (refl, small p.service_type h.service_type, tt)))),
+        ),
+      ),
     )
 
 program_sorted : (p : ProgramPartView) → members_are_sorted (program_table p) ≡ true
@@ -165,28 +180,39 @@ unfolding key_text
 drain_scalars m None s f k h = limit_scalars m s f h
 drain_scalars m (Some n) s f k h = (refl, small n k, limit_scalars m s f h)
 
-place_scalars : (m : Option MultiplexingBuffer) (l : Option ℕ) (s : StreamPartView) → FitsMultiplexing m → IfSome l Fits → FitsStream s → AreScalars (stream_place m l s)
+place_scalars : (m : Option MultiplexingBuffer) (l : Option ℕ) (s : StreamPartView) → FitsMultiplexing m → IfSome l Fits → FitsStream s →
+    AreScalars (stream_place m l s)
 unfolding key_text
 place_scalars m l s f k h = (refl, small s.pid h.pid, (refl, small s.program h.program, drain_scalars m l s f k h))
 
-pace_scalars : (a : Allowance) (m : Option MultiplexingBuffer) (l : Option ℕ) (s : StreamPartView) → FitsAllowance a → FitsMultiplexing m → IfSome l Fits → FitsStream s
+pace_scalars : (a : Allowance) (m : Option MultiplexingBuffer) (l : Option ℕ) (s : StreamPartView) → FitsAllowance a → FitsMultiplexing m → IfSome l Fits →
+    FitsStream s
     → AreScalars (with_numbers (pace_numbers a) (stream_place m l s))
 unfolding key_text
 pace_scalars (Groups units packets) m l s f g k h = place_scalars m l s g k h
 pace_scalars (Pace burst pace) m l s f g k h = (refl, small pace f.1, place_scalars m l s g k h)
 
-size_scalars : (a : Allowance) (m : Option MultiplexingBuffer) (l : Option ℕ) (s : StreamPartView) → FitsAllowance a → FitsMultiplexing m → IfSome l Fits → FitsStream s
+size_scalars : (a : Allowance) (m : Option MultiplexingBuffer) (l : Option ℕ) (s : StreamPartView) → FitsAllowance a → FitsMultiplexing m → IfSome l Fits →
+    FitsStream s
     → AreScalars (with_numbers (size_numbers m) (with_numbers (pace_numbers a) (stream_place m l s)))
 unfolding key_text
 size_scalars a None l s f g k h = pace_scalars a None l s f g k h
 size_scalars a (Some m) l s f g k h = (refl, small m.size g.1, pace_scalars a (Some m) l s f g k h)
 
-middle_scalars : (a : Allowance) (m : Option MultiplexingBuffer) (l : Option ℕ) (s : StreamPartView) → FitsAllowance a → FitsMultiplexing m → IfSome l Fits → FitsStream s
+middle_scalars : (a : Allowance) (m : Option MultiplexingBuffer) (l : Option ℕ) (s : StreamPartView) → FitsAllowance a → FitsMultiplexing m → IfSome l Fits →
+    FitsStream s
     → AreScalars (stream_middle a m l s)
 unfolding key_text
 middle_scalars (Groups units packets) m l s f g k h =
-    let rest = size_scalars (Groups units packets) m l s f g k h in
-    (refl, small units f.0, (refl, small packets f.1, (refl, small s.stream_id h.stream_id, (refl, small s.interval h.interval, (refl, small s.lead h.lead, (refl, small s.main h.main, rest))))))
+    let rest = size_scalars (Groups units packets) m l s f g k h in (
+      refl,
+      small units f.0,
+      (
+        refl,
+        small packets f.1,
+        (refl, small s.stream_id h.stream_id, (refl, small s.interval h.interval, (refl, small s.lead h.lead, (refl, small s.main h.main, rest)))),
+      ),
+    )
 middle_scalars (Pace burst pace) m l s f g k h =
     let rest = size_scalars (Pace burst pace) m l s f g k h in
     (refl, small s.stream_id h.stream_id, (refl, small s.interval h.interval, (refl, small s.lead h.lead, (refl, small s.main h.main, rest))))
@@ -223,24 +249,29 @@ middle_sorted (Groups units packets) (Some m) l s = place_sorted (Some m) l s
 middle_sorted (Pace burst pace) None l s = place_sorted None l s
 middle_sorted (Pace burst pace) (Some m) l s = place_sorted (Some m) l s
 
-rest_sorted : (a : Allowance) (m : Option MultiplexingBuffer) (p : Option Framing) (l : Option ℕ) (s : StreamPartView) → members_are_sorted (stream_rest a m p l s) ≡ true
+rest_sorted : (a : Allowance) (m : Option MultiplexingBuffer) (p : Option Framing) (l : Option ℕ) (s : StreamPartView) →
+    members_are_sorted (stream_rest a m p l s) ≡ true
 rest_sorted a m None l s = middle_sorted a m l s
 rest_sorted (Groups units packets) m (Some p) l s = middle_sorted (Groups units packets) m l s
 rest_sorted (Pace burst pace) m (Some p) l s = middle_sorted (Pace burst pace) m l s
 
-after_descriptors : (a : Allowance) (m : Option MultiplexingBuffer) (p : Option Framing) (l : Option ℕ) (s : StreamPartView) → is_before (codes "descriptors") (stream_rest a m p l s) ≡ true
+after_descriptors : (a : Allowance) (m : Option MultiplexingBuffer) (p : Option Framing) (l : Option ℕ) (s : StreamPartView) →
+    is_before (codes "descriptors") (stream_rest a m p l s) ≡ true
 after_descriptors a m (Some p) l s = refl
 after_descriptors (Groups units packets) m None l s = refl
 after_descriptors (Pace burst pace) m None l s = refl
 
-after_burst : (a : Allowance) (m : Option MultiplexingBuffer) (p : Option Framing) (l : Option ℕ) (s : StreamPartView) → is_before (codes "burst_packets") (stream_rest a m p l s) ≡ true
+after_burst : (a : Allowance) (m : Option MultiplexingBuffer) (p : Option Framing) (l : Option ℕ) (s : StreamPartView) →
+    is_before (codes "burst_packets") (stream_rest a m p l s) ≡ true
 after_burst a m (Some p) l s = refl
 after_burst (Groups units packets) m None l s = refl
 after_burst (Pace burst pace) m None l s = refl
 
-sorted_with : (a : Allowance) (m : Option MultiplexingBuffer) (p : Option Framing) (l : Option ℕ) (s : StreamPartView) → members_are_sorted (stream_members a m p l s) ≡ true
+sorted_with : (a : Allowance) (m : Option MultiplexingBuffer) (p : Option Framing) (l : Option ℕ) (s : StreamPartView) →
+    members_are_sorted (stream_members a m p l s) ≡ true
 sorted_with (Groups units packets) m p l s =
-    hex_sorted s.descriptors (stream_rest (Groups units packets) m p l s) (after_descriptors (Groups units packets) m p l s) (rest_sorted (Groups units packets) m p l s)
+    hex_sorted s.descriptors (stream_rest (Groups units packets) m p l s) (after_descriptors (Groups units packets) m p l s)
+    (rest_sorted (Groups units packets) m p l s)
 sorted_with (Pace burst pace) m p l s =
     rw (
       hex_after (codes "burst_packets") s.descriptors (stream_rest (Pace burst pace) m p l s) refl (after_burst (Pace burst pace) m p l s),
@@ -290,8 +321,15 @@ stream_lines s =
 -- a private table
 table_scalars : (t : TablePartView) → FitsTable t → AreScalars (table_table t)
 unfolding key_text
-table_scalars t h =
-    (refl, tt, (refl, small t.limit h.limit, (refl, small t.pid h.pid, (refl, small t.program h.program, (refl, digits_are t.sections, (refl, small t.stream_type h.stream_type, tt))))))
+table_scalars t h = (
+  refl,
+  tt,
+  (
+    refl,
+    small t.limit h.limit,
+    (refl, small t.pid h.pid, (refl, small t.program h.program, (refl, digits_are t.sections, (refl, small t.stream_type h.stream_type, tt)))),
+  ),
+)
 
 table_sorted : (t : TablePartView) → members_are_sorted (table_table t) ≡ true
 table_sorted t = rw (digits_sorted t.sections) refl
@@ -341,8 +379,15 @@ privates_lines (t ∷ ts) = ap₂ (λ (a b : List ℕ). a ++ b) (private_lines t
 -- the heading
 heading_scalars : (h : HeadingView) → FitsHeading h → AreScalars (document h [] None [] [] [])
 unfolding key_text
-heading_scalars h f =
-    (refl, small h.base0 f.base0, (refl, small h.original_network_id f.original_network_id, (refl, small h.rate f.rate, (refl, tt, (refl, tt, (refl, tt, (refl, small h.transport_stream_id f.transport_stream_id, tt)))))))
+heading_scalars h f = (
+  refl,
+  small h.base0 f.base0,
+  (
+    refl,
+    small h.original_network_id f.original_network_id,
+    (refl, small h.rate f.rate, (refl, tt, (refl, tt, (refl, tt, (refl, small h.transport_stream_id f.transport_stream_id, tt))))),
+  ),
+)
 
 heading_lines : (h : HeadingView) → scalar_lines (document h [] None [] [] []) ≡ heading_text h
 heading_lines h = simp (append_assoc, append-nil)
@@ -368,7 +413,8 @@ after_network h ts us ws =
 abbrev after_events : HeadingView → Option Members → List Members → List Members → List Members → Members
 after_events h n ts us ws = with_table (codes "network") n (after_network h ts us ws)
 
-whole_pairs : (h : HeadingView) (es : List Members) (n : Option Members) (ts us ws : List Members) → pairs (document h es n ts us ws) ≡ pairs (document h [] None [] [] [])
+whole_pairs : (h : HeadingView) (es : List Members) (n : Option Members) (ts us ws : List Members) →
+    pairs (document h es n ts us ws) ≡ pairs (document h [] None [] [] [])
 whole_pairs h es n ts us ws =
     rw (
       pairs_past (codes "event") es (after_events h n ts us ws),
@@ -380,10 +426,12 @@ whole_pairs h es n ts us ws =
 
 -- its tables
 abbrev arrays : List Members → List Members → List Members → List Expression
-arrays ts us ws = elements ([], codes "program") (elements_of ts) ++ (elements ([], codes "stream") (elements_of us) ++ (elements ([], codes "table") (elements_of ws) ++ []))
+arrays ts us ws = elements ([], codes "program") (elements_of ts)
+    ++ (elements ([], codes "stream") (elements_of us) ++ (elements ([], codes "table") (elements_of ws) ++ []))
 
 abbrev array_lines : List Members → List Members → List Members → List ℕ
-array_lines ts us ws = flat_map (element_lines (codes "program")) ts ++ (flat_map (element_lines (codes "stream")) us ++ flat_map (element_lines (codes "table")) ws)
+array_lines ts us ws = flat_map (element_lines (codes "program")) ts
+    ++ (flat_map (element_lines (codes "stream")) us ++ flat_map (element_lines (codes "table")) ws)
 
 abbrev tables : Option Members → List Members → List Members → List Members → List Expression
 tables n ts us ws = expressions_if_any (codes "network") n ++ arrays ts us ws
@@ -397,7 +445,8 @@ all_tables_of es n ts us ws = elements ([], codes "event") (elements_of es) ++ t
 abbrev all_lines : List Members → Option Members → List Members → List Members → List Members → List ℕ
 all_lines es n ts us ws = flat_map (element_lines (codes "event")) es ++ table_lines n ts us ws
 
-whole_sections : (h : HeadingView) (es : List Members) (n : Option Members) (ts us ws : List Members) → sections [] (document h es n ts us ws) ≡ all_tables_of es n ts us ws
+whole_sections : (h : HeadingView) (es : List Members) (n : Option Members) (ts us ws : List Members) →
+    sections [] (document h es n ts us ws) ≡ all_tables_of es n ts us ws
 whole_sections h es n ts us ws =
     rw (
       sections_with (codes "event") es (after_events h n ts us ws),
@@ -414,7 +463,8 @@ last_is_text : (ws : List Members) → AreTables ws
     → IsLinesText false true (elements ([], codes "table") (elements_of ws) ++ []) (flat_map (element_lines (codes "table")) ws)
 unfolding key_text
 last_is_text ws w =
-    subst (λ (es : List Expression). IsLinesText false true es (flat_map (element_lines (codes "table")) ws)) (sym (append-nil (elements ([], codes "table") (elements_of ws))))
+    subst (λ (es : List Expression). IsLinesText false true es (flat_map (element_lines (codes "table")) ws))
+    (sym (append-nil (elements ([], codes "table") (elements_of ws))))
     (elements_are_text (codes "table") ws refl w)
 
 arrays_are_text : (ts us ws : List Members) → AreTables ts → AreTables us → AreTables ws → IsLinesText false true (arrays ts us ws) (array_lines ts us ws)
@@ -424,10 +474,12 @@ arrays_are_text ts us ws a b w =
     let streams = elements_are_text (codes "stream") us refl b in
     let two = IsLinesText-append false true (elements ([], codes "stream") (elements_of us)) (elements ([], codes "table") (elements_of ws) ++ [])
     (flat_map (element_lines (codes "stream")) us) (flat_map (element_lines (codes "table")) ws) streams (last_is_text ws w) in
-    IsLinesText-append false true (elements ([], codes "program") (elements_of ts)) (elements ([], codes "stream") (elements_of us) ++ (elements ([], codes "table") (elements_of ws) ++ []))
+    IsLinesText-append false true (elements ([], codes "program") (elements_of ts))
+    (elements ([], codes "stream") (elements_of us) ++ (elements ([], codes "table") (elements_of ws) ++ []))
     (flat_map (element_lines (codes "program")) ts) (flat_map (element_lines (codes "stream")) us ++ flat_map (element_lines (codes "table")) ws) programs two
 
-tables_are_text : (n : Option Members) (ts us ws : List Members) → IsTable n → AreTables ts → AreTables us → AreTables ws → IsLinesText false true (tables n ts us ws) (table_lines n ts us ws)
+tables_are_text : (n : Option Members) (ts us ws : List Members) → IsTable n → AreTables ts → AreTables us → AreTables ws →
+    IsLinesText false true (tables n ts us ws) (table_lines n ts us ws)
 unfolding key_text
 tables_are_text n ts us ws t a b w =
     IsLinesText-append false true (expressions_if_any (codes "network") n) (arrays ts us ws)
@@ -442,7 +494,8 @@ all_are_text es n ts us ws e t a b w =
     (flat_map (element_lines (codes "event")) es) (table_lines n ts us ws)
     (elements_are_text (codes "event") es refl e) (tables_are_text n ts us ws t a b w)
 
-document_is_text : (h : HeadingView) (es : List Members) (n : Option Members) (ts us ws : List Members) → FitsHeading h → AreTables es → IsTable n → AreTables ts → AreTables us → AreTables ws
+document_is_text : (h : HeadingView) (es : List Members) (n : Option Members) (ts us ws : List Members) → FitsHeading h → AreTables es → IsTable n →
+    AreTables ts → AreTables us → AreTables ws
     → IsDocumentText false (document h es n ts us ws) (heading_text h ++ all_lines es n ts us ws)
 document_is_text h es n ts us ws f e t a b w =
     let head = pairs (document h [] None [] [] []) in
@@ -453,10 +506,12 @@ document_is_text h es n ts us ws f e t a b w =
     let second : IsLinesText false (after false head) rest text =
     subst (λ (s : Bool). IsLinesText false s rest text) (sym (begun head (omega arith))) (all_are_text es n ts us ws e t a b w) in
     let whole = IsLinesText-append false false head rest (heading_text h) text first second in
-    let same : expressions (document h es n ts us ws) ≡ head ++ rest = ap₂ (λ (xs ys : List Expression). xs ++ ys) (whole_pairs h es n ts us ws) (whole_sections h es n ts us ws) in
+    let same : expressions (document h es n ts us ws) ≡ head ++ rest =
+    ap₂ (λ (xs ys : List Expression). xs ++ ys) (whole_pairs h es n ts us ws) (whole_sections h es n ts us ws) in
     subst (λ (es : List Expression). IsLinesText false false es (heading_text h ++ text)) (sym same) whole
 
-document_shallow : (h : HeadingView) (es : List Members) (n : Option Members) (ts us ws : List Members) → AreTables es → IsTable n → AreTables ts → AreTables us → AreTables ws →
+document_shallow : (h : HeadingView) (es : List Members) (n : Option Members) (ts us ws : List Members) → AreTables es → IsTable n → AreTables ts →
+    AreTables us → AreTables ws →
     members_depth (document h es n ts us ws) ≤ 80
 document_shallow h es n ts us ws e t a b w =
     let last : members_depth (after_tables h) ≤ 3 = grind (arith, nat_tests) in
@@ -469,7 +524,8 @@ document_shallow h es n ts us ws e t a b w =
     let all = shallow (codes "event") es (after_events h n ts us ws) e within in
     grind (arith, nat_tests)
 
-document_dated : (h : HeadingView) (es : List Members) (n : Option Members) (ts us ws : List Members) → AreTables es → IsTable n → AreTables ts → AreTables us → AreTables ws →
+document_dated : (h : HeadingView) (es : List Members) (n : Option Members) (ts us ws : List Members) → AreTables es → IsTable n → AreTables ts → AreTables us →
+    AreTables ws →
     members_have_valid_dates (document h es n ts us ws) ≡ true
 document_dated h es n ts us ws e t a b w =
     rw (
@@ -484,7 +540,8 @@ before_events : (other : List ℕ) (h : HeadingView) (n : Option Members) (ts us
     → is_lt (slice_cmp nat_cmp other (codes "original_network_id")) ≡ true → is_before other (after_events h n ts us ws) ≡ true
 before_events other h n ts us ws first last = before_table other (codes "network") n (after_network h ts us ws) first last
 
-document_sorted : (h : HeadingView) (es : List Members) (n : Option Members) (ts us ws : List Members) → AreTables es → IsTable n → AreTables ts → AreTables us → AreTables ws →
+document_sorted : (h : HeadingView) (es : List Members) (n : Option Members) (ts us ws : List Members) → AreTables es → IsTable n → AreTables ts →
+    AreTables us → AreTables ws →
     members_are_sorted (document h es n ts us ws) ≡ true
 document_sorted h es n ts us ws e t a b w =
     rw (
@@ -514,8 +571,12 @@ texts_are_read h es n ps ss qs f e m p s q =
     ap₂ (λ (xs ys : List ℕ). xs ++ ys) (programs_lines ps) (ap₂ (λ (xs ys : List ℕ). xs ++ ys) (streams_lines ss) (privates_lines qs)) in
     let rest : table_lines t ts us ws ≡ network_if_any n ++ (flat_map program_text ps ++ (flat_map stream_text ss ++ flat_map table_text qs)) =
     ap₂ (λ (xs ys : List ℕ). xs ++ ys) (network_lines_if_any n) arrays in
-    let lines : all_lines vs t ts us ws ≡ flat_map event_text es ++ (network_if_any n ++ (flat_map program_text ps ++ (flat_map stream_text ss ++ flat_map table_text qs))) =
+    let lines : all_lines vs t ts us ws ≡ flat_map event_text es
+    ++ (network_if_any n ++ (flat_map program_text ps ++ (flat_map stream_text ss ++ flat_map table_text qs))) =
     ap₂ (λ (xs ys : List ℕ). xs ++ ys) (events_lines es) rest in
-    let text : IsDocumentText false (document h vs t ts us ws) (heading_text h ++ (flat_map event_text es ++ (network_if_any n ++ (flat_map program_text ps ++ (flat_map stream_text ss ++ flat_map table_text qs))))) =
+    let text : IsDocumentText false (document h vs t ts us ws)
+    (heading_text h ++ (flat_map event_text es ++ (network_if_any n ++ (flat_map program_text ps ++ (flat_map stream_text ss ++ flat_map table_text qs)))))
+    =
     subst (λ (l : List ℕ). IsDocumentText false (document h vs t ts us ws) (heading_text h ++ l)) lines (document_is_text h vs t ts us ws f ev fits a b w) in
-    parse_document-printed false (document h vs t ts us ws) _ text (document_shallow h vs t ts us ws ev fits a b w) (document_dated h vs t ts us ws ev fits a b w) (document_sorted h vs t ts us ws ev fits a b w)
+    parse_document-printed false (document h vs t ts us ws) _ text (document_shallow h vs t ts us ws ev fits a b w)
+    (document_dated h vs t ts us ws ev fits a b w) (document_sorted h vs t ts us ws ev fits a b w)

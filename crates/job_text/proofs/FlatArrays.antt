@@ -1,5 +1,6 @@
 -- Arrays of numbers and of strings, on one line.
-use Rattle.std.proofs.Common.{◌≡◌, ℕ, suc, ◌≤◌, Bool, true, false, ◌==◌, List, [], ◌∷◌, ◌++◌, length, map, codes, decimal, refl, sym, ap, subst, ◌∙◌, arith, append_assoc}
+use Rattle.std.proofs.Common.{◌≡◌, ℕ, suc, ◌≤◌, Bool, true, false, ◌==◌, List, [], ◌∷◌, ◌++◌, length, map, codes, decimal, refl, sym, ap, subst, ◌∙◌, arith}
+use Rattle.std.proofs.Common.{append_assoc}
 use Rattle.std.proofs.lemmas.Bool.Decides.{nat_tests}
 use Rattle.std.specs.Int.{w64}
 use Rattle.std.specs.List.{flat_map}
@@ -7,7 +8,8 @@ use Rattle.std.specs.Prelude.{All, FitsSigned}
 use Rattle.std.specs.Fmt.{signed_decimal}
 use Rattle.hex.specs.Hex.{encode_lower}
 use Rattle.toml_writer.specs.Text.{string_text}
-use Rattle.toml.specs.Data.{string, integer, float, boolean, datetime, array, table, Items, no_items, item, depth, items_depth, items_have_valid_dates, items_are_sorted}
+use Rattle.toml.specs.Data.{string, integer, float, boolean, datetime, array, table, Items, no_items, item, depth, items_depth, items_have_valid_dates}
+use Rattle.toml.specs.Data.{items_are_sorted}
 use Rattle.toml.specs.Text.{IsValueText, IsItemsText, breaks_lines, is_section, section}
 use Rattle.job_text.specs.KeyLines.{value_text, items_text, key_line, items_of, digits_of, next_number, next_digits, array_line, list_line, digits_line}
 use Rattle.job_text.specs.Laws.{Fits}
@@ -38,7 +40,8 @@ list_is key n ns =
     let inner : flat_map next_number ns ++ codes "]\n" ≡ items_text false (items_of ns) ++ codes "\n" =
     sym (append_assoc (flat_map next_number ns) (codes "]") (codes "\n")) ∙ ap (λ (t : List ℕ). t ++ codes "\n") (sym (others_are ns)) in
     append_assoc key (codes " = [" ++ decimal n) (flat_map next_number ns ++ codes "]\n")
-    ∙ ap (λ (t : List ℕ). key ++ (codes " = [" ++ t)) (ap (λ (t : List ℕ). decimal n ++ t) inner ∙ sym (append_assoc (decimal n) (items_text false (items_of ns)) (codes "\n")))
+    ∙ ap (λ (t : List ℕ). key ++ (codes " = [" ++ t))
+    (ap (λ (t : List ℕ). decimal n ++ t) inner ∙ sym (append_assoc (decimal n) (items_text false (items_of ns)) (codes "\n")))
     ∙ sym (list_some key n ns)
 
 pub list_written : (key : List ℕ) (n : ℕ) (ns all : List ℕ) → all ≡ n ∷ ns → array_line key n ns ≡ list_line key all
@@ -58,9 +61,11 @@ digits_some key b bs =
     let inner : flat_map next_digits bs ++ codes "]\n" ≡ items_text false (digits_of bs) ++ codes "\n" =
     sym (append_assoc (flat_map next_digits bs) (codes "]") (codes "\n")) ∙ ap (λ (t : List ℕ). t ++ codes "\n") (sym (other_digits_are bs)) in
     append_assoc key (codes " = [" ++ first) (flat_map next_digits bs ++ codes "]\n")
-    ∙ ap (λ (t : List ℕ). key ++ (codes " = [" ++ t)) (ap (λ (t : List ℕ). first ++ t) inner ∙ sym (append_assoc first (items_text false (digits_of bs)) (codes "\n")))
+    ∙ ap (λ (t : List ℕ). key ++ (codes " = [" ++ t))
+    (ap (λ (t : List ℕ). first ++ t) inner ∙ sym (append_assoc first (items_text false (digits_of bs)) (codes "\n")))
 
-pub next_parts : {P : Type 0} (bytes_of : P → List ℕ) (parts : List P) → flat_map (λ b. next_digits (bytes_of b)) parts ≡ flat_map next_digits (map bytes_of parts)
+pub next_parts : {P : Type 0} (bytes_of : P → List ℕ) (parts : List P) →
+    flat_map (λ b. next_digits (bytes_of b)) parts ≡ flat_map next_digits (map bytes_of parts)
 next_parts bytes_of [] = refl
 next_parts bytes_of (b ∷ parts) = ap (λ (t : List ℕ). next_digits (bytes_of b) ++ t) (next_parts bytes_of parts)
 

@@ -4,7 +4,8 @@ use Rattle.std.proofs.lemmas.Bool.Decides.{nat_tests}
 use Rattle.std.specs.Int.{w64}
 use Rattle.std.specs.Prelude.{FitsSigned}
 use Rattle.toml_writer.specs.Text.{key_text}
-use Rattle.toml.specs.Data.{Data, string, integer, float, boolean, datetime, array, table, Members, no_members, member, depth, members_depth, members_have_valid_dates}
+use Rattle.toml.specs.Data.{Data, string, integer, float, boolean, datetime, array, table, Members, no_members, member, depth, members_depth}
+use Rattle.toml.specs.Data.{members_have_valid_dates}
 use Rattle.toml.specs.Tables.{key_value}
 use Rattle.toml.specs.Text.{IsLineText, IsLinesText, IsValueText, pairs, sections, is_section}
 use Rattle.job_text.specs.KeyLines.{value_text, key_line}

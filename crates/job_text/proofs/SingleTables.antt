@@ -33,7 +33,8 @@ unfolding table_header
 header_is_text key bare = rw bare refl
 
 -- its lines are TOML's
-pub table_is_text : (key : List ℕ) (t : Option Members) → key_text key ≡ key → IsTable t → IsLinesText false true (expressions_if_any key t) (lines_if_any key t)
+pub table_is_text : (key : List ℕ) (t : Option Members) → key_text key ≡ key → IsTable t →
+    IsLinesText false true (expressions_if_any key t) (lines_if_any key t)
 table_is_text key None bare h = refl
 table_is_text key (Some t) bare h =
     let own : IsLinesText false true (pairs t ++ []) (scalar_lines t) = rw append-nil (lines_are_text true t h.0) in

@@ -5,7 +5,8 @@ use Rattle.std.specs.List.{flat_map}
 use Rattle.toml_writer.specs.Text.{key_text}
 use Rattle.std.specs.Ordering.{nat_cmp, is_lt}
 use Rattle.std.specs.Cmp.Lexicographic.{slice_cmp}
-use Rattle.toml.specs.Data.{is_before, Members, items_depth, members_depth, items_have_valid_dates, members_have_valid_dates, items_are_sorted, members_are_sorted}
+use Rattle.toml.specs.Data.{is_before, Members, items_depth, members_depth, items_have_valid_dates, members_have_valid_dates, items_are_sorted}
+use Rattle.toml.specs.Data.{members_are_sorted}
 use Rattle.toml.specs.Tables.{array_table}
 use Rattle.toml.specs.Text.{IsLineText, IsLinesText, pairs, sections, elements, are_tables}
 use Rattle.toml.proofs.Lines.{IsLinesText-append}
@@ -55,7 +56,8 @@ elements_are_text key [] bare h = refl
 elements_are_text key (t ∷ ts) bare h =
     let more = elements_are_text key ts bare h.2 in
     let own : IsLinesText false true (pairs t ++ []) (scalar_lines t) = rw append-nil (lines_are_text true t h.0) in
-    let both = IsLinesText-append false true (pairs t ++ []) (elements ([], key) (elements_of ts)) (scalar_lines t) (flat_map (element_lines key) ts) own more in
+    let both = IsLinesText-append false true (pairs t ++ []) (elements ([], key) (elements_of ts)) (scalar_lines t) (flat_map (element_lines key) ts) own
+    more in
     rw (no_sections (key ∷ []) t h.0) (header key, scalar_lines t ++ flat_map (element_lines key) ts, simp append_assoc, header_is_text key bare, both)
 
 -- an array among other keys
@@ -74,7 +76,8 @@ shallow key (t ∷ ts) more h low_more =
     let here : items_depth (elements_of (t ∷ ts)) ≤ 2 = low (t ∷ ts) h in
     high_max (items_depth (elements_of (t ∷ ts))) (members_depth more) here low_more
 
-pub dated_past : (key : List ℕ) (ts : List Members) (more : Members) → AreTables ts → members_have_valid_dates (with_tables key ts more) ≡ members_have_valid_dates more
+pub dated_past : (key : List ℕ) (ts : List Members) (more : Members) → AreTables ts →
+    members_have_valid_dates (with_tables key ts more) ≡ members_have_valid_dates more
 dated_past key [] more h = refl
 dated_past key (t ∷ ts) more h = rw (all_dated (t ∷ ts) h)
 

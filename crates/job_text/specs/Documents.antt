@@ -7,7 +7,8 @@ use Rattle.unit_timing.specs.declared.framing.Framing.{Framing}
 use Rattle.unit_timing.specs.declared.multiplexing_buffer.MultiplexingBuffer.{MultiplexingBuffer}
 use Rattle.job_text.specs.DescriptionParts.{EventPartView, HeadingView, NetworkPartView, ProgramPartView, StreamPartView, TablePartView}
 use Rattle.job_text.specs.KeyLines.{with_numbers, with_hex, with_list, digits_of}
-use Rattle.job_text.specs.Fields.{program_numbers, burst_numbers, frame_numbers, group_numbers, time_numbers, size_numbers, pace_numbers, place_numbers, leak_numbers, limit_numbers, drain_numbers, last_numbers, table_numbers}
+use Rattle.job_text.specs.Fields.{program_numbers, burst_numbers, frame_numbers, group_numbers, time_numbers, size_numbers, pace_numbers, place_numbers}
+use Rattle.job_text.specs.Fields.{leak_numbers, limit_numbers, drain_numbers, last_numbers, table_numbers}
 
 -- tables as the elements of an array
 abbrev pub elements_of : List Members → Items

@@ -85,5 +85,6 @@ abbrev pub TextsAreRead : Type 0
 TextsAreRead =
     (h : HeadingView) (es : List EventPartView) (n : Option NetworkPartView) (ps : List ProgramPartView) (ss : List StreamPartView) (ts : List TablePartView)
     → FitsHeading h → All FitsEvent es → FitsNetwork n → All FitsProgram ps → All FitsStream ss → All FitsTable ts
-    → parse_document (heading_text h ++ (flat_map event_text es ++ (network_if_any n ++ (flat_map program_text ps ++ (flat_map stream_text ss ++ flat_map table_text ts)))))
+    → parse_document
+    (heading_text h ++ (flat_map event_text es ++ (network_if_any n ++ (flat_map program_text ps ++ (flat_map stream_text ss ++ flat_map table_text ts)))))
     ≡ Some (document h (map event_table es) (option_map network_table n) (map program_table ps) (map stream_table ss) (map table_table ts))

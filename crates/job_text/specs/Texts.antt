@@ -4,7 +4,8 @@ use Rattle.hex.specs.Hex.{encode_lower}
 use Rattle.toml.specs.Data.{string, boolean, array}
 use Rattle.job_text.specs.DescriptionParts.{EventPartView, HeadingView, NetworkPartView, ProgramPartView, StreamPartView, TablePartView}
 use Rattle.job_text.specs.KeyLines.{key_line, number_line, number_lines, hex_line, list_line, digits_of, table_header, header}
-use Rattle.job_text.specs.Fields.{first_numbers, program_numbers, burst_numbers, frame_numbers, group_numbers, time_numbers, size_numbers, pace_numbers, place_numbers, leak_numbers, limit_numbers, drain_numbers, last_numbers, table_numbers}
+use Rattle.job_text.specs.Fields.{first_numbers, program_numbers, burst_numbers, frame_numbers, group_numbers, time_numbers, size_numbers, pace_numbers}
+use Rattle.job_text.specs.Fields.{place_numbers, leak_numbers, limit_numbers, drain_numbers, last_numbers, table_numbers}
 
 -- the keys of the document itself
 abbrev pub heading_text : HeadingView → List ℕ
@@ -63,7 +64,8 @@ stream_times s = number_lines (time_numbers s) ++ (number_lines (size_numbers s.
 
 abbrev pub stream_place : StreamPartView → List ℕ
 stream_place s =
-    number_lines (place_numbers s) ++ (number_lines (limit_numbers s.pts_limit) ++ (number_lines (leak_numbers s.multiplexing) ++ number_lines (drain_numbers s)))
+    number_lines (place_numbers s)
+    ++ (number_lines (limit_numbers s.pts_limit) ++ (number_lines (leak_numbers s.multiplexing) ++ number_lines (drain_numbers s)))
 
 abbrev pub stream_end : StreamPartView → List ℕ
 stream_end s = list_line (codes "shared_with") s.shared_with ++ number_lines (last_numbers s)

@@ -2,8 +2,8 @@
 
 ghost use Rattle.job_text.specs.Laws.{TextsAreRead};
 
-/// States that the texts of a heading, of a network if there is one, of programs, of streams and of tables, in this order, are by TOML's grammar the
-/// document of their keys and values.
+/// States that the texts of a heading, of a network if there is one, of programs, of streams and of tables, in this
+/// order, are by TOML's grammar the document of their keys and values.
 pub fn texts_are_read()
     ensures { TextsAreRead }
 {}

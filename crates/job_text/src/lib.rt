@@ -1,9 +1,9 @@
 //! A service description written in TOML, part by part.
 //!
-//! `Heading`, `EventPart`, `NetworkPart`, `ProgramPart`, `StreamPart` and `TablePart` are the parts of a description; each appends its
-//! lines. The heading comes first, then the events, the network if there is one, the programs, the streams and the private tables.
-//! `specs/Documents` says which keys and values a part has, `specs/Texts` how they are written, and the law
-//! `texts_are_read` that TOML's grammar reads the whole as that document.
+//! `Heading`, `EventPart`, `NetworkPart`, `ProgramPart`, `StreamPart` and `TablePart` are the parts of a description;
+//! each appends its lines. The heading comes first, then the events, the network if there is one, the programs, the
+//! streams and the private tables. `specs/Documents` says which keys and values a part has, `specs/Texts` how they are
+//! written, and the law `texts_are_read` that TOML's grammar reads the whole as that document.
 #![tactic(auto)]
 
 mod event_part;

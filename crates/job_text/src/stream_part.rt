@@ -29,7 +29,8 @@ pub struct StreamPart<'a> {
     pub size: u32,
     /// How long before its decoding time a unit may be sent, in units of 90 kHz.
     pub lead: u32,
-    /// How long after its decoding a unit may be presented, in units of 90 kHz; a second if the description does not say it.
+    /// How long after its decoding a unit may be presented, in units of 90 kHz; a second if the description does not
+    /// say it.
     pub pts_limit: Option<u32>,
     /// The rate at which its transport buffer is emptied, in bits a second.
     pub rx: u32,
@@ -49,8 +50,8 @@ pub struct StreamPart<'a> {
 
 impl StreamPart<'_> {
     /// Appends an empty line, `[[stream]]`, and its lines: every key, but `descriptors` and `shared_with` only if there
-    /// are any, `pts_limit` only if it has one, `rbx` and `mb` only if it has a multiplexing buffer, `frames`, `frame` and `frame_size` only if it has a
-    /// framing, and the keys of its packets by groups or by pace.
+    /// are any, `pts_limit` only if it has one, `rbx` and `mb` only if it has a multiplexing buffer, `frames`, `frame`
+    /// and `frame_size` only if it has a framing, and the keys of its packets by groups or by pace.
     pub fn write_text<A: Allocator + Clone>(&self, text: &mut String<A>) -> Result<(), AllocError>
         ensures { OnOk result (string_bytes text.new ≡ string_bytes text.old ++ stream_text (stream_view self.now)) }
     {

@@ -7,8 +7,8 @@ ghost use Rattle.job_text.specs.Texts.{table_back, table_front, table_text};
 use crate::key_line::{write_digits, write_digits_list, write_header, write_number, write_numbers};
 use std::alloc::{AllocError, Global};
 
-/// What a description says of ready-made sections on a PID of their own, and of their entry in the PMT of a program (ISO/IEC
-/// 13818-1, 2.4.4.8).
+/// What a description says of ready-made sections on a PID of their own, and of their entry in the PMT of a program
+/// (ISO/IEC 13818-1, 2.4.4.8).
 #[derive(Clone, Copy)]
 pub struct TablePart<'a> {
     pub pid: u16,

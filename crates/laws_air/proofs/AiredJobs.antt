@@ -1,5 +1,6 @@
 -- A run over a job that `mux` takes.
-use Rattle.std.proofs.Common.{◌≡◌, ◌≤◌, ◌+◌, ◌-◌, ◌*◌, ◌/◌, ◌^◌, ℕ, min, Bool, true, false, List, [], ◌∷◌, ◌++◌, length, Option, Some, None, Ok, Err, refl, sym, ap, ap₂, ◌∙◌, subst, arith, inl, inr, append_assoc}
+use Rattle.std.proofs.Common.{◌≡◌, ◌≤◌, ◌+◌, ◌-◌, ◌*◌, ◌/◌, ◌^◌, ℕ, min, Bool, true, false, List, [], ◌∷◌, ◌++◌, length, Option, Some, None, Ok, Err, refl, sym}
+use Rattle.std.proofs.Common.{ap, ap₂, ◌∙◌, subst, arith, inl, inr, append_assoc}
 use Rattle.std.specs.Prelude.{if◌then◌else◌, is_some, nat_lt, not, unwrap_or}
 use Rattle.std.proofs.lemmas.List.Elements.{filter-append}
 use Rattle.std.proofs.lemmas.Bool.{false≢true, lt-ltb}
@@ -71,11 +72,13 @@ of_units job rest j (Ok units) e w =
     record { units = e ∙ ap Ok mine; is = sym same ∙ ap (served job) mine }
 of_units job rest j (Err at) e w = absurd cc
 
-goes_on : (switch : Bool) (front rest : List ℕ) (job : JobView) → Ok job ≡ job_of switch front → job.rest ≡ [] → job_of switch (front ++ rest) ≡ Ok (record job { rest = rest })
+goes_on : (switch : Bool) (front rest : List ℕ) (job : JobView) → Ok job ≡ job_of switch front → job.rest ≡ [] →
+    job_of switch (front ++ rest) ≡ Ok (record job { rest = rest })
 goes_on switch front rest job e none =
     (job_kept switch front job (sym e)).more rest ∙ ap (λ (x : List ℕ). Ok (record job { rest = x ++ rest })) none
 
-is_of : (m : MuxOptions) (o : AirOptions) (bytes : List ℕ) (j : MuxJobView) (before left : Port) (job : JobView) (b : Begins o before left job) → o.periods ≡ m.periods →
+is_of : (m : MuxOptions) (o : AirOptions) (bytes : List ℕ) (j : MuxJobView) (before left : Port) (job : JobView) (b : Begins o before left job) →
+    o.periods ≡ m.periods →
     mux_job_of (is_some m.periods) bytes ≡ Ok j → (l : LeftOf bytes b.front left.bytes) → IsOf job l.rest j
 unfolding with_records
 is_of m o bytes j before left job b same taken l =
@@ -91,7 +94,8 @@ unfolding or_cause
 none_early None next e = e
 none_early (Some cause) next e = absurd cc
 
-scheduled_same : (m : MuxOptions) (o : AirOptions) (job : JobView) (j : MuxJobView) → AskTheSame m o → j ≡ served job j.units → (run_of o job).scheduled ≡ schedule_of m j
+scheduled_same : (m : MuxOptions) (o : AirOptions) (job : JobView) (j : MuxJobView) → AskTheSame m o → j ≡ served job j.units →
+    (run_of o job).scheduled ≡ schedule_of m j
 scheduled_same m o job j same is =
     ap (λ p. schedule_by (record { description = job.description; plan = job.plan }) job.second (unwrap_or p 0)) same.periods
     ∙ ap (λ (x : MuxJobView). schedule_of m x) (sym is)
@@ -102,7 +106,8 @@ pub none_of_job : (m : MuxOptions) (o : AirOptions) (job : JobView) (j : MuxJobV
 none_of_job m o job j same is taken =
     ap (λ (d : Scheduled). first_refused d (capacity_for j.units) [] j.units) (scheduled_same m o job j same is) ∙ none_early (range_cause m j) _ taken
 
-all_slots : (rate : ℕ) (slots : Option ℕ) (units : List (ℕ × AccessUnit)) → slots ≡ None → last_by rate (slots_or (2 ^ 40) slots) (greatest_of units) slots ≡ default_slots rate units
+all_slots : (rate : ℕ) (slots : Option ℕ) (units : List (ℕ × AccessUnit)) → slots ≡ None →
+    last_by rate (slots_or (2 ^ 40) slots) (greatest_of units) slots ≡ default_slots rate units
 unfolding last_by slots_or
 all_slots rate None units e =
     let same : greatest_of units - 0 ≡ greatest_of units = omega arith in
@@ -126,7 +131,8 @@ same_output_of : (m : MuxOptions) (o : AirOptions) (job : JobView) (j : MuxJobVi
 same_output_of m o job j same is =
     let d = scheduled_same m o job j same is in
     let slots : last_at (run_of o job) (greatest_of j.units) ≡ slots_of m j =
-    ap (λ (x : Scheduled). last_of x.description.rate o.terms (greatest_of j.units)) d ∙ all_slots (schedule_of m j).description.rate o.terms.slots j.units same.all_slots
+    ap (λ (x : Scheduled). last_of x.description.rate o.terms (greatest_of j.units)) d
+    ∙ all_slots (schedule_of m j).description.rate o.terms.slots j.units same.all_slots
     ∙ ap (λ (x : Scheduled). default_slots x.description.rate j.units) (sym d) ∙ ap (λ (x : Described). default_slots x.rate j.units) (described_same o job)
     ∙ ap (λ (x : MuxJobView). default_slots x.description.rate j.units) (sym is)
     ∙ sym (default_slots_of m.slots (default_slots j.description.rate j.units) same.slots) in
@@ -151,7 +157,8 @@ unread_status index Size e = cc
 unread_status index AtReader e = cc
 unread_status index Memory e = cc
 
-finished : (records : ℕ) (refused : Bool) (why : Option Ending) → (why ≡ None → refused ≡ true) → (why_outcome None records refused why).status ≡ 0 → Finished why refused
+finished : (records : ℕ) (refused : Bool) (why : Option Ending) → (why ≡ None → refused ≡ true) → (why_outcome None records refused why).status ≡ 0 →
+    Finished why refused
 unfolding why_outcome slots_outcome
 finished records refused None stopped e = absurd (let none : refused ≡ false = not_quiet refused e in let some : refused ≡ true = stopped refl in cc)
 finished records refused (Some Input) stopped e = record { is = refl; none = not_quiet refused e }
@@ -172,7 +179,8 @@ record HeardWhole (run : Run) (rest : List ℕ) (n : ℕ) : Type 0 where
 status_0 : (status : ℕ) → status ≡ 1 → status ≡ 0 → ⊥
 status_0 status a b = cc
 
-heard_of : (o : AirOptions) (run : Run) (input output faults : Device) (rest : List ℕ) (e : EndsRun o run input output faults 0) → o.terms.slots ≡ None → input.before.bytes ≡ Some rest →
+heard_of : (o : AirOptions) (run : Run) (input output faults : Device) (rest : List ℕ) (e : EndsRun o run input output faults 0) → o.terms.slots ≡ None →
+    input.before.bytes ≡ Some rest →
     HeardWhole run rest e.airs.heard_is.count
 unfolding end_outcome
 heard_of o run input output faults rest e slots bytes =
@@ -186,7 +194,8 @@ heard_of o run input output faults rest e slots bytes =
       none_left = (last (after_records e.airs.heard_is.count rest) told.1).0;
     }
 
-ended_output : (m : MuxOptions) (o : AirOptions) (bytes : List ℕ) (j : MuxJobView) (input output faults : Device) → AskTheSame m o → TakesJob m bytes j → input.before.bytes ≡ Some bytes →
+ended_output : (m : MuxOptions) (o : AirOptions) (bytes : List ℕ) (j : MuxJobView) (input output faults : Device) → AskTheSame m o → TakesJob m bytes j →
+    input.before.bytes ≡ Some bytes →
     (air : GoesOnAir o input output faults 0) → EndsRun o (run_of o air.job) (between air.left input.after) output faults 0 → Takes output (packets_of m j)
 ended_output m o bytes j input output faults same takes known air e =
     let run = run_of o air.job in
@@ -225,7 +234,8 @@ airs_what_mux_writes m o bytes j input output faults same takes known (inr (inr 
 
 -- ---- records in order
 
-has_room : (o : AirOptions) (job : JobView) (j : MuxJobView) → j ≡ served job j.units → needed_room (lead_of (run_of o job)) j.description.streams ≤ (run_of o job).capacity →
+has_room : (o : AirOptions) (job : JobView) (j : MuxJobView) → j ≡ served job j.units →
+    needed_room (lead_of (run_of o job)) j.description.streams ≤ (run_of o job).capacity →
     needed_room (lead_of (run_of o job)) (run_of o job).scheduled.description.streams ≤ (run_of o job).capacity
 has_room o job j is le =
     let same : j.description ≡ (run_of o job).scheduled.description = ap (λ (x : MuxJobView). x.description) is ∙ sym (described_same o job) in
@@ -248,7 +258,8 @@ refuses_none m o bytes j input output faults status same takes known air order e
     let split : without_ticks j.units ≡ without_ticks (records_of e.airs.heard_is.count l.rest) ++ without_ticks first.0 =
     ap without_ticks first.1 ∙ filter-append (λ entry. not (is_tick entry)) (records_of e.airs.heard_is.count l.rest) first.0 in
     let none_here = first_taken d other [] (without_ticks records) (without_ticks first.0) (ap (λ us. first_refused d other [] us) (sym split) ∙ none) in
-    let comes = first_in_order (run_of o air.job) (records_of e.airs.heard_is.count l.rest) first.0 (subst (ComeInOrder (run_of o air.job)) first.1 order.in_order) in
+    let comes = first_in_order (run_of o air.job) (records_of e.airs.heard_is.count l.rest) first.0
+    (subst (ComeInOrder (run_of o air.job)) first.1 order.in_order) in
     let taken = aired_in_order (run_of o air.job) (capacity_for (without_ticks j.units)) e.airs.heard_is.count l.rest (record {
       promises = air.promises;
       room = has_room o air.job j of.is order.room;

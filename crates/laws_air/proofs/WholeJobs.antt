@@ -1,5 +1,6 @@
 -- The records of a job, counted from its front, are the units that `mux` reads of it.
-use Rattle.std.proofs.Common.{◌≡◌, ◌+◌, ℕ, zero, suc, Bool, true, false, List, [], ◌∷◌, ◌++◌, length, Option, Some, None, Result, Ok, Err, refl, sym, ◌∙◌, subst, arith}
+use Rattle.std.proofs.Common.{◌≡◌, ◌+◌, ℕ, zero, suc, Bool, true, false, List, [], ◌∷◌, ◌++◌, length, Option, Some, None, Result, Ok, Err, refl, sym, ◌∙◌}
+use Rattle.std.proofs.Common.{subst, arith}
 use Rattle.std.specs.Prelude.{◌==◌, if◌then◌else◌, nat_lt, slice_index}
 use Rattle.std.proofs.Math.Seq.{drop-nil}
 use Rattle.std.proofs.lemmas.Bool.{ne_eqb}
@@ -32,7 +33,8 @@ none_after (x ∷ left) e = absurd (not_none (length (x ∷ left) == 0) (nat_lt 
     (nat_lt (length (x ∷ left)) (head_size + size_at (x ∷ left))) (slice_index (x ∷ left) 0, unit_at (x ∷ left))
     (ne_eqb (length (x ∷ left)) 0 (λ n. absurd (omega (arith, n)))) (unfold record_at in e))
 
-read_with : (xs : List ℕ) (units done : List (ℕ × AccessUnit)) (left : List ℕ) (found : Result (Option (ℕ × AccessUnit)) UnitFileError) → record_at left ≡ found →
+read_with : (xs : List ℕ) (units done : List (ℕ × AccessUnit)) (left : List ℕ) (found : Result (Option (ℕ × AccessUnit)) UnitFileError) →
+    record_at left ≡ found →
     units_in xs ≡ Ok units → ReadSoFar xs done left → ReadSoFar xs (with_entry found done) (after_record left)
 unfolding with_entry
 read_with xs units done left (Ok (Some entry)) is all r = read_more xs done left entry r is
@@ -42,10 +44,12 @@ read_with xs units done left (Err fault) is all r = absurd (let e : Err (length 
 read_first : (xs : List ℕ) (units : List (ℕ × AccessUnit)) (n : ℕ) → units_in xs ≡ Ok units → ReadSoFar xs (records_of n xs) (after_records n xs)
 unfolding records_of after_records
 read_first xs units zero all = read_none xs
-read_first xs units (suc n) all = read_with xs units (records_of n xs) (after_records n xs) (record_at (after_records n xs)) refl all (read_first xs units n all)
+read_first xs units (suc n) all =
+    read_with xs units (records_of n xs) (after_records n xs) (record_at (after_records n xs)) refl all (read_first xs units n all)
 
 -- all of them, where none is left
-pub all_records : (xs : List ℕ) (units : List (ℕ × AccessUnit)) (n : ℕ) → units_in xs ≡ Ok units → record_at (after_records n xs) ≡ Ok None → records_of n xs ≡ units
+pub all_records : (xs : List ℕ) (units : List (ℕ × AccessUnit)) (n : ℕ) → units_in xs ≡ Ok units → record_at (after_records n xs) ≡ Ok None →
+    records_of n xs ≡ units
 all_records xs units n all none = same_units (records_of n xs) units (read_all xs (records_of n xs) (after_records n xs) (read_first xs units n all) none ∙ all)
 
 joined_first : (done units : List (ℕ × AccessUnit)) (after : Units) → joined done after ≡ Ok units → (rest : List (ℕ × AccessUnit)) × (units ≡ done ++ rest)
@@ -54,7 +58,8 @@ joined_first done units (Ok entries) e = (entries, same_units units (done ++ ent
 joined_first done units (Err at) e = absurd cc
 
 -- the first of them, where some may be left
-pub first_records : (xs : List ℕ) (units : List (ℕ × AccessUnit)) (n : ℕ) → units_in xs ≡ Ok units → (rest : List (ℕ × AccessUnit)) × (units ≡ records_of n xs ++ rest)
+pub first_records : (xs : List ℕ) (units : List (ℕ × AccessUnit)) (n : ℕ) → units_in xs ≡ Ok units →
+    (rest : List (ℕ × AccessUnit)) × (units ≡ records_of n xs ++ rest)
 first_records xs units n all =
     let r = read_first xs units n all in
     joined_first (records_of n xs) units (units_from (suc r.spare) (length (records_of n xs)) (after_records n xs)) (sym r.is ∙ all)

@@ -43,6 +43,7 @@ pub record AreInOrder (run : Run) (j : MuxJobView) : Type 0 where
 
 -- a run over such a job that came to its end refused no record, neither a unit nor a tick
 abbrev pub RefusesNone : Type 0
-RefusesNone = (m : MuxOptions) (o : AirOptions) (bytes : List ℕ) (j : MuxJobView) (input output faults : Device) (status : ℕ) → AskTheSame m o → TakesUnits m bytes j →
+RefusesNone = (m : MuxOptions) (o : AirOptions) (bytes : List ℕ) (j : MuxJobView) (input output faults : Device) (status : ℕ) → AskTheSame m o →
+    TakesUnits m bytes j →
     input.before.bytes ≡ Some bytes → (air : GoesOnAir o input output faults status) → AreInOrder (run_of o air.job) j →
     (ends : EndsRun o (run_of o air.job) (between air.left input.after) output faults status) → ends.end.has_refused ≡ false

@@ -7,9 +7,9 @@ pub fn same_output()
     ensures { AirsWhatMuxWrites }
 {}
 
-/// States that `tsair` refuses no record of such a job, if they are in order of their DTS, or out of order by no more than
-/// the run waits, and no further ahead than it allows: no unit is late, and there is room for each. Ticks may be among
-/// them, each counted as a unit of its DTS for the records after it.
+/// States that `tsair` refuses no record of such a job, if they are in order of their DTS, or out of order by no more
+/// than the run waits, and no further ahead than it allows: no unit is late, and there is room for each. Ticks may be
+/// among them, each counted as a unit of its DTS for the records after it.
 pub fn none_refused()
     ensures { RefusesNone }
 {}

@@ -1,5 +1,6 @@
 -- The bytes between two clock references on which the clock goes on lie on the line through both.
-use Rattle.std.proofs.Common.{◌≡◌, ◌∙◌, sym, ℕ, zero, suc, ◌+◌, ◌-◌, ◌*◌, ◌≤◌, ◌<◌, ◌⊎◌, ◌&&◌, not, is_some, Bool, true, false, nat_lt, List, [], ◌∷◌, ◌++◌, length, Option, Some, None, refl, ap, subst, inl, inr, arith}
+use Rattle.std.proofs.Common.{◌≡◌, ◌∙◌, sym, ℕ, zero, suc, ◌+◌, ◌-◌, ◌*◌, ◌≤◌, ◌<◌, ◌⊎◌, ◌&&◌, not, is_some, Bool, true, false, nat_lt, List, [], ◌∷◌, ◌++◌}
+use Rattle.std.proofs.Common.{length, Option, Some, None, refl, ap, subst, inl, inr, arith}
 use Rattle.std.specs.Prelude.{IfSome, slice_get}
 use Rattle.std.specs.Option.{option_map}
 use Rattle.std.proofs.lemmas.Bool.{cases_lt, lt-ltb}
@@ -15,7 +16,8 @@ use Rattle.arrival.specs.Arrivals.{line_at}
 use Rattle.arrival.specs.declared.arrival.Arrival.{Arrival}
 use Rattle.arrival.specs.declared.arrival.Arrival.TheVariants.{OnLines}
 use Rattle.arrival.specs.declared.arrival.ClockLines.{ClockLines}
-use Rattle.clocked_packets.specs.Waiting.{QueueState, arrival_by, begun_by, clock_by, last_arrival, line_by, no_packet, reference_in, released, still_wait, stepped_by}
+use Rattle.clocked_packets.specs.Waiting.{QueueState, arrival_by, begun_by, clock_by, last_arrival, line_by, no_packet, reference_in, released, still_wait}
+use Rattle.clocked_packets.specs.Waiting.{stepped_by}
 use Rattle.laws_arrival.specs.Between.{AreQuiet, BetweenLaw, LiesOn, line_through, with_all}
 use Rattle.laws_arrival.specs.TimedPackets.{Timed, arrived, arriving_so, timed_from, timed_packets, waiting, with_one}
 use Rattle.laws_arrival.proofs.Leads.{at_here}
@@ -28,7 +30,8 @@ use Rattle.laws_arrival.proofs.Waits.{Comes, Waits, alone_waits, comes_with, one
 
 get_second : {A : Type 0} (xs ys : List A) (j : ℕ) → slice_get (xs ++ ys) (length xs + j) ≡ slice_get ys j
 get_second {A = A} [] ys j = let e : 0 + j ≡ j = omega arith in ap (λ (i : ℕ). slice_get ys i) e
-get_second {A = A} (x ∷ xs) ys j = let e : length (x ∷ xs) + j ≡ suc (length xs + j) = omega arith in ap (λ (i : ℕ). slice_get (x ∷ xs ++ ys) i) e ∙ get_second xs ys j
+get_second {A = A} (x ∷ xs) ys j = let e : length (x ∷ xs) + j ≡ suc (length xs + j) = omega arith in ap (λ (i : ℕ). slice_get (x ∷ xs ++ ys) i) e
+    ∙ get_second xs ys j
 
 abbrev arrival_in : List Timed → ℕ → Option Arrival
 arrival_in packets k = option_map (λ p. p.arrival) (slice_get packets k)
@@ -78,7 +81,8 @@ pub record WaitsAfter (q : QueueState) (here : ℕ) : Type 0 where
   pub first : ℕ
   pub waits : Waits q first here
 
-waits_one : (q : QueueState) (bytes : List ℕ) (first here : ℕ) → Waits q first here → (b : Bool) → still_wait q (reference_in q bytes) ≡ b → WaitsAfter (with_one q bytes) (here + 1)
+waits_one : (q : QueueState) (bytes : List ℕ) (first here : ℕ) → Waits q first here → (b : Bool) → still_wait q (reference_in q bytes) ≡ b →
+    WaitsAfter (with_one q bytes) (here + 1)
 waits_one q bytes first here w true h = record { first = first; waits = one_waits q bytes first here w (comes_with q bytes first here w) h }
 waits_one q bytes first here w false h = record { first = here; waits = alone_waits q bytes first here w (comes_with q bytes first here w) h }
 
@@ -141,7 +145,8 @@ taken_clock q r false h = rw h refl
 one_clock : (q : QueueState) (bytes : List ℕ) (r : ℕ × PcrSample) → reference_in q bytes ≡ Some r → (with_one q bytes).clock ≡ clocks.after q.clock r.1
 one_clock q bytes r is = ap (λ (o : Option (ℕ × PcrSample)). (stepped_by q o).clock) is ∙ taken_clock q r (still_wait q (Some r)) refl
 
-line_is : (clock : ArrivalClockState) (before sample : PcrSample) (t : TimedSample) → clock.clock.last ≡ Some t → t.sample ≡ before → goes_on before sample ≡ true →
+line_is : (clock : ArrivalClockState) (before sample : PcrSample) (t : TimedSample) → clock.clock.last ≡ Some t → t.sample ≡ before →
+    goes_on before sample ≡ true →
     line_to clock sample ≡ Some (line_through clock.moment before sample)
 unfolding step_after step_from line_from
 line_is clock before sample t last same e =
@@ -162,11 +167,13 @@ first_so : (lines : ClockLines) (held : List (List ℕ)) (rest : List Timed) (fi
 first_so lines held rest first line some before next = record { lines = lines; arrival = get_so (OnLines lines) held rest 0 some; before = before; next = next }
 
 -- the next line begins with the last reference
-begins_there : (q : QueueState) (o : Option (ℕ × PcrSample)) (first here : ℕ) (line l : Line) → Waits q first here → Comes q o first here → q.before ≡ Some line →
+begins_there : (q : QueueState) (o : Option (ℕ × PcrSample)) (first here : ℕ) (line l : Line) → Waits q first here → Comes q o first here →
+    q.before ≡ Some line →
     (clock_by q o).line ≡ Some l → (l ≡ line) ⊎ (188 * first + 10 ≤ l.byte)
 begins_there q o first here line l w c is then_line =
     let known : q.clock.line ≡ Some line = sym w.before ∙ is in
-    let meets : Meet (Some line) (Some l) first = subst (λ (x : Option Line). Meet (Some line) x first) then_line (subst (λ (x : Option Line). Meet x (clock_by q o).line first) known c.meets) in
+    let meets : Meet (Some line) (Some l) first =
+    subst (λ (x : Option Line). Meet (Some line) x first) then_line (subst (λ (x : Option Line). Meet x (clock_by q o).line first) known c.meets) in
     let origin : Origin q.clock.clock.last first (Some l) = subst (λ (x : Option Line). Origin q.clock.clock.last first x) then_line c.origin in
     elim meets.1.same_or_within [
       | inl same ↦ inl same
@@ -180,7 +187,8 @@ begins_there q o first here line l w c is then_line =
       ]
     ]
 
-last_on : (q : QueueState) (first here : ℕ) (line : Line) → Waits q first here → q.before ≡ Some line → 0 < length q.held → FirstOn (arriving_so (last_arrival q) q.held) first line
+last_on : (q : QueueState) (first here : ℕ) (line : Line) → Waits q first here → q.before ≡ Some line → 0 < length q.held →
+    FirstOn (arriving_so (last_arrival q) q.held) first line
 unfolding arrival_by
 last_on q first here line w is some =
     let known : q.clock.line ≡ Some line = sym w.before ∙ is in
@@ -263,7 +271,8 @@ first_line packets m i line f le = elim f.next [
 ]
 
 -- those that arrive at the second reference, and then the packet with it
-two_kinds : (held : List (List ℕ)) (later : List Timed) (a : Arrival) (line : Line) (f m k i : ℕ) → f + length held ≡ m → f ≤ k → SecondOn a line → FirstOn later m line →
+two_kinds : (held : List (List ℕ)) (later : List Timed) (a : Arrival) (line : Line) (f m k i : ℕ) → f + length held ≡ m → f ≤ k → SecondOn a line →
+    FirstOn later m line →
     line.byte < i → i ≤ 188 * m + 10 → 188 * k ≤ i → LiesOn (arriving_so a held ++ later) (k - f) i line
 two_kinds held later a line f m k i place low on first after until at = elim (cases_lt k m) [
   | inl early ↦ record {
@@ -287,7 +296,8 @@ shifted front packets f k i line many low on =
     let place : k ≡ length front + (k - f) = omega (arith, many, low) in
     record {
       lines = on.lines;
-      arrival = ap (λ (j : ℕ). arrival_in (front ++ packets) j) place ∙ ap (λ (x : Option Timed). option_map (λ p. p.arrival) x) (get_second front packets (k - f)) ∙ on.arrival;
+      arrival = ap (λ (j : ℕ). arrival_in (front ++ packets) j) place
+          ∙ ap (λ (x : Option Timed). option_map (λ p. p.arrival) x) (get_second front packets (k - f)) ∙ on.arrival;
       is = on.is;
     }
 
@@ -331,7 +341,8 @@ between_law pid before a between b later r r' k i ra quiet few rb goes low high 
     let many : length front ≡ w1.first =
     omega (arith, many_left (no_packet pid) (before ++ a ∷ []), ap (λ (x : QueueState). length x.held) q1_is, w1.waits.held, length-append before (a ∷ [])) in
     let whole : timed_packets pid (before ++ a ∷ between ++ b ∷ later) ≡ front ++ (arriving_so at q2.held ++ timed_from q3 later) =
-    ap (λ (l : List (List ℕ)). timed_from (no_packet pid) l) (append_assoc before (a ∷ between) (b ∷ later) ∙ sym (append_assoc before (a ∷ []) (between ++ b ∷ later)))
+    ap (λ (l : List (List ℕ)). timed_from (no_packet pid) l)
+    (append_assoc before (a ∷ between) (b ∷ later) ∙ sym (append_assoc before (a ∷ []) (between ++ b ∷ later)))
     ∙ split (no_packet pid) (before ++ a ∷ []) (between ++ b ∷ later)
     ∙ ap (λ (x : QueueState). front ++ timed_from x (between ++ b ∷ later)) q1_is
     ∙ ap (λ (l : List Timed). front ++ l) (quieted.same ∙ from_b) in

@@ -1,5 +1,6 @@
 -- A packet of 188 bytes with a clock reference: its payload stands behind the reference.
-use Rattle.std.proofs.Common.{◌≡◌, ◌∙◌, sym, ℕ, ◌+◌, ◌≤◌, Bool, true, false, is_some, List, [], ◌∷◌, length, take, drop, Option, Some, None, Result, Ok, Err, if◌then◌else◌, refl, ap, arith}
+use Rattle.std.proofs.Common.{◌≡◌, ◌∙◌, sym, ℕ, ◌+◌, ◌≤◌, Bool, true, false, is_some, List, [], ◌∷◌, length, take, drop, Option, Some, None, Result, Ok, Err}
+use Rattle.std.proofs.Common.{if◌then◌else◌, refl, ap, arith}
 use Rattle.std.specs.Prelude.{◌==◌, ◌/◌, ◌%◌, nat_lt, slice_index, unwrap_or}
 use Rattle.std.proofs.lemmas.Bool.Decides.{nat_tests}
 use Rattle.std.proofs.lemmas.List.{length-drop, length-take}
@@ -10,7 +11,8 @@ use Rattle.clock27.specs.Reference.{Reference}
 use Rattle.ts_packet.specs.declared.header.Header.{Header}
 use Rattle.ts_packet.specs.declared.packet.PacketError.{PacketError}
 use Rattle.ts_packet.specs.declared.packet.PacketError.TheVariants.{Sync, ReservedControl, FieldTooLong, PartTooLong}
-use Rattle.ts_packet.specs.Reading.{adaptation_at, body_at, countdown_at, field_at, header_of, length_prefixed_at, packet_at, parts_at, reference_at, reference_of}
+use Rattle.ts_packet.specs.Reading.{adaptation_at, body_at, countdown_at, field_at, header_of, length_prefixed_at, packet_at, parts_at, reference_at}
+use Rattle.ts_packet.specs.Reading.{reference_of}
 use Rattle.ts_packet.specs.Views.{AdaptationView, FieldView, NoFlags, WithFlags, PacketView}
 
 -- the reference of an adaptation field
@@ -36,7 +38,8 @@ reference_long false bytes read e some =
     absurd (let none : ⊥ = cc in none)
 reference_long true bytes read e some = by (nat_lt (length bytes) 6) refl e
   where
-    by : (b : Bool) → nat_lt (length bytes) 6 ≡ b → (if b then Err PartTooLong else Ok (Some (reference_of (take 6 bytes)), drop 6 bytes)) ≡ Ok read → 6 ≤ length bytes
+    by : (b : Bool) → nat_lt (length bytes) 6 ≡ b → (if b then Err PartTooLong else Ok (Some (reference_of (take 6 bytes)), drop 6 bytes)) ≡ Ok read →
+        6 ≤ length bytes
     by true h e = absurd (let no : ⊥ = cc in no)
     by false h e = grind (arith, nat_tests)
 
@@ -78,7 +81,8 @@ field_rest most (n ∷ bytes) field e some =
     omega (arith, long, length-take n bytes, length-drop n bytes, ap (λ (l : List ℕ). length l) rest)
 
 -- so the payload of a packet that has one
-body_rest : (header : Header) (control : ℕ) (bytes : List ℕ) (packet : PacketView) → body_at header control bytes ≡ Ok packet → is_some (pcr_in packet.adaptation) ≡ true →
+body_rest : (header : Header) (control : ℕ) (bytes : List ℕ) (packet : PacketView) → body_at header control bytes ≡ Ok packet →
+    is_some (pcr_in packet.adaptation) ≡ true →
     8 ≤ length bytes → 8 + length (unwrap_or packet.payload []) ≤ length bytes
 unfolding body_at pcr_in
 body_rest header control bytes packet e some long =
@@ -112,7 +116,8 @@ pub packet_rest : (bytes : List ℕ) (packet : PacketView) → length bytes ≡ 
 unfolding packet_at
 packet_rest bytes packet whole e some = by (slice_index bytes 0 == 0x47) e
   where
-    by : (b : Bool) → (if b then body_at (header_of bytes) (slice_index bytes 3 / 16 % 4) (drop 4 bytes) else Err Sync) ≡ Ok packet → length (unwrap_or packet.payload []) ≤ 176
+    by : (b : Bool) → (if b then body_at (header_of bytes) (slice_index bytes 3 / 16 % 4) (drop 4 bytes) else Err Sync) ≡ Ok packet →
+        length (unwrap_or packet.payload []) ≤ 176
     by true e =
         let size = length-drop 4 bytes in
         omega (arith, size, whole, body_rest (header_of bytes) (slice_index bytes 3 / 16 % 4) (drop 4 bytes) packet e some (omega (arith, size, whole)))

@@ -1,5 +1,6 @@
 -- Where a line begins within a packet, its payload lies on that line.
-use Rattle.std.proofs.Common.{◌≡◌, sym, ℕ, ◌+◌, ◌-◌, ◌*◌, ◌≤◌, ◌<◌, ◌&&◌, not, Bool, true, false, nat_le, nat_lt, is_some, List, [], ◌∷◌, ◌++◌, length, All, Option, Some, None, Result, Ok, Err, if◌then◌else◌, refl, subst, inl, inr, arith}
+use Rattle.std.proofs.Common.{◌≡◌, sym, ℕ, ◌+◌, ◌-◌, ◌*◌, ◌≤◌, ◌<◌, ◌&&◌, not, Bool, true, false, nat_le, nat_lt, is_some, List, [], ◌∷◌, ◌++◌, length, All}
+use Rattle.std.proofs.Common.{Option, Some, None, Result, Ok, Err, if◌then◌else◌, refl, subst, inl, inr, arith}
 use Rattle.std.specs.Prelude.{IfSome, unwrap_or}
 use Rattle.std.specs.Option.{option_map}
 use Rattle.std.proofs.lemmas.Bool.Decides.{nat_tests}
@@ -17,7 +18,8 @@ use Rattle.arrival.specs.Arrivals.{lead_of}
 use Rattle.arrival.specs.declared.arrival.Arrival.{Arrival}
 use Rattle.arrival.specs.declared.arrival.Arrival.TheVariants.{Unknown, OnLines}
 use Rattle.arrival.specs.declared.arrival.ClockLines.{ClockLines}
-use Rattle.clocked_packets.specs.Waiting.{QueueState, arrival_by, begun_by, clock_by, is_of_clock, no_packet, reference_in, reference_read, released, still_wait}
+use Rattle.clocked_packets.specs.Waiting.{QueueState, arrival_by, begun_by, clock_by, is_of_clock, no_packet, reference_in, reference_read, released}
+use Rattle.clocked_packets.specs.Waiting.{still_wait}
 use Rattle.clocked_packets.specs.declared.packet_queue.ClockPid.{ClockPid}
 use Rattle.laws_arrival.specs.Leads.{AllLead, LeadLaw, payload_in, payload_size}
 use Rattle.laws_arrival.specs.TimedPackets.{Timed, arrived, arriving_so, timed_from, waiting, with_one}
@@ -47,7 +49,8 @@ if_has : (o : Option PcrSample) (pid size : ℕ) (has : Bool) → IfSome o (λ s
 if_has None pid size has is small = tt
 if_has (Some sample) pid size has is small = small is
 
-read_small : (clock : ClockPid) (index : ℕ) (read : Result PacketView PacketError) → ((packet : PacketView) → read ≡ Ok packet → is_some (pcr_in packet.adaptation) ≡ true →
+read_small : (clock : ClockPid) (index : ℕ) (read : Result PacketView PacketError) →
+    ((packet : PacketView) → read ≡ Ok packet → is_some (pcr_in packet.adaptation) ≡ true →
     length (unwrap_or packet.payload []) ≤ 176) → IfSome (reference_read clock index read) (λ r. payload_in read ≤ 176)
 unfolding reference_read payload_in
 read_small clock index (Err error) small = tt
@@ -56,8 +59,10 @@ read_small clock index (Ok packet) small = by (not packet.header.transport_error
     size : ℕ
     size = length (unwrap_or packet.payload [])
 
-    by : (b : Bool) → IfSome {T = ℕ × PcrSample} (if b then option_map (λ sample. (packet.header.pid, sample)) (pcr_sample index packet) else None) (λ r. size ≤ 176)
-    by true = if_has (pcr_sample index packet) packet.header.pid size (is_some (pcr_in packet.adaptation)) (sample_has index packet.adaptation) (small packet refl)
+    by : (b : Bool) → IfSome {T = ℕ × PcrSample} (if b then option_map (λ sample. (packet.header.pid, sample)) (pcr_sample index packet) else None)
+        (λ r. size ≤ 176)
+    by true = if_has (pcr_sample index packet) packet.header.pid size (is_some (pcr_in packet.adaptation)) (sample_has index packet.adaptation)
+        (small packet refl)
     by false = tt
 
 pub reference_small : (q : QueueState) (bytes : List ℕ) → length bytes ≡ 188 → IfSome (reference_in q bytes) (λ r. payload_size bytes ≤ 176)
@@ -78,7 +83,8 @@ head_after byte index [] before = tt
 head_after byte index (bytes ∷ packets) before =
     (λ begun ends. absurd (let no : ⊥ = omega (arith, begun, before) in no), head_after byte (index + 1) packets (omega (arith, before)))
 
-head_one : (byte index : ℕ) (packets : List (List ℕ)) (bytes : List ℕ) → AllHead byte index packets → HeadAt byte (index + length packets) bytes → AllHead byte index (packets ++ bytes ∷ [])
+head_one : (byte index : ℕ) (packets : List (List ℕ)) (bytes : List ℕ) → AllHead byte index packets → HeadAt byte (index + length packets) bytes →
+    AllHead byte index (packets ++ bytes ∷ [])
 unfolding AllHead
 head_one byte index [] bytes all one = let e : index + 0 ≡ index = omega arith in (rw e at one, tt)
 head_one byte index (p ∷ packets) bytes all one =
@@ -99,7 +105,8 @@ reference_head here sample bytes at small begun ends = omega (arith, at, small)
 
 -- ---- so of those that arrive
 
-timed_leads : (lines : ClockLines) (index : ℕ) (packets : List (List ℕ)) → AllHead lines.line.byte index packets → AllLead index (arriving_so (OnLines lines) packets)
+timed_leads : (lines : ClockLines) (index : ℕ) (packets : List (List ℕ)) → AllHead lines.line.byte index packets →
+    AllLead index (arriving_so (OnLines lines) packets)
 unfolding AllHead AllLead lead_of
 timed_leads lines index [] all = tt
 timed_leads lines index (bytes ∷ packets) all =
@@ -110,7 +117,8 @@ timed_leads lines index (bytes ∷ packets) all =
 
     by : (a b : Bool) → nat_le (188 * index) lines.line.byte ≡ a → nat_lt lines.line.byte (188 * index + 188) ≡ b →
         0 < (if nat_le (188 * index) lines.line.byte && nat_lt lines.line.byte (188 * index + 188) then lines.line.byte + 1 - 188 * index else 0) →
-        (if nat_le (188 * index) lines.line.byte && nat_lt lines.line.byte (188 * index + 188) then lines.line.byte + 1 - 188 * index else 0) + payload_size bytes ≤ 188
+        (if nat_le (188 * index) lines.line.byte && nat_lt lines.line.byte (188 * index + 188) then lines.line.byte + 1 - 188 * index else 0)
+        + payload_size bytes ≤ 188
     by true true e f some = rw (e, f) (all.0 (grind (arith, nat_tests)) (grind (arith, nat_tests)))
     by true false e f some = absurd (let no : 0 < 0 = rw (e, f) at some in omega (arith, no))
     by false b e f some = absurd (let no : 0 < 0 = rw e at some in omega (arith, no))
@@ -120,7 +128,8 @@ unfolding AllLead lead_of
 unknown_leads index [] = tt
 unknown_leads index (bytes ∷ packets) = (λ some. absurd (let no : ⊥ = omega (arith, some) in no), unknown_leads (index + 1) packets)
 
-those_lead : (before line : Option Line) (index : ℕ) (packets : List (List ℕ)) → IfSome line (λ l. AllHead l.byte index packets) → AllLead index (arriving_so (arrival_by before line) packets)
+those_lead : (before line : Option Line) (index : ℕ) (packets : List (List ℕ)) → IfSome line (λ l. AllHead l.byte index packets) →
+    AllLead index (arriving_so (arrival_by before line) packets)
 unfolding arrival_by
 those_lead before None index packets all = unknown_leads index packets
 those_lead None (Some line) index packets all = timed_leads (record { before = line; line = line }) index packets all
@@ -145,7 +154,8 @@ line_heads last (Some line) first held heads (inl far) = head_after line.byte fi
 line_heads last (Some line) first held heads (inr from) = rw from.byte (rw from.is at heads)
 
 -- the packet that comes, where those before wait still, and where it waits alone
-still_head : (q : QueueState) (o : Option (ℕ × PcrSample)) (bytes : List ℕ) (first here : ℕ) → Waits q first here → Heads q first → IfSome o (λ r. IsAt here r.1) →
+still_head : (q : QueueState) (o : Option (ℕ × PcrSample)) (bytes : List ℕ) (first here : ℕ) → Waits q first here → Heads q first →
+    IfSome o (λ r. IsAt here r.1) →
     IfSome o (λ r. payload_size bytes ≤ 176) → IfSome (clock_by q o).clock.last (λ l. AllHead l.sample.byte first (q.held ++ bytes ∷ []))
 unfolding clock_by
 still_head q None bytes first here w heads at small = kept q.clock.clock.last w.clock.placed heads
@@ -159,13 +169,15 @@ still_head q (Some r) bytes first here w heads at small =
     head_one r.1.byte first q.held bytes (head_before r.1.byte first q.held (omega (arith, at.byte, w.held)))
     (reference_head (first + length q.held) r.1 bytes (omega (arith, at.byte, w.held)) small)
 
-alone_head : (q : QueueState) (o : Option (ℕ × PcrSample)) (bytes : List ℕ) (here : ℕ) → IfSome o (λ r. IsAt here r.1) → IfSome o (λ r. payload_size bytes ≤ 176) →
+alone_head : (q : QueueState) (o : Option (ℕ × PcrSample)) (bytes : List ℕ) (here : ℕ) → IfSome o (λ r. IsAt here r.1) →
+    IfSome o (λ r. payload_size bytes ≤ 176) →
     IfSome (begun_by (clock_by q o) o).clock.last (λ l. AllHead l.sample.byte here (bytes ∷ []))
 unfolding clock_by begun_by AllHead
 alone_head q None bytes here at small = tt
 alone_head q (Some r) bytes here at small = (reference_head here r.1 bytes at.byte small, tt)
 
-pub at_here : (q : QueueState) (o : Option (ℕ × PcrSample)) (first here : ℕ) → Waits q first here → IfSome o (λ r. IsAt q.packets r.1) → IfSome o (λ r. IsAt here r.1)
+pub at_here : (q : QueueState) (o : Option (ℕ × PcrSample)) (first here : ℕ) → Waits q first here → IfSome o (λ r. IsAt q.packets r.1) →
+    IfSome o (λ r. IsAt here r.1)
 at_here q None first here w at = tt
 at_here q (Some r) first here w at = exact q.packets here r.1 w.count at
 

@@ -1,5 +1,6 @@
 -- Bytes of packets that arrive one after another: their times rise.
-use Rattle.std.proofs.Common.{◌≡◌, sym, ℕ, zero, suc, ◌+◌, ◌*◌, ◌≤◌, ◌<◌, Bool, true, false, List, [], ◌∷◌, ◌++◌, length, if◌then◌else◌, refl, inl, inr, arith, All}
+use Rattle.std.proofs.Common.{◌≡◌, sym, ℕ, zero, suc, ◌+◌, ◌*◌, ◌≤◌, ◌<◌, Bool, true, false, List, [], ◌∷◌, ◌++◌, length, if◌then◌else◌, refl, inl, inr, arith}
+use Rattle.std.proofs.Common.{All}
 use Rattle.std.proofs.lemmas.Bool.{cases_lt, le-leb, lt-leb}
 use Rattle.std.proofs.lemmas.List.{append_assoc}
 use Rattle.std.proofs.lemmas.List.Elements.{All-nil, All-cons, All-append, All-weaker}
@@ -36,13 +37,15 @@ both_between low middle high times more p q = record {
 }
 
 -- bytes one after another
-pub bytes_between : (arrival : Arrival) (drain i n : ℕ) → InOrder arrival drain → Between (time_of arrival drain i) (time_of arrival drain (i + n)) (times_from arrival drain i n)
+pub bytes_between : (arrival : Arrival) (drain i n : ℕ) → InOrder arrival drain →
+    Between (time_of arrival drain i) (time_of arrival drain (i + n)) (times_from arrival drain i n)
 unfolding times_from
 bytes_between arrival drain i zero order = none_between (time_of arrival drain i) (time_of arrival drain (i + zero)) (order i (i + zero) (omega arith))
 bytes_between arrival drain i (suc n) order =
     let t : ℕ = time_of arrival drain i in
     let e : suc i + n ≡ i + suc n = omega arith in
-    let rest : Between (time_of arrival drain (suc i)) (time_of arrival drain (i + suc n)) (times_from arrival drain (suc i) n) = rw e at (bytes_between arrival drain (suc i) n order) in
+    let rest : Between (time_of arrival drain (suc i)) (time_of arrival drain (i + suc n)) (times_from arrival drain (suc i) n) =
+    rw e at (bytes_between arrival drain (suc i) n order) in
     let next : t ≤ time_of arrival drain (suc i) = order i (suc i) (omega arith) in
     let one : Between t (time_of arrival drain (suc i)) (t ∷ []) = record {
       rises = unfold Rises in (omega arith, tt);
@@ -71,14 +74,16 @@ packet_between arrival drain index counts order = by counts (has_times arrival (
     by false b = none
 
 pub packets_between : (arrival : Arrival) (chosen : ℕ → List ℕ → Bool) (drain index : ℕ) (packets : List (List ℕ)) → InOrder arrival drain →
-    Between (time_of arrival drain (188 * index)) (time_of arrival drain (188 * (index + length packets))) (times_among chosen drain index (arriving_so arrival packets))
+    Between (time_of arrival drain (188 * index)) (time_of arrival drain (188 * (index + length packets)))
+    (times_among chosen drain index (arriving_so arrival packets))
 unfolding times_among
 packets_between arrival chosen drain index [] order =
     none_between (time_of arrival drain (188 * index)) (time_of arrival drain (188 * (index + 0))) (order (188 * index) (188 * (index + 0)) (omega arith))
 packets_between arrival chosen drain index (bytes ∷ packets) order =
     let e : index + 1 + length packets ≡ index + length (bytes ∷ packets) = omega arith in
     let rest = rw e at (packets_between arrival chosen drain (index + 1) packets order) in
-    both_between (time_of arrival drain (188 * index)) (time_of arrival drain (188 * (index + 1))) (time_of arrival drain (188 * (index + length (bytes ∷ packets))))
+    both_between (time_of arrival drain (188 * index)) (time_of arrival drain (188 * (index + 1)))
+    (time_of arrival drain (188 * (index + length (bytes ∷ packets))))
     (if chosen index bytes then packet_times drain index arrival else []) (times_among chosen drain (index + 1) (arriving_so arrival packets))
     (packet_between arrival drain index (chosen index bytes) order) rest
 
@@ -107,13 +112,19 @@ lines_in_order lines first drain meet i j le = elim (cases_lt lines.line.byte i)
   | inr early ↦ elim (cases_lt lines.line.byte j) [
     | inl late ↦
         rw (before_is lines i early, after_is lines j late)
-        (omega (arith, rises drain lines.before i lines.line.byte meet.begun early, meet.meets drain, rises drain lines.line lines.line.byte j meet.some (omega (arith, late))))
+        (omega (
+          arith,
+          rises drain lines.before i lines.line.byte meet.begun early,
+          meet.meets drain,
+          rises drain lines.line lines.line.byte j meet.some (omega (arith, late)),
+        ))
     | inr soon ↦ rw (before_is lines i early, before_is lines j soon) (rises drain lines.before i j meet.begun le)
   ]
 ]
 
 -- their first time, and their last
-pub first_time : (lines : ClockLines) (first drain : ℕ) → MeetAt lines.before lines.line first → arrival_at drain lines.before (188 * first) ≡ time_of (OnLines lines) drain (188 * first)
+pub first_time : (lines : ClockLines) (first drain : ℕ) → MeetAt lines.before lines.line first →
+    arrival_at drain lines.before (188 * first) ≡ time_of (OnLines lines) drain (188 * first)
 unfolding time_of
 first_time lines first drain meet = elim meet.same_or_within [
   | inl same ↦ elim (cases_lt lines.line.byte (188 * first)) [

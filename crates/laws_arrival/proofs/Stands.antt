@@ -1,5 +1,6 @@
 -- A clock whose references came one after another: its line meets the next one.
-use Rattle.std.proofs.Common.{◌≡◌, ◌∙◌, sym, ℕ, ◌+◌, ◌-◌, ◌*◌, ◌^◌, ◌≤◌, ◌<◌, ◌⊎◌, ◌&&◌, not, nat_le, nat_lt, Bool, true, false, Option, Some, None, refl, inl, inr, arith}
+use Rattle.std.proofs.Common.{◌≡◌, ◌∙◌, sym, ℕ, ◌+◌, ◌-◌, ◌*◌, ◌^◌, ◌≤◌, ◌<◌, ◌⊎◌, ◌&&◌, not, nat_le, nat_lt, Bool, true, false, Option, Some, None, refl, inl}
+use Rattle.std.proofs.Common.{inr, arith}
 use Rattle.std.specs.Prelude.{IfSome}
 use Rattle.std.proofs.lemmas.Bool.Decides.{nat_tests}
 use Rattle.std.proofs.Math.Nat.{mul-le-mul_left}
@@ -98,7 +99,8 @@ reaches_anew line byte is le scale =
     omega (arith, by_tick scale line byte some, mul-le-mul_left scale soon)
 
 pub anew : (last : TimedSample) (sample : PcrSample) (line : Option Line) (first here k : ℕ) → last.sample ≡ sample → first ≤ here → IsAt here sample →
-    IfSome line (λ l. IsClockLine l × (l.byte + 178 ≤ 188 * first)) → IfSome line (λ l. k ≡ here) → Stands (Some last) (moment_anew line sample.byte) line k (here + 1)
+    IfSome line (λ l. IsClockLine l × (l.byte + 178 ≤ 188 * first)) → IfSome line (λ l. k ≡ here) →
+    Stands (Some last) (moment_anew line sample.byte) line k (here + 1)
 anew last sample None first here k same le at is place = record {
   placed = rw same (first_moment sample.byte, omega (arith, at.byte));
   begun = tt;
@@ -143,7 +145,8 @@ reaches_end before sample moment on scale =
     let end = rw e at (ends scale (line_with before sample moment) (omega (arith, on.apart))) in
     omega (arith, end)
 
-pub goes_on_line : (last before : TimedSample) (sample : PcrSample) (moment first here : ℕ) → last.sample ≡ sample → IsAt here sample → GoesOnFrom before sample →
+pub goes_on_line : (last before : TimedSample) (sample : PcrSample) (moment first here : ℕ) → last.sample ≡ sample → IsAt here sample →
+    GoesOnFrom before sample →
     IsMoment before.sample.byte moment → before.sample.byte + 178 ≤ 188 * here →
     Stands (Some last) (moment + elapsed before.sample.ticks sample.ticks) (Some (line_with before sample moment)) here (here + 1)
 goes_on_line last before sample moment first here same at on is le = record {
@@ -154,7 +157,8 @@ goes_on_line last before sample moment first here same at on is le = record {
 
 -- it meets the line before
 pub meets_before : (before : TimedSample) (sample : PcrSample) (line : Option Line) (moment first here : ℕ) → GoesOnFrom before sample →
-    IfSome line (λ l. IsClockLine l × (l.byte + 178 ≤ 188 * first)) → MeetsLast first moment line before → Meet line (Some (line_with before sample moment)) first
+    IfSome line (λ l. IsClockLine l × (l.byte + 178 ≤ 188 * first)) → MeetsLast first moment line before →
+    Meet line (Some (line_with before sample moment)) first
 meets_before before sample None moment first here on is meets = (omega (arith, on.apart), tt)
 meets_before before sample (Some line) moment first here on is meets =
     let some : 0 < (line_with before sample moment).bytes = omega (arith, on.apart) in (
@@ -185,7 +189,8 @@ pub record FromLast (last : Option TimedSample) (line : Line) : Type 0 where
 abbrev pub Origin : Option TimedSample → ℕ → Option Line → Type 0
 Origin last first line = IfSome line (λ l. (l.byte + 178 ≤ 188 * first) ⊎ FromLast last l)
 
-pub origin_before : (last : Option TimedSample) (first : ℕ) (line : Option Line) → IfSome line (λ l. IsClockLine l × (l.byte + 178 ≤ 188 * first)) → Origin last first line
+pub origin_before : (last : Option TimedSample) (first : ℕ) (line : Option Line) → IfSome line (λ l. IsClockLine l × (l.byte + 178 ≤ 188 * first)) →
+    Origin last first line
 origin_before last first None is = tt
 origin_before last first (Some line) is = inl is.1
 
@@ -196,7 +201,8 @@ pub record Next (clock : ArrivalClockState) (sample : PcrSample) (first here : �
   pub none : line_to clock sample ≡ None → clock.line ≡ None
   pub origin : Origin clock.clock.last first (line_to clock sample)
 
-next_anew : (clock : ArrivalClockState) (sample : PcrSample) (first here : ℕ) → Stands clock.clock.last clock.moment clock.line first here → first ≤ here → IsAt here sample →
+next_anew : (clock : ArrivalClockState) (sample : PcrSample) (first here : ℕ) → Stands clock.clock.last clock.moment clock.line first here → first ≤ here →
+    IsAt here sample →
     Anew clock.clock.last sample → Next clock sample first here
 next_anew clock sample first here s le at n =
     let same : line_to clock sample ≡ clock.line = rw (n.none clock.moment) refl in
@@ -218,13 +224,16 @@ next_on clock sample first here s at o =
     record {
       stands = λ k place.
           let here_is : k ≡ here = rw same at place in
-          rw (same, o.step, here_is) (goes_on_line (record { sample = sample; moment = clock_moment (GoesOn (clock_line o.before sample)) sample }) o.before sample clock.moment first here refl at o.goes last.0 last.1);
+          rw (same, o.step, here_is)
+          (goes_on_line (record { sample = sample; moment = clock_moment (GoesOn (clock_line o.before sample)) sample }) o.before sample clock.moment first
+          here refl at o.goes last.0 last.1);
       meets = rw same (meets_before o.before sample clock.line clock.moment first here o.goes s.begun (rw o.is at s.meets));
       none = λ e. absurd (let no : ⊥ = cc in no);
       origin = rw same (inr (record { before = o.before; is = o.is; byte = refl }));
     }
 
-pub next : (clock : ArrivalClockState) (sample : PcrSample) (first here : ℕ) → Stands clock.clock.last clock.moment clock.line first here → first ≤ here → IsAt here sample →
+pub next : (clock : ArrivalClockState) (sample : PcrSample) (first here : ℕ) → Stands clock.clock.last clock.moment clock.line first here → first ≤ here →
+    IsAt here sample →
     Next clock sample first here
 next clock sample first here s le at = elim (either clock.clock.last sample) [
   | inl on ↦ next_on clock sample first here s at on
@@ -236,12 +245,14 @@ pub stands_without : (clock : ArrivalClockState) (first here : ℕ) → Stands c
     Stands None clock.moment clock.line here (here + 1)
 stands_without clock first here s le = record { placed = tt; begun = later clock.line s.begun; meets = tt }
   where
-    later : (line : Option Line) → IfSome line (λ l. IsClockLine l × (l.byte + 178 ≤ 188 * first)) → IfSome line (λ l. IsClockLine l × (l.byte + 178 ≤ 188 * here))
+    later : (line : Option Line) → IfSome line (λ l. IsClockLine l × (l.byte + 178 ≤ 188 * first)) →
+        IfSome line (λ l. IsClockLine l × (l.byte + 178 ≤ 188 * here))
     later None is = tt
     later (Some line) is = (is.0, omega (arith, is.1, le))
 
 -- nor yet
-pub stands_later : (last : Option TimedSample) (moment : ℕ) (line : Option Line) (first here : ℕ) → Stands last moment line first here → Stands last moment line first (here + 1)
+pub stands_later : (last : Option TimedSample) (moment : ℕ) (line : Option Line) (first here : ℕ) → Stands last moment line first here →
+    Stands last moment line first (here + 1)
 stands_later last moment line first here s = record { placed = later last s.placed; begun = s.begun; meets = s.meets }
   where
     later : (l : Option TimedSample) → IfSome l (λ l. IsMoment l.sample.byte moment × (l.sample.byte + 178 ≤ 188 * here)) →

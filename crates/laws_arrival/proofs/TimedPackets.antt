@@ -1,5 +1,6 @@
 -- Of a stream that arrives by clock references each packet arrives once, and no byte before an earlier one.
-use Rattle.std.proofs.Common.{◌≡◌, ◌∙◌, sym, ℕ, ◌+◌, ◌*◌, ◌≤◌, ◌<◌, Bool, true, false, List, [], ◌∷◌, ◌++◌, length, map, Option, Some, None, if◌then◌else◌, refl, ap, subst, inl, arith}
+use Rattle.std.proofs.Common.{◌≡◌, ◌∙◌, sym, ℕ, ◌+◌, ◌*◌, ◌≤◌, ◌<◌, Bool, true, false, List, [], ◌∷◌, ◌++◌, length, map, Option, Some, None, if◌then◌else◌}
+use Rattle.std.proofs.Common.{refl, ap, subst, inl, arith}
 use Rattle.std.specs.Prelude.{IfSome}
 use Rattle.std.proofs.lemmas.List.{append_assoc, append-nil, map-append}
 use Rattle.arrival.specs.declared.line.Line.{Line}
@@ -28,7 +29,8 @@ pub many_arrive : (arrival : Arrival) (packets : List (List ℕ)) → length (ar
 many_arrive arrival [] = refl
 many_arrive arrival (bytes ∷ packets) = let e = many_arrive arrival packets in omega (arith, e)
 
-all_of : (a : Option Arrival) (held packets : List (List ℕ)) (bytes : List ℕ) (rest : List Timed) → map (λ p. p.bytes) rest ≡ (waiting a held ++ bytes ∷ []) ++ packets →
+all_of : (a : Option Arrival) (held packets : List (List ℕ)) (bytes : List ℕ) (rest : List Timed) → map (λ p. p.bytes) rest ≡ (waiting a held ++ bytes ∷ [])
+    ++ packets →
     map (λ p. p.bytes) (arrived a held ++ rest) ≡ held ++ bytes ∷ packets
 unfolding arrived waiting
 all_of None held packets bytes rest e = e ∙ append_assoc held (bytes ∷ []) packets
@@ -61,14 +63,17 @@ without_times chosen drain index (bytes ∷ packets) = by (chosen index bytes) (
 
 on_lines : (lines : ClockLines) (chosen : ℕ → List ℕ → Bool) (drain index : ℕ) (packets : List (List ℕ)) → MeetAt lines.before lines.line index →
     lines.line.byte < 188 * (index + length packets) →
-    Between (arrival_at drain lines.before (188 * index)) (arrival_at drain lines.line (188 * (index + length packets))) (times_among chosen drain index (arriving_so (OnLines lines) packets))
+    Between (arrival_at drain lines.before (188 * index)) (arrival_at drain lines.line (188 * (index + length packets)))
+    (times_among chosen drain index (arriving_so (OnLines lines) packets))
 on_lines lines chosen drain index packets meet begun =
     rw (first_time lines index drain meet, sym (last_time lines drain (188 * (index + length packets)) begun))
     (packets_between (OnLines lines) chosen drain index packets (lines_in_order lines index drain meet))
 
-those_between : (before line : Option Line) (chosen : ℕ → List ℕ → Bool) (drain index : ℕ) (packets : List (List ℕ)) → Meet before line index → (line ≡ None → before ≡ None) →
+those_between : (before line : Option Line) (chosen : ℕ → List ℕ → Bool) (drain index : ℕ) (packets : List (List ℕ)) → Meet before line index →
+    (line ≡ None → before ≡ None) →
     IfSome line (λ l. l.byte < 188 * (index + length packets)) →
-    Between (bound drain index before) (bound drain (index + length packets) line) (times_among chosen drain index (arriving_so (arrival_by before line) packets))
+    Between (bound drain index before) (bound drain (index + length packets) line)
+    (times_among chosen drain index (arriving_so (arrival_by before line) packets))
 unfolding bound arrival_by
 those_between before None chosen drain index packets meet none begun =
     rw (none refl, without_times chosen drain index packets) (none_between 0 0 (omega arith))
@@ -82,7 +87,8 @@ those_between None (Some line) chosen drain index packets meet none begun =
 those_between (Some before) (Some line) chosen drain index packets meet none begun =
     on_lines (record { before = before; line = line }) chosen drain index packets meet.1 begun
 
-begun_by : (line : Option Line) (first here : ℕ) → IfSome line (λ l. IsClockLine l × (l.byte + 178 ≤ 188 * first)) → first ≤ here → IfSome line (λ l. l.byte < 188 * here)
+begun_by : (line : Option Line) (first here : ℕ) → IfSome line (λ l. IsClockLine l × (l.byte + 178 ≤ 188 * first)) → first ≤ here →
+    IfSome line (λ l. l.byte < 188 * here)
 begun_by None first here is le = tt
 begun_by (Some line) first here is le = omega (arith, is.1, le)
 
@@ -90,10 +96,12 @@ begun_by (Some line) first here is le = omega (arith, is.1, le)
 
 -- what is so of all that come later
 abbrev LaterRise : QueueState → List (List ℕ) → (ℕ → List ℕ → Bool) → ℕ → Type 0
-LaterRise q packets chosen drain = (first here : ℕ) → Waits q first here → Rises (bound drain first q.before) (times_among chosen drain first (timed_from q packets))
+LaterRise q packets chosen drain = (first here : ℕ) → Waits q first here →
+    Rises (bound drain first q.before) (times_among chosen drain first (timed_from q packets))
 
 -- packets that arrive so, and then others
-those_first : (chosen : ℕ → List ℕ → Bool) (drain first here low middle : ℕ) (a : Arrival) (held : List (List ℕ)) (o : Option Arrival) (rest : List Timed) → o ≡ Some a →
+those_first : (chosen : ℕ → List ℕ → Bool) (drain first here low middle : ℕ) (a : Arrival) (held : List (List ℕ)) (o : Option Arrival) (rest : List Timed) →
+    o ≡ Some a →
     first + length held ≡ here → Between low middle (times_among chosen drain first (arriving_so a held)) → Rises middle (times_among chosen drain here rest) →
     Rises low (times_among chosen drain first (arrived o held ++ rest))
 unfolding arrived
@@ -115,20 +123,24 @@ one_more q bytes packets first here chosen drain w c later false h =
     let begun = begun_by line here (first + length q.held) (rw c.same_line at (c.leaves h).begun) (omega (arith, w.held)) in
     let meets : Meet q.before line first = subst (λ (b : Option Line). Meet b line first) (sym w.before) c.meets in
     let those = those_between q.before line chosen drain first q.held meets (λ e. w.before ∙ c.none e) begun in
-    let all = subst (λ (i : ℕ). Between (bound drain first q.before) (bound drain i line) (times_among chosen drain first (arriving_so a q.held))) w.held those in
+    let all = subst (λ (i : ℕ). Between (bound drain first q.before) (bound drain i line) (times_among chosen drain first (arriving_so a q.held))) w.held
+    those in
     let leave : released q bytes ≡ Some a = rw h refl in
     let then_line : (with_one q bytes).before ≡ line = rw h refl in
-    let after = subst (λ (l : Option Line). Rises (bound drain here l) (times_among chosen drain here rest)) then_line (later here (here + 1) (alone_waits q bytes first here w c h)) in
+    let after = subst (λ (l : Option Line). Rises (bound drain here l) (times_among chosen drain here rest)) then_line
+    (later here (here + 1) (alone_waits q bytes first here w c h)) in
     those_first chosen drain first here (bound drain first q.before) (bound drain here line) a q.held (released q bytes) rest leave w.held all after
 
 rise : (packets : List (List ℕ)) (q : QueueState) (chosen : ℕ → List ℕ → Bool) (drain : ℕ) → LaterRise q packets chosen drain
 unfolding timed_from
 rise [] q chosen drain first here w =
     let line : Option Line = q.clock.line in
-    let all = those_between line line chosen drain first q.held (meets_itself line first w.clock.begun) (λ e. e) (begun_by line first (first + length q.held) w.clock.begun (omega arith)) in
+    let all = those_between line line chosen drain first q.held (meets_itself line first w.clock.begun) (λ e. e)
+    (begun_by line first (first + length q.held) w.clock.begun (omega arith)) in
     rw w.before all.rises
 rise (bytes ∷ packets) q chosen drain first here w =
-    one_more q bytes packets first here chosen drain w (comes_with q bytes first here w) (rise packets (with_one q bytes) chosen drain) (still_wait q (reference_in q bytes)) refl
+    one_more q bytes packets first here chosen drain w (comes_with q bytes first here w) (rise packets (with_one q bytes) chosen drain)
+    (still_wait q (reference_in q bytes)) refl
 
 pub rises_law : RisesLaw
 rises_law pid packets chosen drain = unfold bound in (rise packets (no_packet pid) chosen drain 0 0 (waits_first pid))

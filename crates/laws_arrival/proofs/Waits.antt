@@ -1,5 +1,6 @@
 -- Packets that wait, and those that no longer do: what is so of them before each packet.
-use Rattle.std.proofs.Common.{◌≡◌, ◌∙◌, sym, ℕ, ◌+◌, ◌-◌, ◌^◌, ◌≤◌, ◌&&◌, not, nat_lt, is_some, Bool, true, false, List, [], ◌∷◌, length, Option, Some, None, Result, Ok, Err, if◌then◌else◌, refl, subst, arith}
+use Rattle.std.proofs.Common.{◌≡◌, ◌∙◌, sym, ℕ, ◌+◌, ◌-◌, ◌^◌, ◌≤◌, ◌&&◌, not, nat_lt, is_some, Bool, true, false, List, [], ◌∷◌, length, Option, Some, None}
+use Rattle.std.proofs.Common.{Result, Ok, Err, if◌then◌else◌, refl, subst, arith}
 use Rattle.std.specs.Prelude.{IfSome, min}
 use Rattle.std.specs.Option.{option_map}
 use Rattle.std.proofs.lemmas.List.{length-append}
@@ -12,14 +13,16 @@ use Rattle.arrival.specs.declared.clock.PcrSample.{PcrSample}
 use Rattle.arrival.specs.declared.line.Line.{Line}
 use Rattle.tr101290.specs.Samples.{is_near, pcr_sample, sample_in, sample_of, sample_with}
 use Rattle.arrival.specs.ArrivalClocks.{ArrivalClockState, line_to}
-use Rattle.clocked_packets.specs.Waiting.{QueueState, begun_by, clock_by, is_of_clock, line_by, no_packet, reference_in, reference_of, reference_read, still_wait}
+use Rattle.clocked_packets.specs.Waiting.{QueueState, begun_by, clock_by, is_of_clock, line_by, no_packet, reference_in, reference_of, reference_read}
+use Rattle.clocked_packets.specs.Waiting.{still_wait}
 use Rattle.clocked_packets.specs.declared.packet_queue.ClockPid.{ClockPid}
 use Rattle.laws_arrival.specs.TimedPackets.{waiting, with_one}
 use Rattle.laws_arrival.proofs.Stands.{IsAt, Meet, Next, Origin, Stands, meets_itself, next, origin_before, stands_later, stands_without}
 
 -- ---- the reference of a packet stands at its byte
 
-near_sample : (index : ℕ) (anew : Bool) (pcr : Reference) (b : Bool) → is_near index ≡ b → IfSome (if b then Some (sample_of index anew pcr) else None) (IsAt index)
+near_sample : (index : ℕ) (anew : Bool) (pcr : Reference) (b : Bool) → is_near index ≡ b →
+    IfSome (if b then Some (sample_of index anew pcr) else None) (IsAt index)
 near_sample index anew pcr true e = record { byte = refl; near = grind (arith, nat_tests) }
 near_sample index anew pcr false e = tt
 
@@ -34,14 +37,16 @@ field_at index None = tt
 field_at index (Some NoFlags) = tt
 field_at index (Some (WithFlags parts)) = sample_at index parts.discontinuity_indicator parts.pcr
 
-with_pid : (index pid : ℕ) (o : Option PcrSample) → IfSome o (IsAt index) → IfSome {T = ℕ × PcrSample} (option_map (λ sample. (pid, sample)) o) (λ r. IsAt index r.1)
+with_pid : (index pid : ℕ) (o : Option PcrSample) → IfSome o (IsAt index) →
+    IfSome {T = ℕ × PcrSample} (option_map (λ sample. (pid, sample)) o) (λ r. IsAt index r.1)
 with_pid index pid None at = tt
 with_pid index pid (Some sample) at = at
 
 packet_reference : (clock : ClockPid) (index : ℕ) (packet : PacketView) → IfSome (reference_of clock index packet) (λ r. IsAt index r.1)
 packet_reference clock index packet = by (not packet.header.transport_error_indicator && is_of_clock clock packet.header.pid)
   where
-    by : (b : Bool) → IfSome {T = ℕ × PcrSample} (if b then option_map (λ sample. (packet.header.pid, sample)) (pcr_sample index packet) else None) (λ r. IsAt index r.1)
+    by : (b : Bool) → IfSome {T = ℕ × PcrSample} (if b then option_map (λ sample. (packet.header.pid, sample)) (pcr_sample index packet) else None)
+        (λ r. IsAt index r.1)
     by true = with_pid index packet.header.pid (pcr_sample index packet) (field_at index packet.adaptation)
     by false = tt
 

@@ -43,7 +43,8 @@ kept_with pid before a = with_one (with_all (no_packet pid) before) a
 -- two packets with references on which the clock goes on, none between them, and no more waiting than may: each byte after the first reference,
 -- up to the second one, lies on their line
 abbrev pub BetweenLaw : Type 0
-BetweenLaw = (pid : ClockPid) (before : List (List ℕ)) (a : List ℕ) (between : List (List ℕ)) (b : List ℕ) (later : List (List ℕ)) (r r' : ℕ × PcrSample) (k i : ℕ) →
+BetweenLaw = (pid : ClockPid) (before : List (List ℕ)) (a : List ℕ) (between : List (List ℕ)) (b : List ℕ) (later : List (List ℕ)) (r r' : ℕ × PcrSample)
+    (k i : ℕ) →
     reference_in (with_all (no_packet pid) before) a ≡ Some r →
     AreQuiet (kept_with pid before a) between →
     length (kept_with pid before a).held + length between ≤ most_waiting →

@@ -1,12 +1,12 @@
-//! Laws of the times at which bytes arrive. Each is a function that does nothing: its contract is the law, over the definitions of
-//! `specs/` alone, and a caller may cite it.
+//! Laws of the times at which bytes arrive. Each is a function that does nothing: its contract is the law, over the
+//! definitions of `specs/` alone, and a caller may cite it.
 ghost use Rattle.laws_arrival.specs.Between.{BetweenLaw};
 ghost use Rattle.laws_arrival.specs.Leads.{LeadLaw};
 ghost use Rattle.laws_arrival.specs.TimedPackets.{EachOnceLaw};
 ghost use Rattle.laws_arrival.specs.Times.{RisesLaw};
 
-/// States for a stream that arrives by clock references that each packet arrives once, in order, no byte of it arrives before an
-/// earlier one, and where a line begins within a packet, its payload lies on that line.
+/// States for a stream that arrives by clock references that each packet arrives once, in order, no byte of it arrives
+/// before an earlier one, and where a line begins within a packet, its payload lies on that line.
 pub fn arrivals_rise()
     ensures once { EachOnceLaw }
     ensures rises { RisesLaw }

@@ -1,5 +1,6 @@
 -- No unit of a job is refused.
-use Rattle.std.proofs.Common.{◌≡◌, ◌≤◌, ◌<◌, ℕ, zero, suc, ◌+◌, ◌==◌, ◌&&◌, Bool, true, false, if◌then◌else◌, List, [], ◌∷◌, ◌++◌, length, map, Option, Some, None, slice_get, All, refl, sym, ap, ◌∙◌, subst, arith, append_assoc}
+use Rattle.std.proofs.Common.{◌≡◌, ◌≤◌, ◌<◌, ℕ, zero, suc, ◌+◌, ◌==◌, ◌&&◌, Bool, true, false, if◌then◌else◌, List, [], ◌∷◌, ◌++◌, length, map, Option, Some}
+use Rattle.std.proofs.Common.{None, slice_get, All, refl, sym, ap, ◌∙◌, subst, arith, append_assoc}
 use Rattle.std.proofs.lemmas.List.{length-append}
 use Rattle.std.proofs.lemmas.List.Elements.{All-nil, All-cons, All-head, All-tail}
 use Rattle.std.proofs.lemmas.Option.{slice_get_within}
@@ -19,7 +20,8 @@ use Rattle.mux_core.specs.declared.multiplexing.MuxError.{MuxError}
 use Rattle.mux_core.proofs.KnownRanges.{parameters_known}
 use Rattle.mux_core.proofs.UnitCounts.{own_units, units_append}
 use Rattle.es_units.specs.ApartUnits.{apart_dts}
-use Rattle.es_units.specs.CarriedUnits.{RoleView, Ignored, Start, Continuation, Interruption, CarriedUnit, role_of, continuation, is_cut, is_split, with_more, whole_unit, units_from, units_in, unit_with, carried_units, wire_units}
+use Rattle.es_units.specs.CarriedUnits.{RoleView, Ignored, Start, Continuation, Interruption, CarriedUnit, role_of, continuation, is_cut, is_split, with_more}
+use Rattle.es_units.specs.CarriedUnits.{whole_unit, units_from, units_in, unit_with, carried_units, wire_units}
 use Rattle.es_units.specs.MadeDts.{made_dts, pts_of, with_dts}
 use Rattle.es_units.specs.Laws.{UnitsAreKept, TakenOneByOne, Declares as LaneDeclares}
 use Rattle.stream_jobs.specs.Jobs.{AreUnits}
@@ -38,7 +40,8 @@ some_or : (u : CarriedUnit) (later : List CarriedUnit) (b : Bool) → length u.u
 some_or u later true e all = all
 some_or u later false e all = All-cons HasBytes u.unit (map (λ x. x.unit) later) (grind (arith, e)) all
 
-whole_or : (u : CarriedUnit) (later : List CarriedUnit) (lost : Bool) → All HasBytes (map (λ x. x.unit) later) → All HasBytes (map (λ x. x.unit) (whole_unit lost u later))
+whole_or : (u : CarriedUnit) (later : List CarriedUnit) (lost : Bool) → All HasBytes (map (λ x. x.unit) later) →
+    All HasBytes (map (λ x. x.unit) (whole_unit lost u later))
 whole_or u later true all = all
 whole_or u later false all = some_or u later (length u.unit.bytes == 0) refl all
 
@@ -79,7 +82,8 @@ found_kept : UnitsAreKept → (made : Bool) (line : Scheduled) (findings : List 
     AreFound made findings pid us → Declares line.description s us → Kept (owned_stream line k s) us
 found_kept law made line findings pid k s us found n =
     let m = found.moved in
-    let declares : LaneDeclares (owned_stream line k s) us = record { interval = n.interval; size = n.size; pts = n.pts; lead = n.lead; allowance = n.allowance } in
+    let declares : LaneDeclares (owned_stream line k s) us =
+    record { interval = n.interval; size = n.size; pts = n.pts; lead = n.lead; allowance = n.allowance } in
     subst (λ (x : List AccessUnit). Kept (owned_stream line k s) x) (sym m.are)
     (law (owned_stream line k s) m.limit found.base (map (λ w. w.unit) (source_of made pid findings)) m.sound (sources_have_bytes made pid findings)
     (subst (λ (x : List AccessUnit). LaneDeclares (owned_stream line k s) x) m.are declares))
@@ -124,7 +128,8 @@ record AllFit (line : Scheduled) (all : List (ℕ × AccessUnit)) : Type 0 where
   kept : UnitsKept line (λ k. units_of k all)
   few : (k : ℕ) (s : DescribedStream) → slice_get line.description.streams k ≡ Some s → length (units_of k all) ≤ 1048576
 
-one_taken : TakenOneByOne → (line : Scheduled) (fed rest : List (ℕ × AccessUnit)) (entry : ℕ × AccessUnit) (s : DescribedStream) → AllFit line (fed ++ (entry ∷ rest)) →
+one_taken : TakenOneByOne → (line : Scheduled) (fed rest : List (ℕ × AccessUnit)) (entry : ℕ × AccessUnit) (s : DescribedStream) →
+    AllFit line (fed ++ (entry ∷ rest)) →
     slice_get line.description.streams entry.0 ≡ Some s → cause_after line 1048576 fed entry ≡ None
 unfolding feed_cause
 one_taken law line fed rest entry s fit is =
@@ -140,23 +145,27 @@ none_then : (index : ℕ) (cause : Option FeedError) (next : Option MuxError) �
 unfolding or_cause unit_refused
 none_then index cause next e none = rw (e, none) refl
 
-all_taken : TakenOneByOne → (line : Scheduled) (fed rest : List (ℕ × AccessUnit)) → AllFit line (fed ++ rest) → All (λ e. e.0 < length line.description.streams) rest →
+all_taken : TakenOneByOne → (line : Scheduled) (fed rest : List (ℕ × AccessUnit)) → AllFit line (fed ++ rest) →
+    All (λ e. e.0 < length line.description.streams) rest →
     first_refused line 1048576 fed rest ≡ None
 unfolding first_refused
 all_taken law line fed [] fit below = refl
 all_taken law line fed (entry ∷ rest) fit below =
     let s = stream_there line.description.streams entry.0 (All-head (λ e. e.0 < length line.description.streams) entry rest below) in
-    none_then (length fed) (cause_after line 1048576 fed entry) (first_refused line 1048576 (fed ++ (entry ∷ [])) rest) (one_taken law line fed rest entry s.0 fit s.1)
+    none_then (length fed) (cause_after line 1048576 fed entry) (first_refused line 1048576 (fed ++ (entry ∷ [])) rest)
+    (one_taken law line fed rest entry s.0 fit s.1)
     (all_taken law line (fed ++ (entry ∷ [])) rest (subst (λ (all : List (ℕ × AccessUnit)). AllFit line all) (sym (append_assoc fed (entry ∷ []) rest)) fit)
     (All-tail (λ e. e.0 < length line.description.streams) entry rest below))
 
 pub none_refused : UnitsAreKept → TakenOneByOne → (made : Bool) (line : Scheduled) (findings : List FindingView) (units : List (ℕ × AccessUnit)) →
     IsInRange line.description → AreUnits made findings line.description units → first_refused line 1048576 [] units ≡ None
 none_refused keeping taking made line findings units ranges are =
-    all_taken taking line [] units (record { kept = all_kept keeping made line findings units ranges are; few = λ k s is. (are.streams k s is).fits }) are.numbered
+    all_taken taking line [] units (record { kept = all_kept keeping made line findings units ranges are; few = λ k s is. (are.streams k s is).fits })
+    are.numbered
 
 pub none_refused_in : UnitsAreKept → TakenOneByOne → (made : Bool) (line : Scheduled) (inputs : List (List FindingView)) (origins : List Origin)
-    (units : List (ℕ × AccessUnit)) → IsInRange line.description → AreUnitsIn made inputs origins line.description units → first_refused line 1048576 [] units ≡ None
+    (units : List (ℕ × AccessUnit)) → IsInRange line.description → AreUnitsIn made inputs origins line.description units →
+    first_refused line 1048576 [] units ≡ None
 none_refused_in keeping taking made line inputs origins units ranges are =
     all_taken taking line [] units
     (record {

@@ -24,18 +24,21 @@ text_of_parts options input rate =
 by_parts : (options : JobOptionsView) (input : JobInputView) (rate : ℕ) → description_text options input rate ≡ text_of_parts options input rate
 unfolding description_text
 by_parts options input rate =
-    let front : List ℕ → List ℕ = λ x. heading_text (heading_of input rate) ++ (flat_map event_text input.information.events ++ (network_if_any input.information.network ++ x)) in
+    let front : List ℕ → List ℕ = λ x. heading_text (heading_of input rate)
+    ++ (flat_map event_text input.information.events ++ (network_if_any input.information.network ++ x)) in
     let programs : programs_text options.pcr_limit input.programs input.information.services ≡ flat_map program_text (program_parts options input) =
     sym (flat_map-map program_text (program_part options.pcr_limit) (zip input.programs input.information.services)) in
     let streams : streams_text input.streams input.unit_counts input.choices ≡ flat_map stream_text (stream_parts input) =
     sym (flat_map-map stream_text stream_part (zip input.streams (zip input.unit_counts input.choices))) in
-    let tables : tables_text input.streams input.tables ≡ flat_map table_text (table_parts input) = sym (flat_map-map table_text (table_part input.streams) input.tables) in
+    let tables : tables_text input.streams input.tables ≡ flat_map table_text (table_parts input) =
+    sym (flat_map-map table_text (table_part input.streams) input.tables) in
     ap (λ (x : List ℕ). front (x ++ (streams_text input.streams input.unit_counts input.choices ++ tables_text input.streams input.tables))) programs
     ∙ ap (λ (x : List ℕ). front (flat_map program_text (program_parts options input) ++ (x ++ tables_text input.streams input.tables))) streams
     ∙ ap (λ (x : List ℕ). front (flat_map program_text (program_parts options input) ++ (flat_map stream_text (stream_parts input) ++ x))) tables
 
 pub declared : TextsAreRead → DeclaredLaw
 declared law options input rate d fit is =
-    texts_are_described law d (heading_of input rate) input.information.events input.information.network (program_parts options input) (stream_parts input) (table_parts input)
+    texts_are_described law d (heading_of input rate) input.information.events input.information.network (program_parts options input) (stream_parts input)
+    (table_parts input)
     fit.heading fit.events fit.network fit.programs fit.streams fit.tables
     (is ∙ ap (λ (text : List ℕ). description_of (parse_document text)) (by_parts options input rate))

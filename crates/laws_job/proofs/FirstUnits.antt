@@ -1,5 +1,6 @@
 -- The first units of a job are due 2 s after the run's begin or later.
-use Rattle.std.proofs.Common.{◌≡◌, ◌≤◌, ◌<◌, ℕ, zero, suc, ◌+◌, ◌-◌, ◌%◌, ◌^◌, Bool, true, false, min, List, [], ◌∷◌, map, Some, None, Ok, slice_get, option_map, All, refl, sym, ap, subst, ◌∙◌, inl, inr, arith, eq-eqb}
+use Rattle.std.proofs.Common.{◌≡◌, ◌≤◌, ◌<◌, ℕ, zero, suc, ◌+◌, ◌-◌, ◌%◌, ◌^◌, Bool, true, false, min, List, [], ◌∷◌, map, Some, None, Ok, slice_get}
+use Rattle.std.proofs.Common.{option_map, All, refl, sym, ap, subst, ◌∙◌, inl, inr, arith, eq-eqb}
 use Rattle.std.proofs.Math.Nat.{le_trans}
 use Rattle.std.specs.List.{list_any}
 use Rattle.std.proofs.lemmas.Bool.{cases_Bool}
@@ -16,7 +17,8 @@ use Rattle.stream_jobs.specs.declared.program_clock.ProgramClock.TheVariants.{Re
 use Rattle.stream_jobs.specs.JobPrograms.{JobProgramView, clock_in}
 use Rattle.stream_jobs.specs.JobTables.{JobTableView}
 use Rattle.stream_jobs.specs.JobStreams.{TimedStreamView, WireStreamView}
-use Rattle.stream_jobs.specs.Moments.{is_long_map, earliest, first_dts, first_dts_of, firsts, is_on_clock, stamps_of, base_for, base_of, wire_of, stamps_refusal, with_moments, moved_stream, pts_limit_of, moved_by, moved_streams}
+use Rattle.stream_jobs.specs.Moments.{is_long_map, earliest, first_dts, first_dts_of, firsts, is_on_clock, stamps_of, base_for, base_of, wire_of}
+use Rattle.stream_jobs.specs.Moments.{stamps_refusal, with_moments, moved_stream, pts_limit_of, moved_by, moved_streams}
 use Rattle.stream_jobs.specs.ProgramClocks.{is_same_clock}
 use Rattle.stream_jobs.proofs.Steps.{granted, same_value, each_all}
 use Rattle.laws_job.specs.FirstUnits.{head_stamp, stamps_beside, BeginsNear}
@@ -42,7 +44,8 @@ own_stamp : (programs : List JobProgramView) (x : WireStreamView) (clock : Progr
 unfolding is_on_clock first_dts_of
 own_stamp programs x clock streams own = rw own refl
 
-other_stamp : (programs : List JobProgramView) (x : WireStreamView) (clock : ProgramClock) (streams : List WireStreamView) → counts_by programs x clock ≡ false →
+other_stamp : (programs : List JobProgramView) (x : WireStreamView) (clock : ProgramClock) (streams : List WireStreamView) →
+    counts_by programs x clock ≡ false →
     stamps_of clock (firsts programs (x ∷ streams)) ≡ stamps_of clock (firsts programs streams)
 unfolding is_on_clock first_dts_of
 other_stamp programs x clock streams other = rw other refl
@@ -77,21 +80,24 @@ min_of programs from least (suc i) s (x ∷ streams) is =
 
 -- ---- the first DTS as a moment
 
-due_from : (programs : List JobProgramView) (tables : List JobTableView) (streams : List WireStreamView) → (180000 ≤ earliest programs tables streams) × (earliest programs tables streams ≤ 225000)
+due_from : (programs : List JobProgramView) (tables : List JobTableView) (streams : List WireStreamView) →
+    (180000 ≤ earliest programs tables streams) × (earliest programs tables streams ≤ 225000)
 unfolding earliest
 due_from programs tables streams = elim (cases_Bool (list_any (is_long_map tables streams) programs)) [
   | inl y ↦ rw y (omega arith, omega arith)
   | inr n ↦ rw n (omega arith, omega arith)
 ]
 
-at_base : (due first : ℕ) (stamps : List ℕ) (stamp : ℕ) → due ≤ 225000 → min_distance (first + 2 ^ 32) (2 ^ 32) stamps ≤ after_half first stamp → after_half first stamp + 225000 < 2 ^ 33 →
+at_base : (due first : ℕ) (stamps : List ℕ) (stamp : ℕ) → due ≤ 225000 → min_distance (first + 2 ^ 32) (2 ^ 32) stamps ≤ after_half first stamp →
+    after_half first stamp + 225000 < 2 ^ 33 →
     due ≤ distance (constant_of due first stamps) stamp
 at_base due first stamps stamp most least near =
     let is = constant_least due first stamps stamp (omega (arith, most)) least (omega (arith, near, most)) in
     omega (arith, is)
 
 -- that of a program is counted from its first stream's
-first_due : (due : ℕ) (stamps : List ℕ) (stamp : ℕ) → due ≤ 225000 → min_distance (head_stamp stamps % 2 ^ 33 + 2 ^ 32) (2 ^ 32) stamps ≤ after_half (head_stamp stamps % 2 ^ 33) stamp →
+first_due : (due : ℕ) (stamps : List ℕ) (stamp : ℕ) → due ≤ 225000 →
+    min_distance (head_stamp stamps % 2 ^ 33 + 2 ^ 32) (2 ^ 32) stamps ≤ after_half (head_stamp stamps % 2 ^ 33) stamp →
     after_half (head_stamp stamps % 2 ^ 33) stamp + 225000 < 2 ^ 33 → (stamps ≡ [] → ⊥) → due ≤ distance (base_for due stamps) stamp
 unfolding base_for head_stamp
 first_due due [] stamp most least near some = absurd (some refl)
@@ -100,7 +106,8 @@ first_due due (x ∷ xs) stamp most least near some = at_base due (x % 2 ^ 33) (
 not_nil : (x : ℕ) (xs : List ℕ) → x ∷ xs ≡ [] → ⊥
 not_nil x xs e = let no : ⊥ = cc in no
 
-some_stamps : (programs : List JobProgramView) (i : ℕ) (s : WireStreamView) (streams : List WireStreamView) → slice_get streams i ≡ Some s → stamps_beside programs streams s ≡ [] → ⊥
+some_stamps : (programs : List JobProgramView) (i : ℕ) (s : WireStreamView) (streams : List WireStreamView) → slice_get streams i ≡ Some s →
+    stamps_beside programs streams s ≡ [] → ⊥
 some_stamps programs i s [] is none = let no : ⊥ = cc in no
 some_stamps programs zero s (x ∷ streams) is none =
     let same : x ≡ s = cc in
@@ -120,9 +127,11 @@ unfolding moved unit_at dts_at
 later_due from base before [] le = All-nil (λ (u : AccessUnit). from ≤ u.dts)
 later_due from base before (u ∷ us) le =
     let dts = before + distance (before + base) u.dts in
-    All-cons (λ (v : AccessUnit). from ≤ v.dts) (unit_at base (Some before) u) (moved base (Some dts) us) (omega (arith, le)) (later_due from base dts us (omega (arith, le)))
+    All-cons (λ (v : AccessUnit). from ≤ v.dts) (unit_at base (Some before) u) (moved base (Some dts) us) (omega (arith, le))
+    (later_due from base dts us (omega (arith, le)))
 
-all_due : (from base : ℕ) (us : List AccessUnit) → ((u : AccessUnit) (rest : List AccessUnit) → us ≡ u ∷ rest → from ≤ distance base u.dts) → All (λ u. from ≤ u.dts) (moved base None us)
+all_due : (from base : ℕ) (us : List AccessUnit) → ((u : AccessUnit) (rest : List AccessUnit) → us ≡ u ∷ rest → from ≤ distance base u.dts) →
+    All (λ u. from ≤ u.dts) (moved base None us)
 unfolding moved unit_at dts_at
 all_due from base [] first = All-nil (λ (u : AccessUnit). from ≤ u.dts)
 all_due from base (u ∷ us) first =
@@ -141,13 +150,15 @@ wire_first (c ∷ cs) u rest is = let same : c.unit ≡ u = cc in sym (ap (λ (v
 abbrev IsHere : List JobProgramView → List WireStreamView → WireStreamView → Type 0
 IsHere programs streams s = ((i : ℕ) × (slice_get streams i ≡ Some s)) × BeginsNear programs streams s
 
-stream_late : (findings : List FindingView) (due : ℕ) (programs : List JobProgramView) (streams : List WireStreamView) (s : WireStreamView) (t : TimedStreamView) → (180000 ≤ due) × (due ≤ 225000) →
+stream_late : (findings : List FindingView) (due : ℕ) (programs : List JobProgramView) (streams : List WireStreamView) (s : WireStreamView)
+    (t : TimedStreamView) → (180000 ≤ due) × (due ≤ 225000) →
     IsHere programs streams s → moved_by findings due programs (firsts programs streams) s ≡ Ok t → DueLate t.units
 unfolding moved_by moved_stream with_moments base_of
 stream_late findings due programs streams s t range here is =
     let stamps : List ℕ = stamps_beside programs streams s in
     let base = base_for due stamps in
-    let timed = granted (option_map (stamps_refusal findings s.pid) (first_fault (pts_limit_of s.stream_type s.descriptors) base None 0 (wire_of s))) (Ok (with_moments base s)) t is in
+    let timed = granted (option_map (stamps_refusal findings s.pid) (first_fault (pts_limit_of s.stream_type s.descriptors) base None 0 (wire_of s)))
+    (Ok (with_moments base s)) t is in
     let same : with_moments base s ≡ t = same_value (with_moments base s) t timed in
     let least = min_of programs (head_stamp stamps % 2 ^ 33 + 2 ^ 32) (2 ^ 32) here.0.0 s streams here.0.1 in
     let from = first_due due stamps (first_dts s.units) range.1 least here.1 (some_stamps programs here.0.0 s streams here.0.1) in
@@ -166,8 +177,10 @@ all_here programs streams (s ∷ rest) from same near =
     All-cons (IsHere programs streams) s rest ((from + 0, same 0), All-head (BeginsNear programs streams) s rest near)
     (all_here programs streams rest (suc from) next (All-tail (BeginsNear programs streams) s rest near))
 
-pub all_late : (findings : List FindingView) (programs : List JobProgramView) (tables : List JobTableView) (streams : List WireStreamView) (timed : List TimedStreamView) →
-    moved_streams findings (earliest programs tables streams) programs streams ≡ Ok timed → All (BeginsNear programs streams) streams → All (λ t. DueLate t.units) timed
+pub all_late : (findings : List FindingView) (programs : List JobProgramView) (tables : List JobTableView) (streams : List WireStreamView)
+    (timed : List TimedStreamView) →
+    moved_streams findings (earliest programs tables streams) programs streams ≡ Ok timed → All (BeginsNear programs streams) streams →
+    All (λ t. DueLate t.units) timed
 unfolding moved_streams
 all_late findings programs tables streams timed is near =
     each_all (moved_by findings (earliest programs tables streams) programs (firsts programs streams)) (IsHere programs streams) (λ t. DueLate t.units)

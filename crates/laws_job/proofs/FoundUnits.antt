@@ -29,10 +29,12 @@ some_bytes r (u ∷ us) all =
     All-cons (λ (v : AccessUnit). 1 ≤ length v.bytes) u us (All-head (IsUnit r) u us all).some (some_bytes r us (All-tail (IsUnit r) u us all))
 
 -- units that keep what is declared, and are all due, are sent whole
-whole : (line : Scheduled) (k n : ℕ) (s : DescribedStream) (us : List AccessUnit) → Promised line.description line.schedule → slice_get line.description.streams k ≡ Some s →
+whole : (line : Scheduled) (k n : ℕ) (s : DescribedStream) (us : List AccessUnit) → Promised line.description line.schedule →
+    slice_get line.description.streams k ≡ Some s →
     Kept (owned_stream line k s) us → AllDue line.description.rate n us → All (IsWhole (owned_stream line k s)) (sent_units (owned_stream line k s) n us)
 whole line k n s us promised is kept due =
-    let keeps : KeepsDeclaration (declaration s) (map (timed (owned_stream line k s)) us) = record { spaced = kept.spaced; sized = kept.sized; allowed = kept.allowed } in
+    let keeps : KeepsDeclaration (declaration s) (map (timed (owned_stream line k s)) us) =
+    record { spaced = kept.spaced; sized = kept.sized; allowed = kept.allowed } in
     sent_whole (owned_stream line k s) s.rx n us due ((promised.streams k s (map (timed (owned_stream line k s)) us) is keeps).arrived n)
 
 -- on their PID they are found
@@ -61,7 +63,8 @@ same_stamps time (u ∷ us) all =
 
 pub again : (base : ℕ) (line : Scheduled) (wire : List AccessUnit) (units : List (ℕ × AccessUnit)) (n k : ℕ) (s : DescribedStream) (bytes : List ℕ) →
     Promised line.description line.schedule → slice_get line.description.streams k ≡ Some s → Kept (owned_stream line k s) (units_of k units) →
-    All Sixteen (units_of k units) → AreMoved wire base (units_of k units) → AllDue line.description.rate n (units_of k units) → GivenBack line (λ j. units_of j units) n bytes →
+    All Sixteen (units_of k units) → AreMoved wire base (units_of k units) → AllDue line.description.rate n (units_of k units) →
+    GivenBack line (λ j. units_of j units) n bytes →
     wire_units s.pid (all_found bytes) ≡ map (later_by (line.description.base0 + 2 ^ 33 - base)) wire
 again base line wire units n k s bytes promised is kept sixteen moved due back =
     wire_again base line.description.base0 wire (units_of k units) (wire_units s.pid (all_found bytes)) moved

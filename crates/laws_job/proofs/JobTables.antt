@@ -22,15 +22,20 @@ none_of k count (entry ∷ rest) past all =
     other_units k entry rest other ∙ none_of k count rest past (All-tail (λ (e : ℕ × AccessUnit). e.0 < count) entry rest all)
 
 -- the units of one stream of a job are due late where those of all are
-job_late : (k : ℕ) (streams : List TimedStreamView) (units : List (ℕ × AccessUnit)) → AreMerged (map (λ t. t.units) streams) units → All (λ t. DueLate t.units) streams → DueLate (units_of k units)
+job_late : (k : ℕ) (streams : List TimedStreamView) (units : List (ℕ × AccessUnit)) → AreMerged (map (λ t. t.units) streams) units →
+    All (λ t. DueLate t.units) streams → DueLate (units_of k units)
 job_late k streams units merged all = elim (slice_get_cases streams k).1 [
   | inl here ↦
       let t = here.0 in
-      let same : units_of k units ≡ t.units = merged.each k t.units (slice_get-map (λ (x : TimedStreamView). x.units) streams k ∙ ap (option_map (λ (x : TimedStreamView). x.units)) here.2) in
-      let late : DueLate t.units = subst (λ (x : TimedStreamView). DueLate x.units) here.3 (All-get_or (λ (x : TimedStreamView). DueLate x.units) streams k t here.1 all) in
+      let same : units_of k units ≡ t.units =
+      merged.each k t.units (slice_get-map (λ (x : TimedStreamView). x.units) streams k ∙ ap (option_map (λ (x : TimedStreamView). x.units)) here.2) in
+      let late : DueLate t.units =
+      subst (λ (x : TimedStreamView). DueLate x.units) here.3 (All-get_or (λ (x : TimedStreamView). DueLate x.units) streams k t here.1 all) in
       subst DueLate (sym same) late
   | inr past ↦
-      let none : units_of k units ≡ [] = none_of k (length (map (λ (x : TimedStreamView). x.units) streams)) units (omega (arith, length-map streams (λ (x : TimedStreamView). x.units), past.0)) merged.numbered in
+      let none : units_of k units ≡ [] =
+      none_of k (length (map (λ (x : TimedStreamView). x.units) streams)) units
+      (omega (arith, length-map streams (λ (x : TimedStreamView). x.units), past.0)) merged.numbered in
       subst DueLate (sym none) (All-nil (λ (u : AccessUnit). 180000 ≤ u.dts))
 ]
 

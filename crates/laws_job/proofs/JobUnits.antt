@@ -11,10 +11,12 @@ use Rattle.laws_job.specs.Laws.{AreTheSame, AreThose}
 moved_same : MovedByOneConstant → (base : ℕ) (wire : List AccessUnit) → AreTheSame wire base (moved base None wire)
 moved_same law base wire = let all = law base None wire in record { dts = all.0; pts = all.1; marks = all.2; bytes = all.3 }
 
-pub those : MovedByOneConstant → (findings : List FindingView) (pid : ℕ) (us : List AccessUnit) → AreFound false findings pid us → AreThose (apart_wire_units pid findings) us
+pub those : MovedByOneConstant → (findings : List FindingView) (pid : ℕ) (us : List AccessUnit) → AreFound false findings pid us →
+    AreThose (apart_wire_units pid findings) us
 unfolding source_of
 those law findings pid us found = record {
   base = found.base;
   range = found.moved.range;
-  same = subst (λ (x : List AccessUnit). AreTheSame (apart_wire_units pid findings) found.base x) (sym found.moved.are) (moved_same law found.base (apart_wire_units pid findings));
+  same = subst (λ (x : List AccessUnit). AreTheSame (apart_wire_units pid findings) found.base x) (sym found.moved.are)
+      (moved_same law found.base (apart_wire_units pid findings));
 }

@@ -11,9 +11,12 @@ use Rattle.pes_packet.specs.declared.time_stamps.Stamps.TheVariants.{Absent, Pts
 use Rattle.pes_packet.proofs.Sixteen.{marks_have_sixteen}
 use Rattle.description_parts.specs.Described.{Described, DescribedStream}
 use Rattle.demux.specs.Laws.{has_pid}
-use Rattle.demux.specs.Views.{FindingView, WhatView, IsDuplicate, BreaksCounter, IsScrambled, IsTruncated, IsSection, IsBadSection, IsPes, IsBadPes, IsBadPacket, IsErrored}
+use Rattle.demux.specs.Views.{FindingView, WhatView, IsDuplicate, BreaksCounter, IsScrambled, IsTruncated, IsSection, IsBadSection, IsPes, IsBadPes}
+use Rattle.demux.specs.Views.{IsBadPacket, IsErrored}
 use Rattle.es_units.specs.ApartUnits.{apart_dts}
-use Rattle.es_units.specs.CarriedUnits.{CarriedUnit, RoleView, carried_units, Ignored, Start, Continuation, Interruption, continuation, first_packet, is_access_point, is_cut, is_split, is_unstamped, pes_role, role_of, role_of_what, unit_with, units_from, units_in, with_more}
+use Rattle.es_units.specs.CarriedUnits.{CarriedUnit, RoleView, carried_units, Ignored, Start, Continuation, Interruption, continuation, first_packet}
+use Rattle.es_units.specs.CarriedUnits.{is_access_point, is_cut, is_split, is_unstamped, pes_role, role_of, role_of_what, unit_with, units_from, units_in}
+use Rattle.es_units.specs.CarriedUnits.{with_more}
 use Rattle.es_units.specs.MadeDts.{made_dts, pts_of, with_dts}
 use Rattle.es_units.specs.Stamps.{dts_at, moved, unit_at}
 use Rattle.stream_jobs.specs.FoundUnits.{AreFound, source_of}
@@ -84,7 +87,8 @@ start_units : (split : Bool) (pid : ℕ) (role : RoleView) (fs : List FindingVie
 unfolding units_from
 start_units split pid Ignored fs later h all = all
 start_units split pid (Start u) fs later h all =
-    if_whole (split && is_cut u.stream_id pid fs) (length (with_more u (continuation u.stream_id pid fs)).unit.bytes == 0) (with_more u (continuation u.stream_id pid fs)) later h all
+    if_whole (split && is_cut u.stream_id pid fs) (length (with_more u (continuation u.stream_id pid fs)).unit.bytes == 0)
+    (with_more u (continuation u.stream_id pid fs)) later h all
 start_units split pid (Continuation id body) fs later h all = all
 start_units split pid (Interruption unstamped) fs later h all = all
 

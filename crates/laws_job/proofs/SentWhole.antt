@@ -1,5 +1,6 @@
 -- Units that are all due are sent whole.
-use Rattle.std.proofs.Common.{◌≡◌, ◌≤◌, ℕ, ◌+◌, ◌-◌, ◌*◌, ◌==◌, Bool, true, false, if◌then◌else◌, min, List, [], ◌∷◌, ◌++◌, length, map, take, drop, All, ap, ◌∙◌, arith}
+use Rattle.std.proofs.Common.{◌≡◌, ◌≤◌, ℕ, ◌+◌, ◌-◌, ◌*◌, ◌==◌, Bool, true, false, if◌then◌else◌, min, List, [], ◌∷◌, ◌++◌, length, map, take, drop, All, ap}
+use Rattle.std.proofs.Common.{◌∙◌, arith}
 use Rattle.std.proofs.lemmas.List.{length-take, length-drop, length-append}
 use Rattle.std.proofs.lemmas.List.Elements.{All-nil, All-cons, All-head, All-tail}
 use Rattle.pes_packet.specs.AccessUnits.{AccessUnit}
@@ -89,7 +90,8 @@ packets_of l free us slots = packets_in_slots l.own l.parameters.rate l.paramete
 
 first_bytes : (l : OwnedStream) (free : ℕ) (u : AccessUnit) (us : List AccessUnit) (slots : List ℕ) →
     packet_bytes (packets_of l free (u ∷ us) slots)
-    ≡ min (timed l u).size (184 * length (take (packet_count l u) (drop (first_slot l free u) slots)) - (timed l u).front) + packet_bytes (packets_of l (end_slot l free u) us slots)
+    ≡ min (timed l u).size (184 * length (take (packet_count l u) (drop (first_slot l free u) slots)) - (timed l u).front)
+    + packet_bytes (packets_of l (end_slot l free u) us slots)
 unfolding packets_in_slots first_slot
 first_bytes l free u us slots =
     let own = take (packet_count l u) (drop (first_slot l free u) slots) in
@@ -117,14 +119,17 @@ all_there l free (u ∷ us) slots enough =
     All-cons (IsWhole l) (record { item = u; packets = own }) (units_placed l (end_slot l free u) us slots) (omega (arith, enough, first, rest, some))
     (all_there l (end_slot l free u) us slots (omega (arith, enough, first, rest)))
 
-due_units : (l : OwnedStream) (n : ℕ) (us : List AccessUnit) → AllDue l.parameters.rate n us → All (λ u. u.dts * l.parameters.rate ≤ n * 135360000) (map (timed l) us)
+due_units : (l : OwnedStream) (n : ℕ) (us : List AccessUnit) → AllDue l.parameters.rate n us →
+    All (λ u. u.dts * l.parameters.rate ≤ n * 135360000) (map (timed l) us)
 due_units l n [] due = All-nil (λ (u : PesPacket). u.dts * l.parameters.rate ≤ n * 135360000)
 due_units l n (u ∷ us) due =
-    All-cons (λ (u : PesPacket). u.dts * l.parameters.rate ≤ n * 135360000) (timed l u) (map (timed l) us) (All-head (λ u. u.dts * l.parameters.rate ≤ n * 135360000) u us due)
+    All-cons (λ (u : PesPacket). u.dts * l.parameters.rate ≤ n * 135360000) (timed l u) (map (timed l) us)
+    (All-head (λ u. u.dts * l.parameters.rate ≤ n * 135360000) u us due)
     (due_units l n us (All-tail (λ u. u.dts * l.parameters.rate ≤ n * 135360000) u us due))
 
 pub sent_whole : (l : OwnedStream) (r n : ℕ) (us : List AccessUnit) → AllDue l.parameters.rate n us →
-    AllLeft l.parameters.rate r n (map (timed l) us) (pes_left l.parameters.rate r 0 (packets_in_slots l.own l.parameters.rate l.parameters.lead 0 (map (timed l) us) (own_slots l.own 0 n))) →
+    AllLeft l.parameters.rate r n (map (timed l) us)
+    (pes_left l.parameters.rate r 0 (packets_in_slots l.own l.parameters.rate l.parameters.lead 0 (map (timed l) us) (own_slots l.own 0 n))) →
     All (IsWhole l) (sent_units l n us)
 sent_whole l r n us due all =
     let packets = packets_of l 0 us (own_slots l.own 0 n) in

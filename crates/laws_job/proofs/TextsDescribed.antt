@@ -1,5 +1,7 @@
 -- The streams of a description's text, read as TOML and then as a description, have the buffers that the text gives them.
-use Rattle.std.proofs.Common.{◌≡◌, ℕ, zero, suc, pos, ◌&&◌, ◌||◌, Bool, true, false, List, [], ◌∷◌, ◌++◌, length, map, slice_get, Option, Some, None, Result, Ok, Err, refl, sym, ap, subst, ◌∙◌, inl, inr, codes, is_some, is_none, unwrap_or, option_map, int_le, All, if◌then◌else◌, ◌==◌, ℤ, unsigned_abs}
+use Rattle.std.proofs.Common.{◌≡◌, ℕ, zero, suc, pos, ◌&&◌, ◌||◌, Bool, true, false, List, [], ◌∷◌, ◌++◌, length, map, slice_get, Option, Some, None, Result}
+use Rattle.std.proofs.Common.{Ok, Err, refl, sym, ap, subst, ◌∙◌, inl, inr, codes, is_some, is_none, unwrap_or, option_map, int_le, All, if◌then◌else◌, ◌==◌, ℤ}
+use Rattle.std.proofs.Common.{unsigned_abs}
 use Rattle.std.proofs.lemmas.Bool.{cases_Bool}
 use Rattle.std.proofs.lemmas.List.Elements.{All-head, All-tail}
 use Rattle.std.specs.List.{flat_map}
@@ -15,7 +17,8 @@ use Rattle.description.specs.Reading.{description_of, fault}
 use Rattle.description_parts.specs.Consistency.{joint_fault}
 use Rattle.description_values.specs.KnownKeys.{first_refused}
 use Rattle.description_keys.specs.Refusals.{key_fault, stream_keys, streams_of}
-use Rattle.description_keys.specs.StreamKeys.{refuses_stream, refuses_rbx, refuses_mb, refuses_frames, refuses_frame, refuses_frame_size, stream_multiplexing, stream_framing, greatest_rbx, greatest_frame, stream_size}
+use Rattle.description_keys.specs.StreamKeys.{refuses_stream, refuses_rbx, refuses_mb, refuses_frames, refuses_frame, refuses_frame_size, stream_multiplexing}
+use Rattle.description_keys.specs.StreamKeys.{stream_framing, greatest_rbx, greatest_frame, stream_size}
 use Rattle.description_values.specs.Values.{elements, elements_in, integer_in, list_of, tables_at}
 use Rattle.description_keys.specs.declared.fault.DescFault.{DescFault}
 use Rattle.description_keys.specs.declared.fault.DescFault.TheVariants.{Streams, Stream}
@@ -23,7 +26,8 @@ use Rattle.description_keys.specs.declared.fault.DescError.{DescError}
 use Rattle.description_keys.specs.declared.fault.DescError.TheVariants.{Refused}
 use Rattle.description_parts.proofs.Counts.{AllAccept, all_accept, if_none, map_none, no_fault, or_none}
 use Rattle.job_text.specs.DescriptionParts.{EventPartView, HeadingView, NetworkPartView, ProgramPartView, StreamPartView, TablePartView}
-use Rattle.job_text.specs.Documents.{document, elements_of, event_table, network_table, program_table, stream_table, table_table, stream_members, stream_rest, with_table, with_tables}
+use Rattle.job_text.specs.Documents.{document, elements_of, event_table, network_table, program_table, stream_table, table_table, stream_members, stream_rest}
+use Rattle.job_text.specs.Documents.{with_table, with_tables}
 use Rattle.job_text.specs.Fields.{limit_numbers}
 use Rattle.job_text.specs.KeyLines.{with_hex, with_list, with_numbers}
 use Rattle.job_text.specs.Laws.{TextsAreRead, FitsHeading, FitsEvent, FitsNetwork, FitsProgram, FitsStream, FitsTable}
@@ -44,7 +48,8 @@ past_list : (key k : List ℕ) (ns : List ℕ) (more : Members) → IsBehind key
 past_list key k [] more behind = refl
 past_list key k (n ∷ ns) more behind = behind _ more
 
-past_limit : (k : List ℕ) (l : Option ℕ) (more : Members) → IsBehind (codes "pts_limit") k → get_member k (with_numbers (limit_numbers l) more) ≡ get_member k more
+past_limit : (k : List ℕ) (l : Option ℕ) (more : Members) → IsBehind (codes "pts_limit") k →
+    get_member k (with_numbers (limit_numbers l) more) ≡ get_member k more
 past_limit k None more behind = refl
 past_limit k (Some n) more behind = behind _ more
 
@@ -53,17 +58,22 @@ abbrev leak_value : Option MultiplexingBuffer → Option Data
 leak_value None = None
 leak_value (Some m) = Some (integer (pos m.rbx))
 
-rest_leak : (a : Allowance) (m : Option MultiplexingBuffer) (f : Option Framing) (l : Option ℕ) (s : StreamPartView) → get_member (codes "rbx") (stream_rest a m f l s) ≡ leak_value m
-rest_leak (Groups u p) None None l s = past_limit (codes "rbx") l _ (λ d ms. refl) ∙ past_list (codes "shared_with") (codes "rbx") s.shared_with _ (λ d ms. refl)
+rest_leak : (a : Allowance) (m : Option MultiplexingBuffer) (f : Option Framing) (l : Option ℕ) (s : StreamPartView) →
+    get_member (codes "rbx") (stream_rest a m f l s) ≡ leak_value m
+rest_leak (Groups u p) None None l s = past_limit (codes "rbx") l _ (λ d ms. refl)
+    ∙ past_list (codes "shared_with") (codes "rbx") s.shared_with _ (λ d ms. refl)
 rest_leak (Groups u p) (Some m) None l s = past_limit (codes "rbx") l _ (λ d ms. refl)
-rest_leak (Groups u p) None (Some f) l s = past_limit (codes "rbx") l _ (λ d ms. refl) ∙ past_list (codes "shared_with") (codes "rbx") s.shared_with _ (λ d ms. refl)
+rest_leak (Groups u p) None (Some f) l s = past_limit (codes "rbx") l _ (λ d ms. refl)
+    ∙ past_list (codes "shared_with") (codes "rbx") s.shared_with _ (λ d ms. refl)
 rest_leak (Groups u p) (Some m) (Some f) l s = past_limit (codes "rbx") l _ (λ d ms. refl)
 rest_leak (Pace u p) None None l s = past_limit (codes "rbx") l _ (λ d ms. refl) ∙ past_list (codes "shared_with") (codes "rbx") s.shared_with _ (λ d ms. refl)
 rest_leak (Pace u p) (Some m) None l s = past_limit (codes "rbx") l _ (λ d ms. refl)
-rest_leak (Pace u p) None (Some f) l s = past_limit (codes "rbx") l _ (λ d ms. refl) ∙ past_list (codes "shared_with") (codes "rbx") s.shared_with _ (λ d ms. refl)
+rest_leak (Pace u p) None (Some f) l s = past_limit (codes "rbx") l _ (λ d ms. refl)
+    ∙ past_list (codes "shared_with") (codes "rbx") s.shared_with _ (λ d ms. refl)
 rest_leak (Pace u p) (Some m) (Some f) l s = past_limit (codes "rbx") l _ (λ d ms. refl)
 
-pub leak_at : (a : Allowance) (m : Option MultiplexingBuffer) (f : Option Framing) (l : Option ℕ) (s : StreamPartView) → get_member (codes "rbx") (stream_members a m f l s) ≡ leak_value m
+pub leak_at : (a : Allowance) (m : Option MultiplexingBuffer) (f : Option Framing) (l : Option ℕ) (s : StreamPartView) →
+    get_member (codes "rbx") (stream_members a m f l s) ≡ leak_value m
 leak_at (Groups u p) m f l s = past_hex (codes "descriptors") (codes "rbx") s.descriptors _ (λ d ms. refl) ∙ rest_leak (Groups u p) m f l s
 leak_at (Pace u p) m f l s = past_hex (codes "descriptors") (codes "rbx") s.descriptors _ (λ d ms. refl) ∙ rest_leak (Pace u p) m f l s
 
@@ -72,17 +82,21 @@ abbrev size_value : Option MultiplexingBuffer → Option Data
 size_value None = None
 size_value (Some m) = Some (integer (pos m.size))
 
-rest_size : (a : Allowance) (m : Option MultiplexingBuffer) (f : Option Framing) (l : Option ℕ) (s : StreamPartView) → get_member (codes "mb") (stream_rest a m f l s) ≡ size_value m
+rest_size : (a : Allowance) (m : Option MultiplexingBuffer) (f : Option Framing) (l : Option ℕ) (s : StreamPartView) →
+    get_member (codes "mb") (stream_rest a m f l s) ≡ size_value m
 rest_size (Groups u p) None None l s = past_limit (codes "mb") l _ (λ d ms. refl) ∙ past_list (codes "shared_with") (codes "mb") s.shared_with _ (λ d ms. refl)
 rest_size (Groups u p) (Some m) None l s = refl
-rest_size (Groups u p) None (Some f) l s = past_limit (codes "mb") l _ (λ d ms. refl) ∙ past_list (codes "shared_with") (codes "mb") s.shared_with _ (λ d ms. refl)
+rest_size (Groups u p) None (Some f) l s = past_limit (codes "mb") l _ (λ d ms. refl)
+    ∙ past_list (codes "shared_with") (codes "mb") s.shared_with _ (λ d ms. refl)
 rest_size (Groups u p) (Some m) (Some f) l s = refl
 rest_size (Pace u p) None None l s = past_limit (codes "mb") l _ (λ d ms. refl) ∙ past_list (codes "shared_with") (codes "mb") s.shared_with _ (λ d ms. refl)
 rest_size (Pace u p) (Some m) None l s = refl
-rest_size (Pace u p) None (Some f) l s = past_limit (codes "mb") l _ (λ d ms. refl) ∙ past_list (codes "shared_with") (codes "mb") s.shared_with _ (λ d ms. refl)
+rest_size (Pace u p) None (Some f) l s = past_limit (codes "mb") l _ (λ d ms. refl)
+    ∙ past_list (codes "shared_with") (codes "mb") s.shared_with _ (λ d ms. refl)
 rest_size (Pace u p) (Some m) (Some f) l s = refl
 
-pub size_at : (a : Allowance) (m : Option MultiplexingBuffer) (f : Option Framing) (l : Option ℕ) (s : StreamPartView) → get_member (codes "mb") (stream_members a m f l s) ≡ size_value m
+pub size_at : (a : Allowance) (m : Option MultiplexingBuffer) (f : Option Framing) (l : Option ℕ) (s : StreamPartView) →
+    get_member (codes "mb") (stream_members a m f l s) ≡ size_value m
 size_at (Groups u p) m f l s = past_hex (codes "descriptors") (codes "mb") s.descriptors _ (λ d ms. refl) ∙ rest_size (Groups u p) m f l s
 size_at (Pace u p) m f l s = past_hex (codes "descriptors") (codes "mb") s.descriptors _ (λ d ms. refl) ∙ rest_size (Pace u p) m f l s
 
@@ -91,36 +105,54 @@ abbrev frame_value : (Framing → ℕ) → Option Framing → Option Data
 frame_value of None = None
 frame_value of (Some f) = Some (integer (pos (of f)))
 
-rest_frames : (a : Allowance) (m : Option MultiplexingBuffer) (f : Option Framing) (l : Option ℕ) (s : StreamPartView) → get_member (codes "frames") (stream_rest a m f l s) ≡ frame_value (λ f. f.frames) f
-rest_frames (Groups u p) None None l s = past_limit (codes "frames") l _ (λ d ms. refl) ∙ past_list (codes "shared_with") (codes "frames") s.shared_with _ (λ d ms. refl)
-rest_frames (Groups u p) (Some m) None l s = past_limit (codes "frames") l _ (λ d ms. refl) ∙ past_list (codes "shared_with") (codes "frames") s.shared_with _ (λ d ms. refl)
-rest_frames (Pace u p) None None l s = past_limit (codes "frames") l _ (λ d ms. refl) ∙ past_list (codes "shared_with") (codes "frames") s.shared_with _ (λ d ms. refl)
-rest_frames (Pace u p) (Some m) None l s = past_limit (codes "frames") l _ (λ d ms. refl) ∙ past_list (codes "shared_with") (codes "frames") s.shared_with _ (λ d ms. refl)
+rest_frames : (a : Allowance) (m : Option MultiplexingBuffer) (f : Option Framing) (l : Option ℕ) (s : StreamPartView) →
+    get_member (codes "frames") (stream_rest a m f l s) ≡ frame_value (λ f. f.frames) f
+rest_frames (Groups u p) None None l s = past_limit (codes "frames") l _ (λ d ms. refl)
+    ∙ past_list (codes "shared_with") (codes "frames") s.shared_with _ (λ d ms. refl)
+rest_frames (Groups u p) (Some m) None l s = past_limit (codes "frames") l _ (λ d ms. refl)
+    ∙ past_list (codes "shared_with") (codes "frames") s.shared_with _ (λ d ms. refl)
+rest_frames (Pace u p) None None l s = past_limit (codes "frames") l _ (λ d ms. refl)
+    ∙ past_list (codes "shared_with") (codes "frames") s.shared_with _ (λ d ms. refl)
+rest_frames (Pace u p) (Some m) None l s = past_limit (codes "frames") l _ (λ d ms. refl)
+    ∙ past_list (codes "shared_with") (codes "frames") s.shared_with _ (λ d ms. refl)
 rest_frames a m (Some f) l s = refl
 
-pub frames_at : (a : Allowance) (m : Option MultiplexingBuffer) (f : Option Framing) (l : Option ℕ) (s : StreamPartView) → get_member (codes "frames") (stream_members a m f l s) ≡ frame_value (λ f. f.frames) f
+pub frames_at : (a : Allowance) (m : Option MultiplexingBuffer) (f : Option Framing) (l : Option ℕ) (s : StreamPartView) →
+    get_member (codes "frames") (stream_members a m f l s) ≡ frame_value (λ f. f.frames) f
 frames_at (Groups u p) m f l s = past_hex (codes "descriptors") (codes "frames") s.descriptors _ (λ d ms. refl) ∙ rest_frames (Groups u p) m f l s
 frames_at (Pace u p) m f l s = past_hex (codes "descriptors") (codes "frames") s.descriptors _ (λ d ms. refl) ∙ rest_frames (Pace u p) m f l s
 
-rest_frame : (a : Allowance) (m : Option MultiplexingBuffer) (f : Option Framing) (l : Option ℕ) (s : StreamPartView) → get_member (codes "frame") (stream_rest a m f l s) ≡ frame_value (λ f. f.frame) f
-rest_frame (Groups u p) None None l s = past_limit (codes "frame") l _ (λ d ms. refl) ∙ past_list (codes "shared_with") (codes "frame") s.shared_with _ (λ d ms. refl)
-rest_frame (Groups u p) (Some m) None l s = past_limit (codes "frame") l _ (λ d ms. refl) ∙ past_list (codes "shared_with") (codes "frame") s.shared_with _ (λ d ms. refl)
-rest_frame (Pace u p) None None l s = past_limit (codes "frame") l _ (λ d ms. refl) ∙ past_list (codes "shared_with") (codes "frame") s.shared_with _ (λ d ms. refl)
-rest_frame (Pace u p) (Some m) None l s = past_limit (codes "frame") l _ (λ d ms. refl) ∙ past_list (codes "shared_with") (codes "frame") s.shared_with _ (λ d ms. refl)
+rest_frame : (a : Allowance) (m : Option MultiplexingBuffer) (f : Option Framing) (l : Option ℕ) (s : StreamPartView) →
+    get_member (codes "frame") (stream_rest a m f l s) ≡ frame_value (λ f. f.frame) f
+rest_frame (Groups u p) None None l s = past_limit (codes "frame") l _ (λ d ms. refl)
+    ∙ past_list (codes "shared_with") (codes "frame") s.shared_with _ (λ d ms. refl)
+rest_frame (Groups u p) (Some m) None l s = past_limit (codes "frame") l _ (λ d ms. refl)
+    ∙ past_list (codes "shared_with") (codes "frame") s.shared_with _ (λ d ms. refl)
+rest_frame (Pace u p) None None l s = past_limit (codes "frame") l _ (λ d ms. refl)
+    ∙ past_list (codes "shared_with") (codes "frame") s.shared_with _ (λ d ms. refl)
+rest_frame (Pace u p) (Some m) None l s = past_limit (codes "frame") l _ (λ d ms. refl)
+    ∙ past_list (codes "shared_with") (codes "frame") s.shared_with _ (λ d ms. refl)
 rest_frame a m (Some f) l s = refl
 
-pub frame_at : (a : Allowance) (m : Option MultiplexingBuffer) (f : Option Framing) (l : Option ℕ) (s : StreamPartView) → get_member (codes "frame") (stream_members a m f l s) ≡ frame_value (λ f. f.frame) f
+pub frame_at : (a : Allowance) (m : Option MultiplexingBuffer) (f : Option Framing) (l : Option ℕ) (s : StreamPartView) →
+    get_member (codes "frame") (stream_members a m f l s) ≡ frame_value (λ f. f.frame) f
 frame_at (Groups u p) m f l s = past_hex (codes "descriptors") (codes "frame") s.descriptors _ (λ d ms. refl) ∙ rest_frame (Groups u p) m f l s
 frame_at (Pace u p) m f l s = past_hex (codes "descriptors") (codes "frame") s.descriptors _ (λ d ms. refl) ∙ rest_frame (Pace u p) m f l s
 
-rest_frame_size : (a : Allowance) (m : Option MultiplexingBuffer) (f : Option Framing) (l : Option ℕ) (s : StreamPartView) → get_member (codes "frame_size") (stream_rest a m f l s) ≡ frame_value (λ f. f.frame_size) f
-rest_frame_size (Groups u p) None None l s = past_limit (codes "frame_size") l _ (λ d ms. refl) ∙ past_list (codes "shared_with") (codes "frame_size") s.shared_with _ (λ d ms. refl)
-rest_frame_size (Groups u p) (Some m) None l s = past_limit (codes "frame_size") l _ (λ d ms. refl) ∙ past_list (codes "shared_with") (codes "frame_size") s.shared_with _ (λ d ms. refl)
-rest_frame_size (Pace u p) None None l s = past_limit (codes "frame_size") l _ (λ d ms. refl) ∙ past_list (codes "shared_with") (codes "frame_size") s.shared_with _ (λ d ms. refl)
-rest_frame_size (Pace u p) (Some m) None l s = past_limit (codes "frame_size") l _ (λ d ms. refl) ∙ past_list (codes "shared_with") (codes "frame_size") s.shared_with _ (λ d ms. refl)
+rest_frame_size : (a : Allowance) (m : Option MultiplexingBuffer) (f : Option Framing) (l : Option ℕ) (s : StreamPartView) →
+    get_member (codes "frame_size") (stream_rest a m f l s) ≡ frame_value (λ f. f.frame_size) f
+rest_frame_size (Groups u p) None None l s = past_limit (codes "frame_size") l _ (λ d ms. refl)
+    ∙ past_list (codes "shared_with") (codes "frame_size") s.shared_with _ (λ d ms. refl)
+rest_frame_size (Groups u p) (Some m) None l s = past_limit (codes "frame_size") l _ (λ d ms. refl)
+    ∙ past_list (codes "shared_with") (codes "frame_size") s.shared_with _ (λ d ms. refl)
+rest_frame_size (Pace u p) None None l s = past_limit (codes "frame_size") l _ (λ d ms. refl)
+    ∙ past_list (codes "shared_with") (codes "frame_size") s.shared_with _ (λ d ms. refl)
+rest_frame_size (Pace u p) (Some m) None l s = past_limit (codes "frame_size") l _ (λ d ms. refl)
+    ∙ past_list (codes "shared_with") (codes "frame_size") s.shared_with _ (λ d ms. refl)
 rest_frame_size a m (Some f) l s = refl
 
-pub frame_size_at : (a : Allowance) (m : Option MultiplexingBuffer) (f : Option Framing) (l : Option ℕ) (s : StreamPartView) → get_member (codes "frame_size") (stream_members a m f l s) ≡ frame_value (λ f. f.frame_size) f
+pub frame_size_at : (a : Allowance) (m : Option MultiplexingBuffer) (f : Option Framing) (l : Option ℕ) (s : StreamPartView) →
+    get_member (codes "frame_size") (stream_members a m f l s) ≡ frame_value (λ f. f.frame_size) f
 frame_size_at (Groups u p) m f l s = past_hex (codes "descriptors") (codes "frame_size") s.descriptors _ (λ d ms. refl) ∙ rest_frame_size (Groups u p) m f l s
 frame_size_at (Pace u p) m f l s = past_hex (codes "descriptors") (codes "frame_size") s.descriptors _ (λ d ms. refl) ∙ rest_frame_size (Pace u p) m f l s
 
@@ -142,7 +174,8 @@ abbrev BufferIs : ℕ → Option MultiplexingBuffer → Option Data → Option D
 BufferIs most m o p =
     ((is_some o || is_some p) && is_none (reads (pos 64000) (pos most) o)) ≡ false
     → ((is_some o || is_some p) && is_none (reads (pos 1) (pos 10000000) p)) ≡ false
-    → (if is_some o || is_some p then Some (record { rbx = unwrap_or (reads (pos 64000) (pos most) o) 64000; size = unwrap_or (reads (pos 1) (pos 10000000) p) 1 }) else None) ≡ m
+    → (if is_some o || is_some p then Some
+    (record { rbx = unwrap_or (reads (pos 64000) (pos most) o) 64000; size = unwrap_or (reads (pos 1) (pos 10000000) p) 1 }) else None) ≡ m
 
 same_buffer : (a b : ℕ) (m : MultiplexingBuffer) → a ≡ m.rbx → b ≡ m.size → ◌≡◌ {A = Option MultiplexingBuffer} (Some (record { rbx = a; size = b })) (Some m)
 same_buffer a b m e f = rw (e, f) refl
@@ -163,25 +196,34 @@ FramingIs most size f o p q =
     → ((is_some o || is_some p || is_some q) && is_none (reads (pos 1) (pos most) p)) ≡ false
     → ((is_some o || is_some p || is_some q) && is_none (reads (pos 1) (pos size) q)) ≡ false
     → (if is_some o || is_some p || is_some q
-    then Some (record { frames = unwrap_or (reads (pos 1) (pos 64) o) 1; frame = unwrap_or (reads (pos 1) (pos most) p) 0; frame_size = unwrap_or (reads (pos 1) (pos size) q) 1 })
+    then Some (record {
+      frames = unwrap_or (reads (pos 1) (pos 64) o) 1;
+      frame = unwrap_or (reads (pos 1) (pos most) p) 0;
+      frame_size =
+          unwrap_or (reads (pos 1) (pos size) q) 1;
+    })
     else None) ≡ f
 
-same_framing : (a b c : ℕ) (f : Framing) → a ≡ f.frames → b ≡ f.frame → c ≡ f.frame_size → ◌≡◌ {A = Option Framing} (Some (record { frames = a; frame = b; frame_size = c })) (Some f)
+same_framing : (a b c : ℕ) (f : Framing) → a ≡ f.frames → b ≡ f.frame → c ≡ f.frame_size →
+    ◌≡◌ {A = Option Framing} (Some (record { frames = a; frame = b; frame_size = c })) (Some f)
 same_framing a b c f x y z = rw (x, y, z) refl
 
-framing_value : (most size : ℕ) (f : Option Framing) → FramingIs most size f (frame_value (λ f. f.frames) f) (frame_value (λ f. f.frame) f) (frame_value (λ f. f.frame_size) f)
+framing_value : (most size : ℕ) (f : Option Framing) →
+    FramingIs most size f (frame_value (λ f. f.frames) f) (frame_value (λ f. f.frame) f) (frame_value (λ f. f.frame_size) f)
 framing_value most size None r s t = refl
 framing_value most size (Some f) r s t =
     same_framing _ _ _ f (itself (pos 1) (pos 64) f.frames 1 r) (itself (pos 1) (pos most) f.frame 0 s) (itself (pos 1) (pos size) f.frame_size 1 t)
 
-pub framing_same : (d : Data) (f : Option Framing) → get (codes "frames") d ≡ frame_value (λ f. f.frames) f → get (codes "frame") d ≡ frame_value (λ f. f.frame) f
+pub framing_same : (d : Data) (f : Option Framing) → get (codes "frames") d ≡ frame_value (λ f. f.frames) f →
+    get (codes "frame") d ≡ frame_value (λ f. f.frame) f
     → get (codes "frame_size") d ≡ frame_value (λ f. f.frame_size) f
     → refuses_frames d ≡ false → refuses_frame d ≡ false → refuses_frame_size d ≡ false → stream_framing d ≡ f
 framing_same d f o p q =
     let size : ℕ = unwrap_or (stream_size d) 1 in
     subst (λ x. FramingIs (greatest_frame d) size f x (get (codes "frame") d) (get (codes "frame_size") d)) (sym o)
     (subst (λ x. FramingIs (greatest_frame d) size f (frame_value (λ f. f.frames) f) x (get (codes "frame_size") d)) (sym p)
-    (subst (λ x. FramingIs (greatest_frame d) size f (frame_value (λ f. f.frames) f) (frame_value (λ f. f.frame) f) x) (sym q) (framing_value (greatest_frame d) size f)))
+    (subst (λ x. FramingIs (greatest_frame d) size f (frame_value (λ f. f.frames) f) (frame_value (λ f. f.frame) f) x) (sym q)
+    (framing_value (greatest_frame d) size f)))
 
 -- ---- the streams of a document
 
@@ -202,7 +244,8 @@ streams_value : (ss ts : List Members) (more : Members) → get_member (codes "s
 streams_value [] ts more none = past_tables (codes "table") (codes "stream") ts more (λ d ms. refl) ∙ none
 streams_value (s ∷ ss) ts more none = refl
 
-streams_at : (h : HeadingView) (es : List Members) (n : Option Members) (ps ss ts : List Members) → get (codes "stream") (table (document h es n ps ss ts)) ≡ array_value ss
+streams_at : (h : HeadingView) (es : List Members) (n : Option Members) (ps ss ts : List Members) →
+    get (codes "stream") (table (document h es n ps ss ts)) ≡ array_value ss
 streams_at h es n ps ss ts =
     past_tables (codes "event") (codes "stream") es _ (λ d ms. refl)
     ∙ past_table (codes "network") (codes "stream") n _ (λ d ms. refl)
@@ -225,14 +268,17 @@ elements_is key d ts is = ap elements_at is ∙ elements_value ts
 
 -- ---- a text that is read
 
-read_ok : (d e : Described) (o : Option DescFault) → Ok d ≡ (elim o as (λ _. Result Described DescError) [ None ↦ Ok e | Some f ↦ Err (Refused f) ]) → (o ≡ None) × (d ≡ e)
+read_ok : (d e : Described) (o : Option DescFault) → Ok d ≡ (elim o as (λ _. Result Described DescError) [ None ↦ Ok e | Some f ↦ Err (Refused f) ]) →
+    (o ≡ None) × (d ≡ e)
 read_ok d e None is = (refl, cc)
 read_ok d e (Some f) is = absurd (cc)
 
 accepted : (d : Data) → key_fault d ≡ None → AllAccept (λ key. refuses_stream key d) stream_keys (streams_of d)
 accepted d h =
-    let arrays = if_none (tables_at true (codes "stream") 0 32 d) (option_map (λ p. Stream p.0 p.1) (first_refused (λ key. refuses_stream key d) stream_keys (streams_of d))) Streams (no_fault d h).stream in
-    all_accept (λ key. refuses_stream key d) stream_keys (streams_of d) (map_none (λ p. Stream p.0 p.1) (first_refused (λ key. refuses_stream key d) stream_keys (streams_of d)) arrays.1)
+    let arrays = if_none (tables_at true (codes "stream") 0 32 d)
+    (option_map (λ p. Stream p.0 p.1) (first_refused (λ key. refuses_stream key d) stream_keys (streams_of d))) Streams (no_fault d h).stream in
+    all_accept (λ key. refuses_stream key d) stream_keys (streams_of d)
+    (map_none (λ p. Stream p.0 p.1) (first_refused (λ key. refuses_stream key d) stream_keys (streams_of d)) arrays.1)
 
 -- the keys of a buffer and of access units are not refused
 record KeysTaken (ds : List Data) : Type 0 where
@@ -248,7 +294,8 @@ keys_taken d h =
     record { rbx = last.0; mb = last.1.0; frames = last.1.1.0; frame = last.1.1.1.0; frame_size = last.1.1.1.1.0 }
 
 stream_has : (p : StreamPartView) → let d : Data = table (stream_table p) in
-    refuses_rbx d ≡ false → refuses_mb d ≡ false → refuses_frames d ≡ false → refuses_frame d ≡ false → refuses_frame_size d ≡ false → HasBuffersOf p (described_stream d)
+    refuses_rbx d ≡ false → refuses_mb d ≡ false → refuses_frames d ≡ false → refuses_frame d ≡ false → refuses_frame_size d ≡ false →
+    HasBuffersOf p (described_stream d)
 stream_has p r s x y z =
     let a : Allowance = p.allowance in
     let m : Option MultiplexingBuffer = p.multiplexing in
@@ -283,15 +330,19 @@ each_has (q ∷ qs) taken (suc k) s p is_s is_p =
       frame_size = All-tail (λ d. refuses_frame_size d ≡ false) d ds taken.frame_size;
     }) k s p is_s is_p
 
-of_document : (d : Described) (ms : Members) (parts : List StreamPartView) → streams_of (table ms) ≡ map table (map stream_table parts) → Ok d ≡ description_of (Some ms)
+of_document : (d : Described) (ms : Members) (parts : List StreamPartView) → streams_of (table ms) ≡ map table (map stream_table parts) →
+    Ok d ≡ description_of (Some ms)
     → (k : ℕ) (s : DescribedStream) (p : StreamPartView) → slice_get d.streams k ≡ Some s → slice_get parts k ≡ Some p → HasBuffersOf p s
 of_document d ms parts are is k s p is_s is_p =
     let read = read_ok d (described (table ms)) (fault (table ms)) is in
     let keys = (or_none (key_fault (table ms)) (joint_fault (described (table ms)) (table ms)) read.0).0 in
-    let streams : d.streams ≡ map described_stream (map table (map stream_table parts)) = ap (λ (x : Described). x.streams) read.1 ∙ ap (map described_stream) are in
+    let streams : d.streams ≡ map described_stream (map table (map stream_table parts)) = ap (λ (x : Described). x.streams) read.1
+    ∙ ap (map described_stream) are in
     each_has parts (subst KeysTaken are (keys_taken (table ms) keys)) k s p (sym (ap (λ (xs : List DescribedStream). slice_get xs k) streams) ∙ is_s) is_p
 
-pub texts_are_described : TextsAreRead → (d : Described) (h : HeadingView) (es : List EventPartView) (n : Option NetworkPartView) (ps : List ProgramPartView) (ss : List StreamPartView) (ts : List TablePartView)
+pub texts_are_described : TextsAreRead →
+    (d : Described) (h : HeadingView) (es : List EventPartView) (n : Option NetworkPartView) (ps : List ProgramPartView) (ss : List StreamPartView)
+    (ts : List TablePartView)
     → FitsHeading h → All FitsEvent es → FitsNetwork n → All FitsProgram ps → All FitsStream ss → All FitsTable ts
     → Ok d ≡ description_of (parse_document
     (heading_text h ++ (flat_map event_text es ++ (network_if_any n ++ (flat_map program_text ps ++ (flat_map stream_text ss ++ flat_map table_text ts))))))

@@ -1,5 +1,6 @@
 -- Units that are sent whole are found again.
-use Rattle.std.proofs.Common.{◌≡◌, ◌≤◌, ◌<◌, ℕ, ◌+◌, ◌-◌, ◌*◌, ◌^◌, ◌==◌, ◌&&◌, Bool, true, false, Option, Some, None, List, [], ◌∷◌, ◌++◌, length, map, take, drop, All, refl, ap, ◌∙◌, arith, inl, inr, append-nil}
+use Rattle.std.proofs.Common.{◌≡◌, ◌≤◌, ◌<◌, ℕ, ◌+◌, ◌-◌, ◌*◌, ◌^◌, ◌==◌, ◌&&◌, Bool, true, false, Option, Some, None, List, [], ◌∷◌, ◌++◌, length, map, take}
+use Rattle.std.proofs.Common.{drop, All, refl, ap, ◌∙◌, arith, inl, inr, append-nil}
 use Rattle.std.proofs.lemmas.Bool.{cases_Bool, eq-eqb, eqb-true, le-leb}
 use Rattle.std.proofs.lemmas.Bool.Decides.{nat_tests}
 use Rattle.std.proofs.lemmas.List.{length-append, take_all}
@@ -17,7 +18,8 @@ use Rattle.unit_queue.specs.OwnedStreams.{OwnedStream, first_slot, end_slot, has
 use Rattle.laws_pid.specs.Sent.{Sending, Ending, next_of, if_sent, each_found}
 use Rattle.laws_pid.specs.Units.{carried_in, unit_header, unit_packets, unit_found}
 use Rattle.laws_run.specs.Placed.{units_placed}
-use Rattle.es_units.specs.CarriedUnits.{Start, CarriedUnit, pes_role, role_of_what, is_access_point, is_unstamped, first_packet, role_of, more_bytes, continued_by, continuation, end_of, is_cut, is_split, units_from, units_in, wire_units}
+use Rattle.es_units.specs.CarriedUnits.{Start, CarriedUnit, pes_role, role_of_what, is_access_point, is_unstamped, first_packet, role_of, more_bytes}
+use Rattle.es_units.specs.CarriedUnits.{continued_by, continuation, end_of, is_cut, is_split, units_from, units_in, wire_units}
 use Rattle.es_units.specs.Stamps.{distance, dts_at, unit_at, moved}
 use Rattle.laws_job.specs.Laws.{later_by}
 use Rattle.laws_job.proofs.PrivateData.{Sixteen}
@@ -49,13 +51,16 @@ by_stamps i id size marks pts dts bytes = elim (cases_Bool (on_wire pts == on_wi
 
 -- and its marks
 by_header : (i id size : ℕ) (marks : Marks) (pts dts : ℕ) (bytes : List ℕ) → HasSixteen marks →
-    pes_role i (written_header id size marks pts dts).id (header_marks marks.random_access (written_header id size marks pts dts)) (written_header id size marks pts dts).stamps bytes
+    pes_role i (written_header id size marks pts dts).id (header_marks marks.random_access (written_header id size marks pts dts))
+    (written_header id size marks pts dts).stamps bytes
     ≡ Start (record { packet = i; stream_id = id; unit = record { dts = on_wire dts; pts = on_wire pts; marks = marks; bytes = bytes } })
 by_header i id size marks pts dts bytes sixteen =
-    ap (λ (m : Marks). pes_role i (written_header id size marks pts dts).id m (written_header id size marks pts dts).stamps bytes) (marks_are_read id size marks pts dts sixteen)
+    ap (λ (m : Marks). pes_role i (written_header id size marks pts dts).id m (written_header id size marks pts dts).stamps bytes)
+    (marks_are_read id size marks pts dts sixteen)
     ∙ by_stamps i id size marks pts dts bytes
 
-own_pid : (pid : ℕ) (f : FindingView) → f.pid ≡ Some pid → role_of pid f ≡ role_of_what (first_packet f.packet f.begun) (is_unstamped f.begun) (is_access_point f.begun) f.what
+own_pid : (pid : ℕ) (f : FindingView) → f.pid ≡ Some pid →
+    role_of pid f ≡ role_of_what (first_packet f.packet f.begun) (is_unstamped f.begun) (is_access_point f.begun) f.what
 unfolding role_of
 own_pid pid f e = rw (e, eq-eqb pid pid refl) refl
 
@@ -106,13 +111,15 @@ one_more split pid id base0 f fs i u us is some rest =
       units = rw (is, rest.uncut, none_lost split, rest.alone, bytes, there) (ap (λ (xs : List AccessUnit). later_by base0 u ∷ xs) rest.units);
     }
 
-one_sent : (split : Bool) (pid id base0 n : ℕ) (u : AccessUnit) (packets : List ℕ) (xs : List (Sending AccessUnit)) (us : List AccessUnit) → unit_packets id base0 u ≤ length packets →
+one_sent : (split : Bool) (pid id base0 n : ℕ) (u : AccessUnit) (packets : List ℕ) (xs : List (Sending AccessUnit)) (us : List AccessUnit) →
+    unit_packets id base0 u ≤ length packets →
     1 ≤ length u.bytes → Sixteen u → Found split pid id base0 (map (with_pid_at pid) (each_found (unit_found id base0) n xs)) us →
     Found split pid id base0 (map (with_pid_at pid) (if_sent (unit_found id base0 (next_of n xs) u) packets ++ each_found (unit_found id base0) n xs)) (u ∷ us)
 unfolding if_sent
 one_sent split pid id base0 n u [] xs us whole some sixteen rest = absurd (omega (arith, whole, some_packet id base0 u some))
 one_sent split pid id base0 n u (i ∷ is) xs us whole some sixteen rest =
-    one_more split pid id base0 (with_pid_at pid (unit_found id base0 (next_of n xs) u i is)) (map (with_pid_at pid) (each_found (unit_found id base0) n xs)) i u us
+    one_more split pid id base0 (with_pid_at pid (unit_found id base0 (next_of n xs) u i is)) (map (with_pid_at pid) (each_found (unit_found id base0) n xs)) i
+    u us
     (begins pid id base0 (next_of n xs) u i is whole sixteen) some rest
 
 all_found_again : (split : Bool) (pid id base0 n : ℕ) (xs : List (Sending AccessUnit)) → All (IsThere id base0) xs →
@@ -121,7 +128,8 @@ unfolding each_found
 all_found_again split pid id base0 n [] all = record { alone = unfold continuation in refl; uncut = unfold is_cut in refl; units = unfold units_in in refl }
 all_found_again split pid id base0 n (x ∷ xs) all =
     let there = All-head (IsThere id base0) x xs all in
-    one_sent split pid id base0 n x.item x.packets xs (map (λ y. y.item) xs) there.0 there.1 there.2 (all_found_again split pid id base0 n xs (All-tail (IsThere id base0) x xs all))
+    one_sent split pid id base0 n x.item x.packets xs (map (λ y. y.item) xs) there.0 there.1 there.2
+    (all_found_again split pid id base0 n xs (All-tail (IsThere id base0) x xs all))
 
 -- 3. Of a lane
 
@@ -130,7 +138,8 @@ unfolding units_placed
 items l free [] slots = refl
 items l free (u ∷ us) slots = ap (λ (xs : List AccessUnit). u ∷ xs) (items l (end_slot l free u) us slots)
 
-both : (l : OwnedStream) (free : ℕ) (us : List AccessUnit) (slots : List ℕ) → All (IsWhole l) (units_placed l free us slots) → All (λ u. 1 ≤ length u.bytes) us →
+both : (l : OwnedStream) (free : ℕ) (us : List AccessUnit) (slots : List ℕ) → All (IsWhole l) (units_placed l free us slots) →
+    All (λ u. 1 ≤ length u.bytes) us →
     All Sixteen us → All (IsThere l.parameters.stream_id l.parameters.base0) (units_placed l free us slots)
 unfolding units_placed
 both l free [] slots whole some sixteen = All-nil (IsThere l.parameters.stream_id l.parameters.base0)
@@ -141,8 +150,10 @@ both l free (u ∷ us) slots whole some sixteen =
     (All-head (IsWhole l) x rest whole, All-head (λ v. 1 ≤ length v.bytes) u us some, All-head Sixteen u us sixteen)
     (both l (end_slot l free u) us slots (All-tail (IsWhole l) x rest whole) (All-tail (λ v. 1 ≤ length v.bytes) u us some) (All-tail Sixteen u us sixteen))
 
-pub found_again : (pid n : ℕ) (l : OwnedStream) (us : List AccessUnit) (slots : List ℕ) → All (IsWhole l) (units_placed l 0 us slots) → All (λ u. 1 ≤ length u.bytes) us →
-    All Sixteen us → wire_units pid (map (with_pid_at pid) (each_found (unit_found l.parameters.stream_id l.parameters.base0) n (units_placed l 0 us slots))) ≡ map (later_by l.parameters.base0) us
+pub found_again : (pid n : ℕ) (l : OwnedStream) (us : List AccessUnit) (slots : List ℕ) → All (IsWhole l) (units_placed l 0 us slots) →
+    All (λ u. 1 ≤ length u.bytes) us →
+    All Sixteen us → wire_units pid (map (with_pid_at pid) (each_found (unit_found l.parameters.stream_id l.parameters.base0) n (units_placed l 0 us slots))) ≡
+    map (later_by l.parameters.base0) us
 found_again pid n l us slots whole some sixteen =
     let fs = map (with_pid_at pid) (each_found (unit_found l.parameters.stream_id l.parameters.base0) n (units_placed l 0 us slots)) in
     (all_found_again (is_split pid fs) pid l.parameters.stream_id l.parameters.base0 n (units_placed l 0 us slots) (both l 0 us slots whole some sixteen)).units
@@ -164,4 +175,8 @@ pub moved_later : (base base0 : ℕ) (before : Option ℕ) (wire : List AccessUn
 unfolding moved unit_at
 moved_later base base0 before [] range = refl
 moved_later base base0 before (u ∷ us) range =
-    rw (dts_later base base0 before u.dts range, pts_later base base0 (dts_at base before u.dts) u.pts range, moved_later base base0 (Some (dts_at base before u.dts)) us range) refl
+    rw (
+      dts_later base base0 before u.dts range,
+      pts_later base base0 (dts_at base before u.dts) u.pts range,
+      moved_later base base0 (Some (dts_at base before u.dts)) us range,
+    ) refl

@@ -67,7 +67,9 @@ pub record BuffersKept (schedule : Scheduled) (part : StreamPartView) (s : Descr
 
 -- so of each stream, with what was chosen for it
 abbrev pub BuffersKeptLaw : Type 0
-BuffersKeptLaw = (options : JobOptionsView) (input : JobInputView) (rate : ℕ) (d : Described) (p : Planned) (findings : List FindingView) (units : List (ℕ × AccessUnit)) (n : ℕ) →
-    HasTomlNumbers options input rate → IsText d (description_text options input rate) → IsInRange d → IsServing d p → AreUnits false findings d units → n ≤ 2 ^ 40 →
+BuffersKeptLaw = (options : JobOptionsView) (input : JobInputView) (rate : ℕ) (d : Described) (p : Planned) (findings : List FindingView)
+    (units : List (ℕ × AccessUnit)) (n : ℕ) →
+    HasTomlNumbers options input rate → IsText d (description_text options input rate) → IsInRange d → IsServing d p → AreUnits false findings d units →
+    n ≤ 2 ^ 40 →
     (k : ℕ) (s : DescribedStream) (part : StreamPartView) → slice_get d.streams k ≡ Some s → slice_get (stream_parts input) k ≡ Some part →
     BuffersKept (schedule_for d p) part s (units_of k units) n (output_of false (schedule_for d p) (job_history units n))

@@ -64,4 +64,5 @@ pub record MadeOf (options : JobOptionsView) (findings : List FindingView) (inpu
   pub tables_first : All (BeginsNear input.programs streams) streams → TablesComeFirst options findings input
 
 abbrev pub FirstUnitsLaw : Type 0
-FirstUnitsLaw = (options : JobOptionsView) (count : ℕ) (findings : List FindingView) (input : JobInputView) → job_input options count findings ≡ Ok input → MadeOf options findings input
+FirstUnitsLaw = (options : JobOptionsView) (count : ℕ) (findings : List FindingView) (input : JobInputView) → job_input options count findings ≡ Ok input →
+    MadeOf options findings input

@@ -69,7 +69,8 @@ abbrev pub schedule_for : Described → Planned → Scheduled
 schedule_for d p = plan_schedule (record { description = d; plan = p })
 
 abbrev pub CarriedLaw : Type 0
-CarriedLaw = (d : Described) (p : Planned) (findings : List FindingView) (units : List (ℕ × AccessUnit)) (n : ℕ) → IsInRange d → IsServing d p → AreUnits false findings d units →
+CarriedLaw = (d : Described) (p : Planned) (findings : List FindingView) (units : List (ℕ × AccessUnit)) (n : ℕ) → IsInRange d → IsServing d p →
+    AreUnits false findings d units →
     n ≤ 2 ^ 40 → RoundTrip (schedule_for d p) findings units n (output_of false (schedule_for d p) (job_history units n))
 
 -- ---- found again
@@ -89,14 +90,16 @@ abbrev pub FoundAgainLaw : Type 0
 FoundAgainLaw = (d : Described) (p : Planned) (findings : List FindingView) (units : List (ℕ × AccessUnit)) (n k : ℕ) (s : DescribedStream) (base : ℕ) →
     IsInRange d → IsServing d p → AreUnits false findings d units → n ≤ 2 ^ 40 → slice_get d.streams k ≡ Some s →
     AreMoved (apart_wire_units s.pid findings) base (units_of k units) → AllDue d.rate n (units_of k units) →
-    wire_units s.pid (all_found (output_of false (schedule_for d p) (job_history units n))) ≡ map (later_by (d.base0 + 2 ^ 33 - base)) (apart_wire_units s.pid findings)
+    wire_units s.pid (all_found (output_of false (schedule_for d p) (job_history units n))) ≡ map (later_by (d.base0 + 2 ^ 33 - base))
+    (apart_wire_units s.pid findings)
 
 -- if no two units in a row that were found have one DTS, they are found again as they are
 abbrev pub OwnAgainLaw : Type 0
 OwnAgainLaw = (d : Described) (p : Planned) (findings : List FindingView) (units : List (ℕ × AccessUnit)) (n k : ℕ) (s : DescribedStream) (base : ℕ) →
     IsInRange d → IsServing d p → AreUnits false findings d units → n ≤ 2 ^ 40 → slice_get d.streams k ≡ Some s →
     AreMoved (wire_units s.pid findings) base (units_of k units) → AllDue d.rate n (units_of k units) →
-    wire_units s.pid (all_found (output_of false (schedule_for d p) (job_history units n))) ≡ map (later_by (d.base0 + 2 ^ 33 - base)) (wire_units s.pid findings)
+    wire_units s.pid (all_found (output_of false (schedule_for d p) (job_history units n))) ≡
+    map (later_by (d.base0 + 2 ^ 33 - base)) (wire_units s.pid findings)
 
 -- stamps of 33 bits
 abbrev pub IsOnWire : AccessUnit → Type 0
@@ -106,5 +109,6 @@ IsOnWire u = (u.dts < 2 ^ 33) × (u.pts < 2 ^ 33)
 abbrev pub SameAgainLaw : Type 0
 SameAgainLaw = (d : Described) (p : Planned) (findings : List FindingView) (units : List (ℕ × AccessUnit)) (n k : ℕ) (s : DescribedStream) →
     IsInRange d → IsServing d p → AreUnits false findings d units → n ≤ 2 ^ 40 → slice_get d.streams k ≡ Some s →
-    AreMoved (apart_wire_units s.pid findings) d.base0 (units_of k units) → AllDue d.rate n (units_of k units) → All IsOnWire (apart_wire_units s.pid findings) →
+    AreMoved (apart_wire_units s.pid findings) d.base0 (units_of k units) → AllDue d.rate n (units_of k units) →
+    All IsOnWire (apart_wire_units s.pid findings) →
     wire_units s.pid (all_found (output_of false (schedule_for d p) (job_history units n))) ≡ apart_wire_units s.pid findings

@@ -27,9 +27,9 @@ pub fn carried()
     mux_core::laws::headline();
 }
 
-/// States that the description of a job has for each stream the multiplexing buffer and the access units that were chosen
-/// for the stream of the input, if all its numbers are TOML's (`buffers`). So the bytes of such a job keep these buffers
-/// (`kept`).
+/// States that the description of a job has for each stream the multiplexing buffer and the access units that were
+/// chosen for the stream of the input, if all its numbers are TOML's (`buffers`). So the bytes of such a job keep these
+/// buffers (`kept`).
 pub fn declared()
     ensures buffers { DeclaredLaw }
     ensures kept { BuffersKeptLaw }
@@ -40,9 +40,9 @@ pub fn declared()
 
 /// States that if the run ends no earlier than the DTS of each unit of a stream, what a demultiplexer finds in these
 /// bytes, with their end, are all these units and no other: on the stream's PID the units are those of the input, in
-/// order, their marks and bytes the same and their stamps later by one constant, modulo 2^33; where units of a data stream
-/// in a row have one DTS, all but the last are decoded a little earlier, and if no two have one DTS it is their own (`own`). If
-/// that constant is 0 they are the input's.
+/// order, their marks and bytes the same and their stamps later by one constant, modulo 2^33; where units of a data
+/// stream in a row have one DTS, all but the last are decoded a little earlier, and if no two have one DTS it is their
+/// own (`own`). If that constant is 0 they are the input's.
 pub fn found_again()
     ensures moved { FoundAgainLaw }
     ensures own { OwnAgainLaw }
@@ -60,9 +60,9 @@ pub fn joined_accepted()
 }
 
 /// States for a job made of several inputs: if the run ends no earlier than the DTS of each unit of a stream, a
-/// demultiplexer finds on its PID in these bytes, with their end, all units on the wire that made its units, and no other:
-/// in order, their bytes the same and their stamps later by one constant, modulo 2^33. `stream_jobs` says which units
-/// these are: the findings in the stream's own input, on the PID that it had there.
+/// demultiplexer finds on its PID in these bytes, with their end, all units on the wire that made its units, and no
+/// other: in order, their bytes the same and their stamps later by one constant, modulo 2^33. `stream_jobs` says which
+/// units these are: the findings in the stream's own input, on the PID that it had there.
 pub fn joined_again()
     ensures { JoinedAgainLaw }
 {

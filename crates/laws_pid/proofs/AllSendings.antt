@@ -28,7 +28,8 @@ regroup : (a b c d g h : List PidFinding) → b ++ c ≡ d ++ g → a ++ d ≡ h
 regroup a b c d g h rest first =
     append_assoc a b c ∙ ap (λ (xs : List PidFinding). a ++ xs) rest ∙ sym (append_assoc a d g) ∙ ap (λ (xs : List PidFinding). xs ++ g) first
 
-pub all_give : {X : Type 0} (start : X → Start) (text : X → List ℕ) (found : Ending → X → ℕ → List ℕ → PidFinding) (count : ℕ) (xs : List (Sending X)) (held : Option OpenUnit) →
+pub all_give : {X : Type 0} (start : X → Start) (text : X → List ℕ) (found : Ending → X → ℕ → List ℕ → PidFinding) (count : ℕ) (xs : List (Sending X))
+    (held : Option OpenUnit) →
     Waits held → All (Gives start text found) xs →
     finds (sent_payloads start text xs) held ++ map (at_packet count) (ended true (leaves (sent_payloads start text xs) held))
     ≡ ends_at (next_of count xs) held ++ each_found found count xs

@@ -1,5 +1,6 @@
 -- Nothing is wrong with the packets of units and of sections.
-use Rattle.std.proofs.Common.{◌≡◌, ℕ, ◌+◌, ◌*◌, ◌<◌, ◌≤◌, ◌==◌, nat_le, Bool, true, false, cond, List, [], ◌∷◌, ◌++◌, length, map, take, drop, All, Option, Some, None, Result, Ok, Err, refl, sym, ap, subst, ◌∙◌, inl, inr, arith, eq-eqb, append-nil}
+use Rattle.std.proofs.Common.{◌≡◌, ℕ, ◌+◌, ◌*◌, ◌<◌, ◌≤◌, ◌==◌, nat_le, Bool, true, false, cond, List, [], ◌∷◌, ◌++◌, length, map, take, drop, All, Option}
+use Rattle.std.proofs.Common.{Some, None, Result, Ok, Err, refl, sym, ap, subst, ◌∙◌, inl, inr, arith, eq-eqb, append-nil}
 use Rattle.std.specs.Prelude.{option_map}
 use Rattle.std.proofs.lemmas.Bool.{cases_Bool}
 use Rattle.std.proofs.lemmas.List.Elements.{All-nil, All-cons, All-head, All-tail, All-append}
@@ -83,7 +84,8 @@ pub ended_fine : (open_ended : Bool) (held : Option OpenUnit) → All Fine (ende
 unfolding ended
 ended_fine open_ended None = All-nil Fine
 ended_fine open_ended (Some part) =
-    All-cons Fine (about part (end_of open_ended part.bytes part.kind (header_at part.bytes))) [] (end_fine open_ended part.bytes part.kind (header_at part.bytes)) (All-nil Fine)
+    All-cons Fine (about part (end_of open_ended part.bytes part.kind (header_at part.bytes))) []
+    (end_fine open_ended part.bytes part.kind (header_at part.bytes)) (All-nil Fine)
 
 -- ---- what the bytes of a PES packet decide is no fault
 
@@ -129,7 +131,8 @@ abbrev PesOrNone : Option OpenUnit → Type 0
 PesOrNone None = Unit {0}
 PesOrNone (Some part) = part.kind ≡ unit_kinds.Pes
 
-open_pes : (packet : ℕ) (access : Bool) (bytes : List ℕ) (d : Option WhatView) → PesOrNone (unless_decided (record { packet = packet; kind = unit_kinds.Pes; access = access; bytes = bytes }) d)
+open_pes : (packet : ℕ) (access : Bool) (bytes : List ℕ) (d : Option WhatView) →
+    PesOrNone (unless_decided (record { packet = packet; kind = unit_kinds.Pes; access = access; bytes = bytes }) d)
 unfolding unless_decided
 open_pes packet access bytes None = refl
 open_pes packet access bytes (Some w) = tt
@@ -139,9 +142,12 @@ rest_one : (i : ℕ) (front : List ℕ) (held : Option OpenUnit) → PesOrNone h
 unfolding by_role role_by found_appended next_open undecided
 rest_one i front None h = (All-nil Fine, tt)
 rest_one i front (Some part) h =
-    subst (λ (f : UnitKind). All Fine (found_if (record { packet = part.packet; kind = f; access = part.access; bytes = part.bytes ++ front }) (decided f (part.bytes ++ front)))
-    × PesOrNone (unless_decided (record { packet = part.packet; kind = f; access = part.access; bytes = part.bytes ++ front }) (decided f (part.bytes ++ front)))) (sym h) (
-      found_fine (record { packet = part.packet; kind = unit_kinds.Pes; access = part.access; bytes = part.bytes ++ front }) (decided unit_kinds.Pes (part.bytes ++ front)) (decided_fine (part.bytes ++ front)),
+    subst (λ (f : UnitKind). All Fine
+    (found_if (record { packet = part.packet; kind = f; access = part.access; bytes = part.bytes ++ front }) (decided f (part.bytes ++ front)))
+    × PesOrNone (unless_decided (record { packet = part.packet; kind = f; access = part.access; bytes = part.bytes ++ front })
+    (decided f (part.bytes ++ front)))) (sym h) (
+      found_fine (record { packet = part.packet; kind = unit_kinds.Pes; access = part.access; bytes = part.bytes ++ front })
+          (decided unit_kinds.Pes (part.bytes ++ front)) (decided_fine (part.bytes ++ front)),
       open_pes part.packet part.access (part.bytes ++ front) (decided unit_kinds.Pes (part.bytes ++ front)),
     )
 
@@ -151,7 +157,8 @@ rest_fine text [] held h = All-nil FineAt
 rest_fine text (i ∷ is) held h =
     let front : List ℕ = take 184 text in
     let one = rest_one i front held h in
-    All-append FineAt (map (at_packet i) (by_role i (does (later i front)) held)) (finds (cut Continues (drop 184 text) is) (next_open i (does (later i front)) held))
+    All-append FineAt (map (at_packet i) (by_role i (does (later i front)) held))
+    (finds (cut Continues (drop 184 text) is) (next_open i (does (later i front)) held))
     (at_fine i (by_role i (does (later i front)) held) one.0) (rest_fine (drop 184 text) is (next_open i (does (later i front)) held) one.1)
 
 -- ---- sections
@@ -163,7 +170,8 @@ unfolding by_role role_by next_open undecided
 taken_for_pes i bytes held e =
     let part : OpenUnit = record { packet = i; kind = unit_kinds.Pes; access = false; bytes = 0 ∷ bytes } in
     rw e (
-      All-append Fine (ended false held) (found_within part (decided unit_kinds.Pes (0 ∷ bytes))) (ended_fine false held) (within_fine part (decided unit_kinds.Pes (0 ∷ bytes)) (decided_fine (0 ∷ bytes))),
+      All-append Fine (ended false held) (found_within part (decided unit_kinds.Pes (0 ∷ bytes))) (ended_fine false held)
+          (within_fine part (decided unit_kinds.Pes (0 ∷ bytes)) (decided_fine (0 ∷ bytes))),
       open_pes i false (0 ∷ bytes) (decided unit_kinds.Pes (0 ∷ bytes)),
     )
 
@@ -173,7 +181,8 @@ taken_for_fill : (i : ℕ) (bytes : List ℕ) (held : Option OpenUnit) → may_b
 taken_for_fill i bytes held e f w =
     let found : by_role i (does (pointing i bytes)) held ≡ ended false held =
     first_found i bytes held e w ∙ ap (λ (xs : List Found). ended false held ++ xs) (fill_found i bytes f) ∙ append-nil (ended false held) in
-    let left : next_open i (does (pointing i bytes)) held ≡ None = first_left i bytes held e ∙ ap (λ (o : Option (List ℕ)). option_map (section i) o) (fill_last bytes f) in
+    let left : next_open i (does (pointing i bytes)) held ≡ None =
+    first_left i bytes held e ∙ ap (λ (o : Option (List ℕ)). option_map (section i) o) (fill_last bytes f) in
     (subst (All Fine) (sym found) (ended_fine false held), subst PesOrNone (sym left) tt)
 
 -- the packets of either
@@ -203,7 +212,8 @@ given_fine text i is held g few w =
     let fine : All FineAt (map (at_packet i) (ended false held) ++ section_found e text i is ∷ []) =
     All-append FineAt (map (at_packet i) (ended false held)) (section_found e text i is ∷ []) (at_fine i (ended false held) (ended_fine false held))
     (All-cons FineAt (section_found e text i is) [] (found_section e text i is) (All-nil FineAt)) in
-    front_fine (finds (cut Begins (filled_section text) (i ∷ is)) held) (ends_at e (leaves (cut Begins (filled_section text) (i ∷ is)) held)) (subst (All FineAt) (sym gives) fine)
+    front_fine (finds (cut Begins (filled_section text) (i ∷ is)) held) (ends_at e (leaves (cut Begins (filled_section text) (i ∷ is)) held))
+    (subst (All FineAt) (sym gives) fine)
 
 -- any whole section
 one_fine : (text is : List ℕ) (held : Option OpenUnit) → IsWhole text → 184 * length is < 1 + length text + 184 → Waits held →
@@ -227,7 +237,8 @@ one_fine text (i ∷ is) held whole few w =
 abbrev SentWhole : Sending (List ℕ) → Type 0
 SentWhole x = IsWhole x.item × (184 * length x.packets < 1 + length x.item + 184)
 
-all_fine : (xs : List (Sending (List ℕ))) (held : Option OpenUnit) → All SentWhole xs → Waits held → All FineAt (finds (sent_payloads (λ _. Begins) filled_section xs) held)
+all_fine : (xs : List (Sending (List ℕ))) (held : Option OpenUnit) → All SentWhole xs → Waits held →
+    All FineAt (finds (sent_payloads (λ _. Begins) filled_section xs) held)
 unfolding sent_payloads
 all_fine [] held h w = none_fine held
 all_fine (x ∷ xs) held h w =
@@ -242,21 +253,28 @@ all_fine (x ∷ xs) held h w =
 
 found_clean : (pid : ℕ) (xs : List PidFinding) → All FineAt xs → All IsClean (map (with_pid_at pid) xs)
 found_clean pid [] h = All-nil IsClean
-found_clean pid (x ∷ xs) h = All-cons IsClean (with_pid_at pid x) (map (with_pid_at pid) xs) (All-head FineAt x xs h) (found_clean pid xs (All-tail FineAt x xs h))
+found_clean pid (x ∷ xs) h =
+    All-cons IsClean (with_pid_at pid x) (map (with_pid_at pid) xs) (All-head FineAt x xs h) (found_clean pid xs (All-tail FineAt x xs h))
 
 pub sections_are_clean : SectionsAreClean
 sections_are_clean pid n content texts run not_null c whole =
     let sent : List (Sending (List ℕ)) = sendings section_packets texts (packets_on pid (run_bytes content 0 n)) in
     let ps : List Payload = sent_payloads (λ _. Begins) filled_section sent in
-    let each : All SentWhole sent = all_sendings IsWhole SentWhole section_packets texts (packets_on pid (run_bytes content 0 n)) (λ t js w le. (w, omega (arith, le))) whole in
+    let each : All SentWhole sent =
+    all_sendings IsWhole SentWhole section_packets texts (packets_on pid (run_bytes content 0 n)) (λ t js w le. (w, omega (arith, le))) whole in
     let fine : All FineAt (finds ps None ++ map (at_packet n) (ended true (leaves ps None))) =
-    All-append FineAt (finds ps None) (map (at_packet n) (ended true (leaves ps None))) (all_fine sent None each tt) (at_fine n (ended true (leaves ps None)) (ended_fine true (leaves ps None))) in
-    subst (All IsClean) (sym (sent_found (λ _. Begins) filled_section section_packets IsWhole (λ t g. (omega (arith, filled_size t), omega (arith, filled_size t))) pid n content texts run not_null c whole))
+    All-append FineAt (finds ps None) (map (at_packet n) (ended true (leaves ps None))) (all_fine sent None each tt)
+    (at_fine n (ended true (leaves ps None)) (ended_fine true (leaves ps None))) in
+    subst (All IsClean)
+    (sym (sent_found (λ _. Begins) filled_section section_packets IsWhole (λ t g. (omega (arith, filled_size t), omega (arith, filled_size t))) pid n
+    content texts run not_null c whole))
     (found_clean pid (finds ps None ++ map (at_packet n) (ended true (leaves ps None))) fine)
 
 unit_fine : (id base0 : ℕ) (e : Ending) (u : AccessUnit) (i : ℕ) (is : List ℕ) → FineAt (unit_found id base0 e u i is)
 unfolding unit_found
-unit_fine id base0 e u i is = section_fine ((unit_header id base0 u).len == 0) _ _ refl (section_fine (nat_le (length (pes_packet_bytes id base0 u)) (carried_in (has_access u) (i ∷ is))) _ _ refl refl)
+unit_fine id base0 e u i is =
+    section_fine ((unit_header id base0 u).len == 0) _ _ refl
+    (section_fine (nat_le (length (pes_packet_bytes id base0 u)) (carried_in (has_access u) (i ∷ is))) _ _ refl refl)
 
 units_fine : (id base0 count : ℕ) (xs : List (Sending AccessUnit)) → All FineAt (each_found (unit_found id base0) count xs)
 unfolding each_found
@@ -291,7 +309,8 @@ keep_tail : (test : FindingView → Bool) (x : FindingView) (xs : List FindingVi
 keep_tail test x xs true h = All-tail (Passes test) x xs h
 keep_tail test x xs false h = h
 
-by_each : (test : FindingView → Bool) (xs : List FindingView) → All IsOfPid xs → ((pid : ℕ) → (pid == 8191) ≡ false → All (Passes test) (found_of pid xs)) → All (Passes test) xs
+by_each : (test : FindingView → Bool) (xs : List FindingView) → All IsOfPid xs → ((pid : ℕ) → (pid == 8191) ≡ false → All (Passes test) (found_of pid xs)) →
+    All (Passes test) xs
 by_each test [] h each = All-nil (Passes test)
 by_each test (x ∷ xs) h each =
     let own = All-head IsOfPid x xs h in

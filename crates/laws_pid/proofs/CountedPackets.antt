@@ -45,7 +45,8 @@ no_break last pid number p h = unbroken_by _ (number % 16 == (last.counter + 1) 
 abbrev plain_mark : Entry → Marked
 plain_mark entry = record { entry = entry; duplicate = false; broken = None }
 
-mark_plain : (last : Option LastView) (pid number : ℕ) (p : Payload) → Follows number last → mark last (payload_entry pid number p) ≡ plain_mark (payload_entry pid number p)
+mark_plain : (last : Option LastView) (pid number : ℕ) (p : Payload) → Follows number last →
+    mark last (payload_entry pid number p) ≡ plain_mark (payload_entry pid number p)
 unfolding mark is_repeat break_at
 mark_plain None pid number p f = refl
 mark_plain (Some last) pid number p f = rw (no_repeat last pid number p f, no_break last pid number p f) refl
@@ -55,15 +56,18 @@ does_again : (pid number : ℕ) (p : Payload) → role (plain_mark (payload_entr
 unfolding role role_of view_of
 does_again pid number p = ap (λ (start : Start). role_by start (Some p.bytes)) (start_again pid p.start (number % 16) p.bytes)
 
-pub found_plain : (pid number : ℕ) (p : Payload) (s : PidState) → Follows number s.last → found_by s (payload_entry pid number p) ≡ by_role p.index (does p) s.open_unit
+pub found_plain : (pid number : ℕ) (p : Payload) (s : PidState) → Follows number s.last →
+    found_by s (payload_entry pid number p) ≡ by_role p.index (does p) s.open_unit
 unfolding found_at by_break
 found_plain pid number p s f =
     ap (λ (m : Marked). found_at m s.open_unit) (mark_plain s.last pid number p f) ∙ ap (λ (r : Role). by_role p.index r s.open_unit) (does_again pid number p)
 
-pub part_plain : (pid number : ℕ) (p : Payload) (s : PidState) → Follows number s.last → (step s (payload_entry pid number p)).open_unit ≡ next_open p.index (does p) s.open_unit
+pub part_plain : (pid number : ℕ) (p : Payload) (s : PidState) → Follows number s.last →
+    (step s (payload_entry pid number p)).open_unit ≡ next_open p.index (does p) s.open_unit
 unfolding step_marked unbroken
 part_plain pid number p s f =
-    ap (λ (m : Marked). (step_marked m s).open_unit) (mark_plain s.last pid number p f) ∙ ap (λ (r : Role). next_open p.index r s.open_unit) (does_again pid number p)
+    ap (λ (m : Marked). (step_marked m s).open_unit) (mark_plain s.last pid number p f)
+    ∙ ap (λ (r : Role). next_open p.index r s.open_unit) (does_again pid number p)
 
 pub last_plain : (pid number : ℕ) (p : Payload) (s : PidState) → Follows (number + 1) (step s (payload_entry pid number p)).last
 unfolding step_marked seen mark view_of

@@ -16,20 +16,65 @@ abbrev three : AccessUnit
 three = record { dts = 90000; pts = 90000; marks = no_marks; bytes = 1 ∷ 2 ∷ 3 ∷ [] }
 
 abbrev two : AccessUnit
-two = record { dts = 93600; pts = 97200; marks = record { random_access = true; flags = record no_flags { aligned = true }; long = false; private_data = None }; bytes = 4 ∷ 5 ∷ [] }
+two = record {
+  dts = 93600;
+  pts = 97200;
+  marks = record { random_access = true; flags = record no_flags { aligned = true }; long = false; private_data = None };
+  bytes = 4 ∷ 5 ∷ [];
+}
 
 -- in packet 7 of 10: whole there, its PES_packet_length 11; the second unit, in packet 9, has a DTS too, and is aligned
 units_row : each_found (unit_found 192 0) 10 (sendings (unit_packets 192 0) (three ∷ two ∷ []) (7 ∷ 9 ∷ []))
-    ≡ record { packet = 7; found = record { begun = Some (7, Pes true false); what = IsPes (record { id = 192; len = 11; stamps = Pts 90000; flags = no_flags; data_length = 5; private_data = None }) false (1 ∷ 2 ∷ 3 ∷ []); within = true } }
-    ∷ record { packet = 9; found = record { begun = Some (9, Pes true true); what = IsPes (record { id = 192; len = 15; stamps = PtsDts 97200 93600; flags = record no_flags { aligned = true }; data_length = 10; private_data = None }) false (4 ∷ 5 ∷ []); within = true } }
+    ≡ record {
+      packet = 7;
+      found =
+          record {
+            begun = Some (7, Pes true false);
+            what =
+                IsPes (record { id = 192; len = 11; stamps = Pts 90000; flags = no_flags; data_length = 5; private_data = None }) false (1 ∷ 2 ∷ 3 ∷ []);
+            within =
+                true;
+          };
+    }
+    ∷ record {
+      packet = 9;
+      found =
+          record {
+            begun = Some (9, Pes true true);
+            what =
+                IsPes (record {
+                  id = 192;
+                  len = 15;
+                  stamps = PtsDts 97200 93600;
+                  flags = record no_flags { aligned = true };
+                  data_length = 10;
+                  private_data =
+                      None;
+                })
+                false (4 ∷ 5 ∷ []);
+            within = true;
+          };
+    }
     ∷ []
-unfolding each_found sendings next_of if_sent begin_or unit_found pes_packet_bytes pes_header_bytes pts_header pts_dts_header header_with pes_start_bytes packet_length stamp_bytes written_header
+unfolding each_found sendings next_of if_sent begin_or unit_found pes_packet_bytes pes_header_bytes pts_header pts_dts_header header_with pes_start_bytes
+    packet_length stamp_bytes written_header
 units_row = refl
 
 -- stamps come back modulo 2^33: the clock begins one unit before it comes round
-wrapped_row : each_found (unit_found 192 8_589_934_591) 1 (sendings (unit_packets 192 8_589_934_591) (record { dts = 1; pts = 1; marks = no_marks; bytes = 6 ∷ [] } ∷ []) (0 ∷ []))
-    ≡ record { packet = 0; found = record { begun = Some (0, Pes true false); what = IsPes (record { id = 192; len = 9; stamps = Pts 0; flags = no_flags; data_length = 5; private_data = None }) false (6 ∷ []); within = true } } ∷ []
-unfolding each_found sendings next_of if_sent begin_or unit_found pes_packet_bytes pes_header_bytes pts_header pts_dts_header header_with pes_start_bytes packet_length stamp_bytes written_header
+wrapped_row : each_found (unit_found 192 8_589_934_591) 1
+    (sendings (unit_packets 192 8_589_934_591) (record { dts = 1; pts = 1; marks = no_marks; bytes = 6 ∷ [] } ∷ []) (0 ∷ []))
+    ≡ record {
+      packet = 0;
+      found =
+          record {
+            begun = Some (0, Pes true false);
+            what =
+                IsPes (record { id = 192; len = 9; stamps = Pts 0; flags = no_flags; data_length = 5; private_data = None }) false (6 ∷ []);
+            within = true;
+          };
+    } ∷ []
+unfolding each_found sendings next_of if_sent begin_or unit_found pes_packet_bytes pes_header_bytes pts_header pts_dts_header header_with pes_start_bytes
+    packet_length stamp_bytes written_header
 wrapped_row = refl
 
 -- a section of 3 bytes (table_id 0x70, section_length 0) in packet 2, and one of 200 bytes of which one packet was sent, in a stream of 5

@@ -1,5 +1,6 @@
 -- From the payloads of a PID to what is found in the finished bytes.
-use Rattle.std.proofs.Common.{◌≡◌, ℕ, suc, ◌+◌, ◌*◌, ◌/◌, ◌<◌, ◌≤◌, ◌==◌, Bool, true, false, IsTrue, List, [], ◌∷◌, ◌++◌, length, map, take, All, None, refl, ap, ◌∙◌, arith, length-append}
+use Rattle.std.proofs.Common.{◌≡◌, ℕ, suc, ◌+◌, ◌*◌, ◌/◌, ◌<◌, ◌≤◌, ◌==◌, Bool, true, false, IsTrue, List, [], ◌∷◌, ◌++◌, length, map, take, All, None, refl}
+use Rattle.std.proofs.Common.{ap, ◌∙◌, arith, length-append}
 use Rattle.std.specs.Prelude.{replicate}
 use Rattle.std.specs.List.{flat_map}
 use Rattle.pes_packet.specs.Encoding.{pes_packet_bytes}
@@ -59,7 +60,8 @@ same_length [] = refl
 same_length (e ∷ es) = ap suc (same_length es)
 
 -- what is found of a PID, by what is sent on it
-pub sent_found : {X : Type 0} (start : X → Start) (text : X → List ℕ) (count : X → ℕ) (P : X → Type 0) → ((x : X) → P x → NeedsAll (start x) (count x) (text x)) →
+pub sent_found : {X : Type 0} (start : X → Start) (text : X → List ℕ) (count : X → ℕ) (P : X → Type 0) →
+    ((x : X) → P x → NeedsAll (start x) (count x) (text x)) →
     (pid n : ℕ) (content : ℕ → Content) (xs : List X) → IsRun n content → (pid == 8191) ≡ false →
     CarriesPieces pid (run_bytes content 0 n) (flat_map (λ x. first_pieces (start x) (count x) (text x)) xs) → All P xs →
     found_on pid (run_bytes content 0 n)
@@ -89,7 +91,8 @@ come_back : {X : Type 0} (start : X → Start) (text : X → List ℕ) (count : 
 come_back {X} start text count found P fits gives pid n content xs run not_null c all =
     let sent : List (Sending X) = sendings count xs (packets_on pid (run_bytes content 0 n)) in
     let each : All (Gives start text found) sent = all_sendings P (Gives start text found) count xs (packets_on pid (run_bytes content 0 n)) gives all in
-    let same : finds (sent_payloads start text sent) None ++ map (at_packet n) (ended true (leaves (sent_payloads start text sent) None)) ≡ each_found found n sent =
+    let same : finds (sent_payloads start text sent) None ++ map (at_packet n) (ended true (leaves (sent_payloads start text sent) None)) ≡ each_found found n
+    sent =
     all_give start text found n sent None tt each ∙ ap (λ (zs : List PidFinding). zs ++ each_found found n sent) (none_open (next_of n sent)) in
     sent_found start text count P fits pid n content xs run not_null c all ∙ ap (map (with_pid_at pid)) same
 
@@ -97,7 +100,8 @@ room_left : (access : Bool) → field_size access + room_of (start_by true acces
 room_left true = refl
 room_left false = refl
 
-needs_all : (id base0 : ℕ) (u : AccessUnit) → IsTrue (fits_packet id (length u.bytes)) → NeedsAll (unit_start u) (unit_packets id base0 u) (pes_packet_bytes id base0 u)
+needs_all : (id base0 : ℕ) (u : AccessUnit) → IsTrue (fits_packet id (length u.bytes)) →
+    NeedsAll (unit_start u) (unit_packets id base0 u) (pes_packet_bytes id base0 u)
 needs_all id base0 u f =
     let t = unit_is_pes id base0 u f in
     (omega (arith, t.size, t.some), omega (arith, t.size, t.some, room_left (has_access u)))
@@ -109,7 +113,8 @@ pub units_come_back : UnitsComeBack
 units_come_back pid n id base0 content us run not_null c fits =
     come_back unit_start (pes_packet_bytes id base0) (unit_packets id base0) (unit_found id base0) (λ u. IsTrue (fits_packet id (length u.bytes)))
     (λ u f. needs_all id base0 u f)
-    (λ u js f le. unit_gives id base0 u js f (few_packets (has_access u) (length js) (length (pes_packet_bytes id base0 u)) le)) pid n content us run not_null c fits
+    (λ u js f le. unit_gives id base0 u js f (few_packets (has_access u) (length js) (length (pes_packet_bytes id base0 u)) le)) pid n content us run not_null c
+    fits
 
 pub filled_size : (text : List ℕ) → 1 + length text ≤ length (filled_section text)
 unfolding filled_section

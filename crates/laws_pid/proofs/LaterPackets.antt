@@ -1,5 +1,6 @@
 -- The packets of a PES packet or a section after its first one.
-use Rattle.std.proofs.Common.{◌≡◌, ℕ, suc, ◌+◌, ◌-◌, ◌*◌, ◌<◌, List, [], ◌∷◌, ◌++◌, length, take, drop, Some, None, refl, sym, ap, subst, ◌∙◌, arith, append_assoc, append-nil, mul-suc, take-add}
+use Rattle.std.proofs.Common.{◌≡◌, ℕ, suc, ◌+◌, ◌-◌, ◌*◌, ◌<◌, List, [], ◌∷◌, ◌++◌, length, take, drop, Some, None, refl, sym, ap, subst, ◌∙◌, arith}
+use Rattle.std.proofs.Common.{append_assoc, append-nil, mul-suc, take-add}
 use Rattle.ts_packet.specs.declared.start.Start.TheVariants.{Continues}
 use Rattle.slot_contents.specs.Contents.{Payload}
 use Rattle.demux.specs.Views.{WhatView}
@@ -20,7 +21,8 @@ quiet_found : (i : ℕ) (front : List ℕ) (b : OpenUnit) → decided b.kind (b.
 unfolding by_role role_by found_appended found_if
 quiet_found i front b e = ap (found_if (appended b front)) e
 
-quiet_left : (i : ℕ) (front : List ℕ) (b : OpenUnit) → decided b.kind (b.bytes ++ front) ≡ None → next_open i (does (later i front)) (Some b) ≡ Some (appended b front)
+quiet_left : (i : ℕ) (front : List ℕ) (b : OpenUnit) → decided b.kind (b.bytes ++ front) ≡ None →
+    next_open i (does (later i front)) (Some b) ≡ Some (appended b front)
 unfolding next_open role_by undecided unless_decided
 quiet_left i front b e = ap (unless_decided (appended b front)) e
 
@@ -29,7 +31,8 @@ last_found : (i : ℕ) (front : List ℕ) (b : OpenUnit) (w : WhatView) → deci
 unfolding by_role role_by found_appended found_if
 last_found i front b w e = ap (found_if (appended b front)) e
 
-last_left : (i : ℕ) (front : List ℕ) (b : OpenUnit) (w : WhatView) → decided b.kind (b.bytes ++ front) ≡ Some w → next_open i (does (later i front)) (Some b) ≡ None
+last_left : (i : ℕ) (front : List ℕ) (b : OpenUnit) (w : WhatView) → decided b.kind (b.bytes ++ front) ≡ Some w →
+    next_open i (does (later i front)) (Some b) ≡ None
 unfolding next_open role_by undecided unless_decided
 last_left i front b w e = ap (unless_decided (appended b front)) e
 

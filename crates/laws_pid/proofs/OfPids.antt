@@ -1,5 +1,6 @@
 -- All that is found in the finished bytes is of a PID.
-use Rattle.std.proofs.Common.{◌≡◌, ℕ, zero, suc, ◌+◌, ◌-◌, ◌^◌, ◌<◌, ◌≤◌, arith, ◌==◌, Bool, true, false, cond, List, [], ◌∷◌, ◌++◌, length, map, All, Ok, refl, sym, ap, subst, ◌∙◌, append-nil}
+use Rattle.std.proofs.Common.{◌≡◌, ℕ, zero, suc, ◌+◌, ◌-◌, ◌^◌, ◌<◌, ◌≤◌, arith, ◌==◌, Bool, true, false, cond, List, [], ◌∷◌, ◌++◌, length, map, All, Ok, refl}
+use Rattle.std.proofs.Common.{sym, ap, subst, ◌∙◌, append-nil}
 use Rattle.std.specs.List.{concat}
 use Rattle.std.proofs.lemmas.List.Elements.{All-nil, All-cons, All-head, All-tail}
 use Rattle.ts_packet.specs.Views.{PacketView}
@@ -11,7 +12,8 @@ use Rattle.demux.specs.Views.{IsErrored, Found, FindingView}
 use Rattle.demux.specs.Findings.{ended}
 use Rattle.demux.specs.Machine.{PidState, step, found_by}
 use Rattle.demux.specs.Shown.{with_pid}
-use Rattle.demux.specs.Stream.{States, StreamState, start, state_of, with_state, states_by, findings_by, entry_of, without_pid, taken, found_in, pushed, finished, ended_found, next_packet}
+use Rattle.demux.specs.Stream.{States, StreamState, start, state_of, with_state, states_by, findings_by, entry_of, without_pid, taken, found_in, pushed}
+use Rattle.demux.specs.Stream.{finished, ended_found, next_packet}
 use Rattle.demux.specs.FoundSoFar.{FoundSoFar, taken_all, found_in_all}
 use Rattle.demux.proofs.FoundSoFar.{nothing_at_first, packets_add, all_are_found}
 use Rattle.laws_pid.specs.Laws.{IsRun, IsOfPid, all_found, AllIsOfPids, InOrder, FoundInOrder}
@@ -44,7 +46,8 @@ ended_is : (packet : ℕ) (states : States) → All NoNull states → All IsOfPi
 unfolding ended_found
 ended_is packet [] h = All-nil IsOfPid
 ended_is packet (x ∷ states) h =
-    both (map (with_pid x.0 packet) (ended true x.1.open_unit)) (ended_found packet states) (found_is x.0 packet (ended true x.1.open_unit) (All-head NoNull x states h))
+    both (map (with_pid x.0 packet) (ended true x.1.open_unit)) (ended_found packet states)
+    (found_is x.0 packet (ended true x.1.open_unit) (All-head NoNull x states h))
     (ended_is packet states (All-tail NoNull x states h))
 
 -- ---- one packet
@@ -74,12 +77,14 @@ plain_states pid state states false false k h = with_no_null pid state states k 
 found_one : (index : ℕ) (bytes : List ℕ) (states : States) → IsPlain bytes → All IsOfPid (findings_by index bytes states (packet_at bytes))
 unfolding findings_by
 found_one index bytes states (view, read, clear) =
-    rw read (plain_found index view.header.pid (found_by (state_of view.header.pid states) (entry_of index bytes view)) view.header.transport_error_indicator (view.header.pid == 8191) clear refl)
+    rw read (plain_found index view.header.pid (found_by (state_of view.header.pid states) (entry_of index bytes view)) view.header.transport_error_indicator
+    (view.header.pid == 8191) clear refl)
 
 states_one : (index : ℕ) (bytes : List ℕ) (states : States) → IsPlain bytes → All NoNull states → All NoNull (states_by index bytes states (packet_at bytes))
 unfolding states_by
 states_one index bytes states (view, read, clear) h =
-    rw read (plain_states view.header.pid (step (state_of view.header.pid states) (entry_of index bytes view)) states view.header.transport_error_indicator (view.header.pid == 8191) refl h)
+    rw read (plain_states view.header.pid (step (state_of view.header.pid states) (entry_of index bytes view)) states view.header.transport_error_indicator
+    (view.header.pid == 8191) refl h)
 
 -- ---- the packets of a run
 
@@ -154,7 +159,8 @@ all_is_of_pids n content run =
     let packets : List (List ℕ) = run_packets content 0 n in
     let s : StreamState = taken_all start packets in
     subst (All IsOfPid) (sym (run_found n content run))
-    (both (found_in_all start packets) (finished s).found (found_all start packets (run_plain content 0 n run.fits)) (finished_is s (left_at_end n content run)))
+    (both (found_in_all start packets) (finished s).found (found_all start packets (run_plain content 0 n run.fits))
+    (finished_is s (left_at_end n content run)))
 
 -- ---- in the order of the packets
 
@@ -187,10 +193,12 @@ plain_rise index last pid found true z le = (omega arith, le, tt)
 plain_rise index last pid found false true le = tt
 plain_rise index last pid found false false le = found_in_order_one pid index last found le
 
-one_rise : (index last : ℕ) (bytes : List ℕ) (states : States) → index ≤ last → IsPlain bytes → InOrder index last (findings_by index bytes states (packet_at bytes))
+one_rise : (index last : ℕ) (bytes : List ℕ) (states : States) → index ≤ last → IsPlain bytes →
+    InOrder index last (findings_by index bytes states (packet_at bytes))
 unfolding findings_by
 one_rise index last bytes states le (view, read, clear) =
-    rw read (plain_rise index last view.header.pid (found_by (state_of view.header.pid states) (entry_of index bytes view)) view.header.transport_error_indicator (view.header.pid == 8191) le)
+    rw read (plain_rise index last view.header.pid (found_by (state_of view.header.pid states) (entry_of index bytes view))
+    view.header.transport_error_indicator (view.header.pid == 8191) le)
 
 all_rise : (s : StreamState) (packets : List (List ℕ)) → All IsPlain packets → s.packets + length packets < 2 ^ 64 - 1 →
     InOrder s.packets (s.packets + length packets) (found_in_all s packets) × ((taken_all s packets).packets ≡ s.packets + length packets)
@@ -203,7 +211,8 @@ all_rise s (packet ∷ packets) h few =
     let end : next_packet i + length packets ≡ i + suc (length packets) = omega (arith, next) in
     let others : InOrder (next_packet i) (i + suc (length packets)) (found_in_all (taken s packet) packets) =
     subst (λ (m : ℕ). InOrder (next_packet i) m (found_in_all (taken s packet) packets)) end rest.0 in (
-      joined i (next_packet i) (i + suc (length packets)) (found_in s packet) (found_in_all (taken s packet) packets) (omega (arith, next)) (omega (arith, next))
+      joined i (next_packet i) (i + suc (length packets)) (found_in s packet) (found_in_all (taken s packet) packets) (omega (arith, next))
+          (omega (arith, next))
           (one_rise i (next_packet i) packet s.states (omega (arith, next)) (All-head IsPlain packet packets h)) others,
       rest.1 ∙ end,
     )

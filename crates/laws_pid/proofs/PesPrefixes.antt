@@ -1,10 +1,12 @@
 -- The PES packet of a unit: what each beginning of it decides.
-use Rattle.std.proofs.Common.{◌≡◌, ℕ, ◌+◌, ◌-◌, ◌<◌, ◌≤◌, ◌==◌, nat_le, Bool, true, false, cond, IsTrue, List, ◌++◌, length, take, drop, Some, None, is_some, option_map, Ok, refl, sym, ap, subst, ◌∙◌, inl, inr, arith, take_all, length-append, length-take, lt-ltb, le-ltb}
+use Rattle.std.proofs.Common.{◌≡◌, ℕ, ◌+◌, ◌-◌, ◌<◌, ◌≤◌, ◌==◌, nat_le, Bool, true, false, cond, IsTrue, List, ◌++◌, length, take, drop, Some, None, is_some}
+use Rattle.std.proofs.Common.{option_map, Ok, refl, sym, ap, subst, ◌∙◌, inl, inr, arith, take_all, length-append, length-take, lt-ltb, le-ltb}
 use Rattle.std.proofs.Math.Seq.{take-append-add, drop-append_seam}
 use Rattle.std.proofs.lemmas.Bool.{cases_Bool}
 use Rattle.pes_packet.specs.AccessUnits.{AccessUnit}
 use Rattle.pes_packet.specs.StreamIds.{fits_packet}
-use Rattle.pes_packet.specs.Encoding.{pes_header_bytes, header_size, pes_packet_bytes, packet_length, on_wire, header_with, pts_header, pts_dts_header, pes_start_bytes}
+use Rattle.pes_packet.specs.Encoding.{pes_header_bytes, header_size, pes_packet_bytes, packet_length, on_wire, header_with, pts_header, pts_dts_header}
+use Rattle.pes_packet.specs.Encoding.{pes_start_bytes}
 use Rattle.pes_packet.specs.Reading.{header_at}
 use Rattle.pes_packet.specs.Laws.{written_header}
 use Rattle.pes_packet.specs.Marks.{data_length, extension_size, sixteen}
@@ -60,7 +62,8 @@ count_of : (long same : Bool) (more size : ℕ) →
 count_of true true more size e = let c : packet_length (3 + 36 + size) ≡ 3 + 36 + size = counts (3 + 36 + size) e in omega (arith, c)
 count_of true false more size e = let c : packet_length (3 + 36 + size) ≡ 3 + 36 + size = counts (3 + 36 + size) e in omega (arith, c)
 count_of false true more size e = let c : packet_length (3 + (5 + more) + size) ≡ 3 + (5 + more) + size = counts (3 + (5 + more) + size) e in omega (arith, c)
-count_of false false more size e = let c : packet_length (3 + (10 + more) + size) ≡ 3 + (10 + more) + size = counts (3 + (10 + more) + size) e in omega (arith, c)
+count_of false false more size e = let c : packet_length (3 + (10 + more) + size) ≡ 3 + (10 + more) + size = counts (3 + (10 + more) + size) e in
+    omega (arith, c)
 
 len_of : (b : Bool) (x y : PesHeader) → (cond b x y).len ≡ cond b x.len y.len
 len_of true x y = refl

@@ -1,5 +1,6 @@
 -- The packets of a PID whose counters and payloads are known.
-use Rattle.std.proofs.Common.{◌≡◌, ℕ, zero, suc, ◌+◌, ◌*◌, ◌%◌, ◌<◌, ◌==◌, ◌&&◌, not, Bool, true, false, cond, List, [], ◌∷◌, length, map, take, drop, All, Some, slice_get, refl, sym, ap, ap₂, subst, ◌∙◌, arith, eq-eqb, eqb-true, length-take, length-drop, mul-suc}
+use Rattle.std.proofs.Common.{◌≡◌, ℕ, zero, suc, ◌+◌, ◌*◌, ◌%◌, ◌<◌, ◌==◌, ◌&&◌, not, Bool, true, false, cond, List, [], ◌∷◌, length, map, take, drop, All}
+use Rattle.std.proofs.Common.{Some, slice_get, refl, sym, ap, ap₂, subst, ◌∙◌, arith, eq-eqb, eqb-true, length-take, length-drop, mul-suc}
 use Rattle.std.proofs.lemmas.Bool.{false≢true}
 use Rattle.std.proofs.lemmas.List.Elements.{All-nil, All-cons, All-head, All-tail, All-append, All-take}
 use Rattle.std.proofs.lemmas.List.Concat.{flat_map-cons}
@@ -10,7 +11,8 @@ use Rattle.ts_packet.specs.declared.start.Start.TheVariants.{Continues, Begins, 
 use Rattle.ts_packet.specs.Beginnings.{room_of}
 use Rattle.ts_packet.proofs.PlainWritten.{start_again}
 use Rattle.ts_packet.specs.PidList.{Entry, is_of_pid, pid_list}
-use Rattle.slot_contents.specs.Contents.{Content, PayloadContent, PcrContent, NullContent, packet_of, view_of, run_bytes, entry_at, entries_in, Payload, payloads_in, payload_entry, payload_entries, payload_at, Piece}
+use Rattle.slot_contents.specs.Contents.{Content, PayloadContent, PcrContent, NullContent, packet_of, view_of, run_bytes, entry_at, entries_in, Payload}
+use Rattle.slot_contents.specs.Contents.{payloads_in, payload_entry, payload_entries, payload_at, Piece}
 use Rattle.slot_contents.specs.RunLaws.{Fits}
 use Rattle.slot_contents.proofs.Runs.{run_pid_list}
 use Rattle.slot_contents.proofs.Counts.{payload_again, run_payload_entries}
@@ -81,7 +83,8 @@ carries_payloads pid n content pieces fits not_null some c =
     let bytes : List ℕ = run_bytes content 0 n in
     let is : pid_list pid bytes ≡ entries_in pid content 0 n = run_pid_list pid n content fits in
     let counts : Counts 0 (pid_list pid bytes) = λ j e at. let z : 0 + j ≡ j = omega arith in c.counters j e at ∙ ap (λ (i : ℕ). i % 16) (sym z) in
-    let each : All HasBytes (map piece_of (pid_list pid bytes)) = subst (All HasBytes) (sym c.payloads) (All-take HasBytes (length (pid_list pid bytes)) pieces some) in
+    let each : All HasBytes (map piece_of (pid_list pid bytes)) =
+    subst (All HasBytes) (sym c.payloads) (All-take HasBytes (length (pid_list pid bytes)) pieces some) in
     subst (λ (es : List Entry). Counts 0 es → All HasBytes (map piece_of es) → es ≡ payload_entries pid 0 (map payload_at es)) (sym is)
     (λ a b. listed pid content 0 n 0 not_null a b) counts each
 

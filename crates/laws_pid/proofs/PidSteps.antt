@@ -24,9 +24,14 @@ run_finds : (pid number : ℕ) (ps : List Payload) (s : PidState) → Follows nu
 unfolding run payload_entries finds
 run_finds pid number [] s f = refl
 run_finds pid number (p ∷ ps) s f =
-    rw (found_plain pid number p s f, run_finds pid (number + 1) ps (step s (payload_entry pid number p)) (last_plain pid number p s), part_plain pid number p s f) refl
+    rw (
+      found_plain pid number p s f,
+      run_finds pid (number + 1) ps (step s (payload_entry pid number p)) (last_plain pid number p s),
+      part_plain pid number p s f,
+    ) refl
 
-run_leaves : (pid number : ℕ) (ps : List Payload) (s : PidState) → Follows number s.last → (run_to s (payload_entries pid number ps)).open_unit ≡ leaves ps s.open_unit
+run_leaves : (pid number : ℕ) (ps : List Payload) (s : PidState) → Follows number s.last →
+    (run_to s (payload_entries pid number ps)).open_unit ≡ leaves ps s.open_unit
 unfolding run_to payload_entries leaves
 run_leaves pid number [] s f = refl
 run_leaves pid number (p ∷ ps) s f =
@@ -37,7 +42,8 @@ pub found_to_end : (pid count : ℕ) (ps : List Payload) →
     findings_to_end count (payload_entries pid 0 ps) ≡ finds ps None ++ map (at_packet count) (ended true (leaves ps None))
 found_to_end pid count ps =
     sym (run_finds_all count (payload_entries pid 0 ps)).1
-    ∙ ap₂ (λ (xs : List PidFinding) (b : Option OpenUnit). xs ++ map (at_packet count) (ended true b)) (run_finds pid 0 ps fresh tt) (run_leaves pid 0 ps fresh tt)
+    ∙ ap₂ (λ (xs : List PidFinding) (b : Option OpenUnit). xs ++ map (at_packet count) (ended true b)) (run_finds pid 0 ps fresh tt)
+    (run_leaves pid 0 ps fresh tt)
 
 pub finds_append : (a b : List Payload) (held : Option OpenUnit) → finds (a ++ b) held ≡ finds a held ++ finds b (leaves a held)
 unfolding finds leaves

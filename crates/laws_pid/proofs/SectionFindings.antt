@@ -1,5 +1,6 @@
 -- What the packets of a section find: one finding.
-use Rattle.std.proofs.Common.{◌≡◌, ℕ, suc, ◌+◌, ◌-◌, ◌*◌, ◌<◌, ◌≤◌, nat_le, Bool, true, false, List, [], ◌∷◌, ◌++◌, length, map, take, drop, replicate, slice_index, Option, Some, None, refl, sym, ap, ap₂, subst, ◌∙◌, inl, inr, arith, mul-suc, take-add, append-nil, le-leb, le-ltb}
+use Rattle.std.proofs.Common.{◌≡◌, ℕ, suc, ◌+◌, ◌-◌, ◌*◌, ◌<◌, ◌≤◌, nat_le, Bool, true, false, List, [], ◌∷◌, ◌++◌, length, map, take, drop, replicate}
+use Rattle.std.proofs.Common.{slice_index, Option, Some, None, refl, sym, ap, ap₂, subst, ◌∙◌, inl, inr, arith, mul-suc, take-add, append-nil, le-leb, le-ltb}
 use Rattle.std.specs.Prelude.{option_map}
 use Rattle.std.proofs.lemmas.List.{map-append}
 use Rattle.std.proofs.lemmas.Bool.{lt-leb, cases_lt}
@@ -29,7 +30,8 @@ pointing i bytes = record { index = i; start = Begins; bytes = 0 ∷ bytes }
 
 -- what is open before it gets no byte
 no_last_by : (f : UnitKind) (packet : ℕ) (access : Bool) (bytes : List ℕ) → decided f bytes ≡ None →
-    last_bytes_by [] (record { packet = packet; kind = f; access = access; bytes = bytes }) f ≡ ended false (Some (record { packet = packet; kind = f; access = access; bytes = bytes }))
+    last_bytes_by [] (record { packet = packet; kind = f; access = access; bytes = bytes }) f ≡ ended false
+    (Some (record { packet = packet; kind = f; access = access; bytes = bytes }))
 unfolding last_bytes_by ended found_or_cut
 no_last_by unit_kinds.Pes packet access bytes e = refl
 no_last_by unit_kinds.Section packet access bytes e = rw (append-nil bytes, e) refl
@@ -128,7 +130,8 @@ cut_ends e i m text g some less =
     ap₂ (λ (k : Kind) (t : List ℕ). record { packet = e.packet; found = record { begun = Some (i, k); what = IsTruncated t; within = false } } ∷ [])
     (kind_at text m (omega (arith, given_size text g)) some) (filled_less m text (omega (arith, less)))
 
-section_cut : (text : List ℕ) (i : ℕ) (is : List ℕ) → IsRecognized text → (e : Ending) (held : Option OpenUnit) → Waits held → 184 * suc (length is) < 1 + length text →
+section_cut : (text : List ℕ) (i : ℕ) (is : List ℕ) → IsRecognized text → (e : Ending) (held : Option OpenUnit) → Waits held →
+    184 * suc (length is) < 1 + length text →
     SectionGives e text i is held
 unfolding section_found
 section_cut text i is g e held w less =
@@ -136,13 +139,16 @@ section_cut text i is g e held w less =
     let size : 184 * suc (length is) - 1 ≡ m = omega (arith, mul-suc 184 (length is)) in
     let short : m < length text = omega (arith, less, mul-suc 184 (length is)) in
     let test : nat_le (1 + length text) (184 * suc (length is)) ≡ false = lt-leb (1 + length text) (184 * suc (length is)) less in
-    let is_found : section_found e text i is ≡ record { packet = e.packet; found = begun_table i text (IsTruncated (take m text)) false } = rw (test, size) refl in
+    let is_found : section_found e text i is ≡ record { packet = e.packet; found = begun_table i text (IsTruncated (take m text)) false } =
+    rw (test, size) refl in
     let o = cut_packets text i is g held w short in
     ap₂ (λ (a : List PidFinding) (b : Option OpenUnit). a ++ ends_at e b) o.0 o.1
-    ∙ ap (λ (xs : List PidFinding). map (at_packet i) (ended false held) ++ xs) (cut_ends e i m text g (omega arith) short ∙ ap (λ (x : PidFinding). x ∷ []) (sym is_found))
+    ∙ ap (λ (xs : List PidFinding). map (at_packet i) (ended false held) ++ xs)
+    (cut_ends e i m text g (omega arith) short ∙ ap (λ (x : PidFinding). x ∷ []) (sym is_found))
 
 -- whole in the first packet
-section_within : (text : List ℕ) (i : ℕ) → IsRecognized text → (e : Ending) (held : Option OpenUnit) → Waits held → length text ≤ 183 → SectionGives e text i [] held
+section_within : (text : List ℕ) (i : ℕ) → IsRecognized text → (e : Ending) (held : Option OpenUnit) → Waits held → length text ≤ 183 →
+    SectionGives e text i [] held
 unfolding finds leaves cut filled_section section_found ended
 section_within text i g e held w le =
     let found = within_found text i held g w le in
@@ -173,9 +179,11 @@ later_packets text i j is g held w few whole =
     subst (λ (t : List ℕ). decided unit_kinds.Section t ≡ Some (IsSection text)) (after_first n text) (whole_at text (183 + n) g (omega (arith, many))) in
     let rest = rest_decided (drop 183 body) j is (section i (filled_to 183 text)) (length text - 183) (IsSection text) (omega (arith, more)) stays is_whole in
     let kind : begun_kind unit_kinds.Section false (filled_to 183 text ++ take n (drop 183 body)) ≡ Table (slice_index text 0) =
-    subst (λ (t : List ℕ). begun_kind unit_kinds.Section false t ≡ Table (slice_index text 0)) (after_first n text) (kind_at text (183 + n) (omega (arith, given_size text g)) (omega arith)) in (
+    subst (λ (t : List ℕ). begun_kind unit_kinds.Section false t ≡ Table (slice_index text 0)) (after_first n text)
+    (kind_at text (183 + n) (omega (arith, given_size text g)) (omega arith)) in (
       rw (found, left, rest.0)
-          (ap (λ (k : Kind). map (at_packet i) (ended false held) ++ record { packet = last_of j is; found = record { begun = Some (i, k); what = IsSection text; within = false } } ∷ []) kind),
+          (ap (λ (k : Kind). map (at_packet i) (ended false held)
+          ++ record { packet = last_of j is; found = record { begun = Some (i, k); what = IsSection text; within = false } } ∷ []) kind),
       ap (leaves (cut Continues (drop 183 body) (j ∷ is))) left ∙ rest.1,
     )
 
@@ -191,14 +199,16 @@ section_whole text i j is g e held w few whole =
     ∙ append-nil (map (at_packet i) (ended false held) ++ one ∷ [])
     ∙ ap (λ (x : PidFinding). map (at_packet i) (ended false held) ++ x ∷ []) (sym is_found)
 
-by_packets : (text : List ℕ) (i : ℕ) (is : List ℕ) → IsRecognized text → (e : Ending) (held : Option OpenUnit) → Waits held → 184 * suc (length is) < 1 + length text + 184 →
+by_packets : (text : List ℕ) (i : ℕ) (is : List ℕ) → IsRecognized text → (e : Ending) (held : Option OpenUnit) → Waits held →
+    184 * suc (length is) < 1 + length text + 184 →
     1 + length text ≤ 184 * suc (length is) → SectionGives e text i is held
 by_packets text i [] g e held w few whole = section_within text i g e held w (omega (arith, whole))
 by_packets text i (j ∷ is) g e held w few whole =
     section_whole text i j is g e held w (omega (arith, few, mul-suc 184 (suc (length is)))) whole
 
 -- a section in some packets: its one finding
-pub section_gives : (text is : List ℕ) → IsRecognized text → 184 * length is < 1 + length text + 184 → Gives (λ _. Begins) filled_section section_found (record { item = text; packets = is })
+pub section_gives : (text is : List ℕ) → IsRecognized text → 184 * length is < 1 + length text + 184 →
+    Gives (λ _. Begins) filled_section section_found (record { item = text; packets = is })
 unfolding begin_or if_sent cut finds leaves
 section_gives text [] g few e held w = sym (append-nil (ends_at e held))
 section_gives text (i ∷ is) g few e held w = elim (cases_lt (184 * suc (length is)) (1 + length text)) [

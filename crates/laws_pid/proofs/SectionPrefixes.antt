@@ -1,5 +1,7 @@
 -- A section after its pointer_field, filled up with 0xFF: what each beginning of it decides.
-use Rattle.std.proofs.Common.{◌≡◌, ℕ, ◌+◌, ◌-◌, ◌*◌, ◌%◌, ◌<◌, ◌≤◌, nat_lt, Bool, true, false, cond, List, [], ◌∷◌, ◌++◌, length, take, drop, replicate, slice_index, Some, None, Result, Ok, Err, refl, sym, ap, ◌∙◌, arith, take-append-drop, length-take, length-append, ltb-false, zero, suc}
+use Rattle.std.proofs.Common.{◌≡◌, ℕ, ◌+◌, ◌-◌, ◌*◌, ◌%◌, ◌<◌, ◌≤◌, nat_lt, Bool, true, false, cond, List, [], ◌∷◌, ◌++◌, length, take, drop, replicate}
+use Rattle.std.proofs.Common.{slice_index, Some, None, Result, Ok, Err, refl, sym, ap, ◌∙◌, arith, take-append-drop, length-take, length-append, ltb-false}
+use Rattle.std.proofs.Common.{zero, suc}
 use Rattle.std.proofs.Math.Seq.{take-append-add, take-append_seam, drop-append_seam}
 use Rattle.std.proofs.lemmas.List.{take-append-le}
 use Rattle.bit_fields.specs.Reading.{◌>>=◌}
@@ -54,7 +56,8 @@ same_read : (p q : SectionView × ℕ) → ◌≡◌ {A = Read} (Ok p) (Ok q) �
 same_read p q e = let h : p ≡ q = cc in ap (λ (x : SectionView × ℕ). x.1) h
 
 -- a beginning of a whole section is Short
-opens : (text : List ℕ) (n : ℕ) (view : SectionView) → section_at text ≡ Ok (view, length text) → n < length text → section_at (take n text) ≡ Err section_errors.Short
+opens : (text : List ℕ) (n : ℕ) (view : SectionView) → section_at text ≡ Ok (view, length text) → n < length text →
+    section_at (take n text) ≡ Err section_errors.Short
 opens text n view read less = by (section_at (take n text)) refl
   where
     keep : (r : Read) → (r ≡ Err section_errors.Short → ⊥) → section_at (take n text) ≡ r → section_at text ≡ r

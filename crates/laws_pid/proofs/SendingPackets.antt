@@ -1,5 +1,6 @@
 -- Payloads that are the first of those of PES packets or sections, as these in their packets.
-use Rattle.std.proofs.Common.{◌≡◌, ℕ, zero, suc, ◌≤◌, All, arith, length-take, List, [], ◌∷◌, ◌++◌, length, map, take, drop, refl, sym, ap, ap₂, ◌∙◌, take-append-drop}
+use Rattle.std.proofs.Common.{◌≡◌, ℕ, zero, suc, ◌≤◌, All, arith, length-take, List, [], ◌∷◌, ◌++◌, length, map, take, drop, refl, sym, ap, ap₂, ◌∙◌}
+use Rattle.std.proofs.Common.{take-append-drop}
 use Rattle.std.proofs.lemmas.List.Elements.{All-nil, All-cons, All-head, All-tail}
 use Rattle.std.proofs.lemmas.List.Concat.{flat_map-cons}
 use Rattle.std.specs.List.{flat_map}
@@ -26,7 +27,8 @@ abbrev standing : ℕ → Piece → Payload
 standing i x = record { index = i; start = x.start; bytes = x.bytes }
 
 -- the first payload and those after it
-pub chunks_more : (start : Start) (k : ℕ) (text : List ℕ) → start_chunks start (suc k) text ≡ take (room_of start) text ∷ first_chunks 184 k (drop (room_of start) text)
+pub chunks_more : (start : Start) (k : ℕ) (text : List ℕ) →
+    start_chunks start (suc k) text ≡ take (room_of start) text ∷ first_chunks 184 k (drop (room_of start) text)
 unfolding access_chunks
 chunks_more Continues k text = refl
 chunks_more Begins k text = refl
@@ -41,7 +43,8 @@ chunks_none Access text = refl
 -- the first k payloads are those of the first in their packets, and the others are the first of what follows
 split_text : (k : ℕ) (start : Start) (text : List ℕ) (rest : List Piece) (ps : List Payload) →
     map piece_in ps ≡ take (length ps) (marked start (start_chunks start k text) ++ rest) →
-    (take k ps ≡ cut start text (take k (indices ps))) × (map piece_in (drop k ps) ≡ take (length (drop k ps)) rest) × (indices (drop k ps) ≡ drop k (indices ps))
+    (take k ps ≡ cut start text (take k (indices ps))) × (map piece_in (drop k ps) ≡ take (length (drop k ps)) rest) ×
+    (indices (drop k ps) ≡ drop k (indices ps))
 unfolding marked cut
 split_text zero start text rest ps e = (refl, e ∙ ap (λ (c : List (List ℕ)). take (length ps) (marked start c ++ rest)) (chunks_none start text), refl)
 split_text (suc k) start text rest [] e = (refl, refl, refl)
@@ -60,7 +63,8 @@ none_left p ps e = cc
 
 -- payloads that are the first of those of PES packets or sections are these in their packets
 pub parted : {X : Type 0} (start : X → Start) (text : X → List ℕ) (count : X → ℕ) (xs : List X) (ps : List Payload) →
-    map piece_in ps ≡ take (length ps) (flat_map (λ x. first_pieces (start x) (count x) (text x)) xs) → ps ≡ sent_payloads start text (sendings count xs (indices ps))
+    map piece_in ps ≡ take (length ps) (flat_map (λ x. first_pieces (start x) (count x) (text x)) xs) →
+    ps ≡ sent_payloads start text (sendings count xs (indices ps))
 unfolding sent_payloads sendings
 parted start text count [] [] e = refl
 parted start text count [] (p ∷ ps) e = absurd (none_left p ps e)

@@ -1,5 +1,6 @@
 -- A PID without payloads is silent.
-use Rattle.std.proofs.Common.{◌≡◌, ℕ, zero, suc, ◌+◌, ◌<◌, ◌==◌, ◌&&◌, not, Bool, true, false, cond, List, [], ◌∷◌, ◌++◌, map, Option, Some, None, refl, sym, ap, ◌∙◌, inl, inr, arith}
+use Rattle.std.proofs.Common.{◌≡◌, ℕ, zero, suc, ◌+◌, ◌<◌, ◌==◌, ◌&&◌, not, Bool, true, false, cond, List, [], ◌∷◌, ◌++◌, map, Option, Some, None, refl, sym}
+use Rattle.std.proofs.Common.{ap, ◌∙◌, inl, inr, arith}
 use Rattle.std.proofs.lemmas.Bool.{cases_Bool}
 use Rattle.clock27.specs.Reference.{Reference}
 use Rattle.ts_packet.specs.PidList.{Entry, is_of_pid}
@@ -78,7 +79,8 @@ quiet_one pid i (PcrContent other pcr) s es not_null none h rest = elim (cases_B
 ]
 quiet_one pid i NullContent s es not_null none h rest = rw (null_other pid not_null) (rest s h)
 
-quiet : (pid : ℕ) (content : ℕ → Content) (i n : ℕ) → (pid == 8191) ≡ false → ((t : ℕ) → t < i + n → payload_in pid t (content t) ≡ []) → (s : PidState) → LastClock s.last →
+quiet : (pid : ℕ) (content : ℕ → Content) (i n : ℕ) → (pid == 8191) ≡ false → ((t : ℕ) → t < i + n → payload_in pid t (content t) ≡ []) → (s : PidState) →
+    LastClock s.last →
     Quiet s (entries_in pid content i n)
 unfolding entries_in run run_to
 quiet pid content i zero not_null none s h = (refl, refl)

@@ -1,5 +1,7 @@
 -- The payloads of a table, place by place, as those of its sections.
-use Rattle.std.proofs.Common.{◌≡◌, ℕ, zero, suc, ◌+◌, ◌-◌, ◌*◌, ◌%◌, ◌<◌, ◌≤◌, ◌==◌, Bool, true, false, cond, List, [], ◌∷◌, ◌++◌, length, map, take, drop, slice_index_or, Option, Some, None, refl, sym, ap, ap₂, subst, ◌∙◌, inl, inr, arith, lt-ltb, le-ltb, eqb-true, ne_eqb, append-nil, append_assoc, drop-drop, mul-suc}
+use Rattle.std.proofs.Common.{◌≡◌, ℕ, zero, suc, ◌+◌, ◌-◌, ◌*◌, ◌%◌, ◌<◌, ◌≤◌, ◌==◌, Bool, true, false, cond, List, [], ◌∷◌, ◌++◌, length, map, take, drop}
+use Rattle.std.proofs.Common.{slice_index_or, Option, Some, None, refl, sym, ap, ap₂, subst, ◌∙◌, inl, inr, arith, lt-ltb, le-ltb, eqb-true, ne_eqb, append-nil}
+use Rattle.std.proofs.Common.{append_assoc, drop-drop, mul-suc}
 use Rattle.std.specs.List.{flat_map}
 use Rattle.std.specs.Simd.{first_chunks}
 use Rattle.std.proofs.Math.Seq.{take-append_seam}
@@ -54,11 +56,13 @@ places_split text j ls i (suc a) d =
     ∙ ap (λ (x : ℕ). (one ++ places_pieces text j ls (suc i) a) ++ places_pieces text j ls x d) k
 
 -- after the places of the first section
-places_shift : (text : ℕ → List ℕ) (j l : ℕ) (ls : List ℕ) (n i d : ℕ) → n ≡ places_of l + i → places_pieces text j (l ∷ ls) n d ≡ places_pieces text (suc j) ls i d
+places_shift : (text : ℕ → List ℕ) (j l : ℕ) (ls : List ℕ) (n i d : ℕ) → n ≡ places_of l + i →
+    places_pieces text j (l ∷ ls) n d ≡ places_pieces text (suc j) ls i d
 unfolding places_pieces
 places_shift text j l ls n i zero e = refl
 places_shift text j l ls n i (suc d) e =
-    ap₂ (λ (p : SectionPlace) (xs : List Piece). listed (place_part text p) ++ xs) (place_after j l ls n i e) (places_shift text j l ls (suc n) (suc i) d (omega (arith, e)))
+    ap₂ (λ (p : SectionPlace) (xs : List Piece). listed (place_part text p) ++ xs) (place_after j l ls n i e)
+    (places_shift text j l ls (suc n) (suc i) d (omega (arith, e)))
 
 -- the places of one section carry its payloads, from payload q on
 section_places : (text : ℕ → List ℕ) (j l : ℕ) (ls : List ℕ) (q d : ℕ) → q + d ≡ places_of l → section_packets (text j) ≤ places_of l →
@@ -82,7 +86,8 @@ section_places text j l ls q (suc d) e room =
           rw (here, le-ltb (184 * q) (1 + length (text j)) none, rest, left, after) refl
     ]
 
-from_start : (text : List ℕ) → marked (start_by (0 == 0) false) (first_chunks 184 (section_packets text - 0) (drop (184 * 0) (filled text))) ≡ section_pieces text
+from_start : (text : List ℕ) → marked (start_by (0 == 0) false) (first_chunks 184 (section_packets text - 0) (drop (184 * 0) (filled text))) ≡ section_pieces
+    text
 unfolding filled_section
 from_start text =
     let a : section_packets text - 0 ≡ section_packets text = omega arith in
@@ -103,10 +108,12 @@ round_is_sections text j (l ∷ ls) room =
     let start : 0 + places_of l ≡ places_of l = omega arith in
     let next : places_of l ≡ places_of l + 0 = omega arith in
     let others : (i : ℕ) → i < length ls → length (text (suc j + i)) ≤ slice_index_or ls i 0 =
-    λ i less. let same : j + suc i ≡ suc j + i = omega arith in subst (λ (n : ℕ). length (text n) ≤ slice_index_or ls i 0) same (room (suc i) (omega (arith, less))) in
+    λ i less. let same : j + suc i ≡ suc j + i =
+    omega arith in subst (λ (n : ℕ). length (text n) ≤ slice_index_or ls i 0) same (room (suc i) (omega (arith, less))) in
     ap (places_pieces text j (l ∷ ls) 0) size ∙ places_split text j (l ∷ ls) 0 (places_of l) (round_places ls)
     ∙ ap₂ (λ (xs ys : List Piece). xs ++ ys) (section_places text j l ls 0 (places_of l) start one ∙ from_start (text j))
-    (ap (λ (n : ℕ). places_pieces text j (l ∷ ls) n (round_places ls)) start ∙ places_shift text j l ls (places_of l) 0 (round_places ls) next ∙ round_is_sections text (suc j) ls others)
+    (ap (λ (n : ℕ). places_pieces text j (l ∷ ls) n (round_places ls)) start ∙ places_shift text j l ls (places_of l) 0 (round_places ls) next
+    ∙ round_is_sections text (suc j) ls others)
     ∙ sym (flat_map-cons section_pieces (text j) (sections_from text (suc j) ls))
 
 -- ---- slot by slot
@@ -141,7 +148,9 @@ sent_more table n y =
     let slots : own_slots table.own 0 (suc n) ≡ own_slots table.own 0 n ++ n ∷ [] =
     slot_more table.own n ∙ ap (λ (b : Bool). own_slots table.own 0 n ++ cond b (n ∷ []) []) y in
     ap (λ (xs : List ℕ). map piece_in (flat_map f xs)) slots
-    ∙ ap (map piece_in) (flat_map-append f (own_slots table.own 0 n) (n ∷ []) ∙ ap (λ (ps : List Payload). flat_map f (own_slots table.own 0 n) ++ ps) (flat_map-cons f n [] ∙ append-nil (f n)))
+    ∙ ap (map piece_in)
+    (flat_map-append f (own_slots table.own 0 n) (n ∷ [])
+    ∙ ap (λ (ps : List Payload). flat_map f (own_slots table.own 0 n) ++ ps) (flat_map-cons f n [] ∙ append-nil (f n)))
     ∙ map-append piece_in (flat_map f (own_slots table.own 0 n)) (f n)
     ∙ ap (λ (xs : List Piece). sent table n ++ xs) (put_listed n (part_at table n))
 
@@ -181,7 +190,8 @@ abbrev left_at : Table → ℕ → List Piece
 left_at table n = left table (round_before table.own (round_places table.lengths) n) (own_before table.own n % round_places table.lengths)
 
 -- after the place of an own slot
-left_next : (table : Table) (b m : ℕ) → 0 < round_places table.lengths → left table b ((m + 1) % round_places table.lengths) ≡ to_come table b (suc (m % round_places table.lengths))
+left_next : (table : Table) (b m : ℕ) → 0 < round_places table.lengths →
+    left table b ((m + 1) % round_places table.lengths) ≡ to_come table b (suc (m % round_places table.lengths))
 unfolding left places_pieces
 left_next table b m some =
     let k : ℕ = round_places table.lengths in
@@ -212,7 +222,8 @@ next_place table b m o some is =
 
 -- the own slot's part is that of the last round
 part_is : (table : Table) (n : ℕ) → part_at table n
-    ≡ place_part (λ j. table.bytes j (moment_of table (round_before table.own (round_places table.lengths) (suc n)))) (place_in 0 table.lengths (own_before table.own n % round_places table.lengths))
+    ≡ place_part (λ j. table.bytes j (moment_of table (round_before table.own (round_places table.lengths) (suc n))))
+    (place_in 0 table.lengths (own_before table.own n % round_places table.lengths))
 part_is table n = refl
 
 own_sent : (table : Table) (n : ℕ) → 0 < round_places table.lengths → ((b : ℕ) → to_come table b 0 ≡ flat_map section_pieces (round_sections table b)) →
@@ -270,6 +281,7 @@ rounds_are_sections table n some room =
     λ b. let all : round_places table.lengths - 0 ≡ round_places table.lengths = omega arith in
     ap (places_pieces (λ j. table.bytes j (moment_of table b)) 0 table.lengths 0) all
     ∙ round_is_sections (λ j. table.bytes j (moment_of table b)) 0 table.lengths
-    (λ i less. let z : i ≡ 0 + i = omega arith in subst (λ (j : ℕ). length (table.bytes j (moment_of table b)) ≤ slice_index_or table.lengths i 0) z (room i (moment_of table b) less)) in
+    (λ i less. let z : i ≡ 0 + i =
+    omega arith in subst (λ (j : ℕ). length (table.bytes j (moment_of table b)) ≤ slice_index_or table.lengths i 0) z (room i (moment_of table b) less)) in
     sym (take-append_seam (sent table n) (left_at table n))
     ∙ ap₂ (λ (m : ℕ) (xs : List Piece). take m xs) (sent_length (table_payloads table n)) (all_sent table n some whole)

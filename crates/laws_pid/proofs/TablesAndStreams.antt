@@ -53,7 +53,8 @@ same_pieces l [] = refl
 same_pieces l (u ∷ us) =
     let f : AccessUnit → List Piece = unit_pieces l.parameters.stream_id l.parameters.base0 in
     pieces_cons l u us
-    ∙ ap₂ (λ (c : List (List ℕ)) (ps : List Piece). marked (start_by true (has_access u)) c ++ ps) (same_chunks (has_access u) (pes_bytes l u)) (same_pieces l us)
+    ∙ ap₂ (λ (c : List (List ℕ)) (ps : List Piece). marked (start_by true (has_access u)) c ++ ps) (same_chunks (has_access u) (pes_bytes l u))
+    (same_pieces l us)
     ∙ sym (flat_map-cons f u us)
 
 pub streams_carry : StreamsCarry

@@ -1,5 +1,6 @@
 -- What the packets of a unit find: one finding.
-use Rattle.std.proofs.Common.{◌≡◌, ℕ, suc, ◌+◌, ◌-◌, ◌*◌, ◌<◌, ◌≤◌, ◌==◌, nat_le, Bool, true, false, IsTrue, List, [], ◌∷◌, ◌++◌, length, map, take, drop, Option, Some, None, refl, sym, ap, ap₂, subst, ◌∙◌, inl, inr, arith, mul-suc, take-add, append-nil, le-leb}
+use Rattle.std.proofs.Common.{◌≡◌, ℕ, suc, ◌+◌, ◌-◌, ◌*◌, ◌<◌, ◌≤◌, ◌==◌, nat_le, Bool, true, false, IsTrue, List, [], ◌∷◌, ◌++◌, length, map, take, drop}
+use Rattle.std.proofs.Common.{Option, Some, None, refl, sym, ap, ap₂, subst, ◌∙◌, inl, inr, arith, mul-suc, take-add, append-nil, le-leb}
 use Rattle.std.proofs.lemmas.List.{map-append}
 use Rattle.std.proofs.lemmas.Bool.{lt-leb, cases_Bool, cases_lt}
 use Rattle.pes_packet.specs.AccessUnits.{AccessUnit}
@@ -66,9 +67,11 @@ text_open access text i is held begins e =
     subst (λ (t : List ℕ). decided unit_kinds.Pes t ≡ None) (covered_from (room access) (length is) [] text) e in
     let first : decided unit_kinds.Pes front ≡ None = undecided_before unit_kinds.Pes front (take (184 * length is) (drop (room access) text)) all in
     let rest = rest_quiet (drop (room access) text) is (pes_at i access front) all in
-    let left : next_open i (does (opening i access front)) held ≡ Some (pes_at i access front) = first_left i access front held begins ∙ ap (unless_decided (pes_at i access front)) first in
+    let left : next_open i (does (opening i access front)) held ≡ Some (pes_at i access front) =
+    first_left i access front held begins ∙ ap (unless_decided (pes_at i access front)) first in
     let none : by_role i (does (opening i access front)) held ≡ ended false held =
-    first_found i access front held begins ∙ ap (λ (d : Option WhatView). ended false held ++ found_within (pes_at i access front) d) first ∙ append-nil (ended false held) in (
+    first_found i access front held begins ∙ ap (λ (d : Option WhatView). ended false held ++ found_within (pes_at i access front) d) first
+    ∙ append-nil (ended false held) in (
       rw (none, left, rest.0) (append-nil (map (at_packet i) (ended false held))),
       ap (leaves (cut Continues (drop (room access) text) is)) left ∙ rest.1
           ∙ ap (λ (t : List ℕ). Some (pes_at i access t)) (sym (covered_from (room access) (length is) [] text)),
@@ -79,10 +82,13 @@ room_least true = omega arith
 room_least false = omega arith
 
 -- those of which the last one decides it find that
-text_decided : (access : Bool) (text : List ℕ) (i : ℕ) (is : List ℕ) (held : Option OpenUnit) (w : WhatView) → may_begin_pes (take (room access) text) ≡ true → is_whole w ≡ true →
+text_decided : (access : Bool) (text : List ℕ) (i : ℕ) (is : List ℕ) (held : Option OpenUnit) (w : WhatView) → may_begin_pes (take (room access) text) ≡ true →
+    is_whole w ≡ true →
     ((m : ℕ) → 182 ≤ m → begun_kind unit_kinds.Pes access (take m text) ≡ Pes true access) → room access + 184 * length is < length text + 184 →
-    ((m : ℕ) → 182 ≤ m → m < length text → decided unit_kinds.Pes (take m text) ≡ None) → decided unit_kinds.Pes (take (room access + 184 * length is) text) ≡ Some w →
-    (finds (cut (start_by true access) text (i ∷ is)) held ≡ map (at_packet i) (ended false held) ++ record { packet = last_of i is; found = begun_pes i access w (is_none is) } ∷ [])
+    ((m : ℕ) → 182 ≤ m → m < length text → decided unit_kinds.Pes (take m text) ≡ None) →
+    decided unit_kinds.Pes (take (room access + 184 * length is) text) ≡ Some w →
+    (finds (cut (start_by true access) text (i ∷ is)) held ≡ map (at_packet i) (ended false held)
+    ++ record { packet = last_of i is; found = begun_pes i access w (is_none is) } ∷ [])
     × (leaves (cut (start_by true access) text (i ∷ is)) held ≡ None)
 unfolding finds leaves cut found_within undecided unless_decided
 text_decided access text i [] held w begins whole kind h u e =
@@ -92,32 +98,41 @@ text_decided access text i [] held w begins whole kind h u e =
     let k : begun_kind unit_kinds.Pes access front ≡ Pes true access = kind (room access) (room_least access) in
     let here : by_role i (does (opening i access front)) held ≡ ended false held ++ about_within (pes_at i access front) w ∷ [] =
     first_found i access front held begins ∙ ap (λ (d : Option WhatView). ended false held ++ found_within (pes_at i access front) d) here' in
-    let left : next_open i (does (opening i access front)) held ≡ None = first_left i access front held begins ∙ ap (unless_decided (pes_at i access front)) here' in (
-      rw here (append-nil (map (at_packet i) (ended false held ++ about_within (pes_at i access front) w ∷ [])) ∙ map-append (at_packet i) (ended false held) (about_within (pes_at i access front) w ∷ [])
-          ∙ ap₂ (λ (kd : Kind) (b : Bool). map (at_packet i) (ended false held) ++ record { packet = i; found = record { begun = Some (i, kd); what = w; within = b } } ∷ []) k whole),
+    let left : next_open i (does (opening i access front)) held ≡ None =
+    first_left i access front held begins ∙ ap (unless_decided (pes_at i access front)) here' in (
+      rw here (append-nil (map (at_packet i) (ended false held ++ about_within (pes_at i access front) w ∷ []))
+          ∙ map-append (at_packet i) (ended false held) (about_within (pes_at i access front) w ∷ [])
+          ∙ ap₂ (λ (kd : Kind) (b : Bool). map (at_packet i) (ended false held)
+          ++ record { packet = i; found = record { begun = Some (i, kd); what = w; within = b } } ∷ []) k whole),
       left,
     )
 text_decided access text i (j ∷ is) held w begins whole kind h u e =
     let front : List ℕ = take (room access) text in
     let more : room access + 184 * suc (length is) ≡ room access + 184 + 184 * length is = omega (arith, mul-suc 184 (length is)) in
     let first : decided unit_kinds.Pes front ≡ None = u (room access) (room_least access) (omega (arith, h, more)) in
-    let left : next_open i (does (opening i access front)) held ≡ Some (pes_at i access front) = first_left i access front held begins ∙ ap (unless_decided (pes_at i access front)) first in
+    let left : next_open i (does (opening i access front)) held ≡ Some (pes_at i access front) =
+    first_left i access front held begins ∙ ap (unless_decided (pes_at i access front)) first in
     let none : by_role i (does (opening i access front)) held ≡ ended false held =
-    first_found i access front held begins ∙ ap (λ (d : Option WhatView). ended false held ++ found_within (pes_at i access front) d) first ∙ append-nil (ended false held) in
+    first_found i access front held begins ∙ ap (λ (d : Option WhatView). ended false held ++ found_within (pes_at i access front) d) first
+    ∙ append-nil (ended false held) in
     let then : (m : ℕ) → m < length text - room access → decided unit_kinds.Pes (front ++ take m (drop (room access) text)) ≡ None =
-    λ m less. subst (λ (t : List ℕ). decided unit_kinds.Pes t ≡ None) (take-add (room access) m text) (u (room access + m) (omega (arith, room_least access)) (omega (arith, less))) in
+    λ m less. subst (λ (t : List ℕ). decided unit_kinds.Pes t ≡ None) (take-add (room access) m text)
+    (u (room access + m) (omega (arith, room_least access)) (omega (arith, less))) in
     let all : decided unit_kinds.Pes (front ++ take (184 * suc (length is)) (drop (room access) text)) ≡ Some w =
     subst (λ (t : List ℕ). decided unit_kinds.Pes t ≡ Some w) (covered_from (room access) (suc (length is)) [] text) e in
     let k : begun_kind unit_kinds.Pes access (front ++ take (184 * suc (length is)) (drop (room access) text)) ≡ Pes true access =
     subst (λ (t : List ℕ). begun_kind unit_kinds.Pes access t ≡ Pes true access) (covered_from (room access) (suc (length is)) [] text)
     (kind (room access + 184 * suc (length is)) (omega (arith, room_least access))) in
     let rest = rest_decided (drop (room access) text) j is (pes_at i access front) (length text - room access) w (omega (arith, h, more)) then all in (
-      rw (none, left, rest.0) (ap (λ (kd : Kind). map (at_packet i) (ended false held) ++ record { packet = last_of j is; found = record { begun = Some (i, kd); what = w; within = false } } ∷ []) k),
+      rw (none, left, rest.0)
+          (ap (λ (kd : Kind). map (at_packet i) (ended false held)
+          ++ record { packet = last_of j is; found = record { begun = Some (i, kd); what = w; within = false } } ∷ []) k),
       ap (leaves (cut Continues (drop (room access) text) (j ∷ is))) left ∙ rest.1,
     )
 
 -- how what is left open ends
-open_ends : (e : Ending) (i : ℕ) (access : Bool) (bytes : List ℕ) (w : WhatView) → begun_kind unit_kinds.Pes access bytes ≡ Pes true access → end_of e.open_ended bytes unit_kinds.Pes (header_at bytes) ≡ w →
+open_ends : (e : Ending) (i : ℕ) (access : Bool) (bytes : List ℕ) (w : WhatView) → begun_kind unit_kinds.Pes access bytes ≡ Pes true access →
+    end_of e.open_ended bytes unit_kinds.Pes (header_at bytes) ≡ w →
     ends_at e (Some (pes_at i access bytes)) ≡ record { packet = e.packet; found = begun_pes i access w false } ∷ []
 unfolding ended
 open_ends e i access bytes w k f = rw (k, f) refl
@@ -125,7 +140,8 @@ open_ends e i access bytes w k f = rw (k, f) refl
 -- what the packets i and `is` of a unit are to find
 abbrev UnitGives : ℕ → ℕ → Ending → AccessUnit → ℕ → List ℕ → Option OpenUnit → Type 0
 UnitGives id base0 e u i is held =
-    finds (cut (unit_start u) (pes_packet_bytes id base0 u) (i ∷ is)) held ++ ends_at e (leaves (cut (unit_start u) (pes_packet_bytes id base0 u) (i ∷ is)) held)
+    finds (cut (unit_start u) (pes_packet_bytes id base0 u) (i ∷ is)) held
+    ++ ends_at e (leaves (cut (unit_start u) (pes_packet_bytes id base0 u) (i ∷ is)) held)
     ≡ map (at_packet i) (ended false held) ++ unit_found id base0 e u i is ∷ []
 
 -- the bytes of a unit that packets i and `is` have room for
@@ -149,7 +165,8 @@ unit_open id base0 e u i is held w t stays end found =
     let same = reach_is (has_access u) (length is) in
     let le : unit_header_size base0 u ≤ m = omega (arith, t.short, room_least (has_access u)) in
     let o = text_open (has_access u) text i is held (t.begins (has_access u)) stays in
-    let last = open_ends e i (has_access u) (take m text) w (kind_at (has_access u) text (unit_header id base0 u) (unit_header_size base0 u) u.bytes m t le) end in
+    let last = open_ends e i (has_access u) (take m text) w (kind_at (has_access u) text (unit_header id base0 u) (unit_header_size base0 u) u.bytes m t le)
+    end in
     ap₂ (λ (a : List PidFinding) (b : Option OpenUnit). a ++ ends_at e b) o.0 o.1
     ∙ ap (λ (xs : List PidFinding). map (at_packet i) (ended false held) ++ xs) (last ∙ ap (λ (x : PidFinding). x ∷ []) (sym found))
 
@@ -194,23 +211,27 @@ unit_whole id base0 u i is fits few e held len whole =
     let same = reach_is (has_access u) (length is) in
     let t = unit_is_pes id base0 u fits in
     let test : nat_le (length text) m ≡ true = le-leb (length text) m whole in
-    let found : unit_found id base0 e u i is ≡ record { packet = last_of i is; found = begun_pes i (has_access u) (IsPes h false u.bytes) (is_none is) } = rw (len, same, test) refl in
+    let found : unit_found id base0 e u i is ≡ record { packet = last_of i is; found = begun_pes i (has_access u) (IsPes h false u.bytes) (is_none is) } =
+    rw (len, same, test) refl in
     let o = text_decided (has_access u) text i is held (IsPes h false u.bytes) (t.begins (has_access u)) refl
     (λ k more. kind_at (has_access u) text h n u.bytes k t (omega (arith, t.short, more))) few
     (λ k more less. open_before text h n u.bytes k t (omega (arith, t.short, more)) len less) (whole_at text h n u.bytes m t len whole) in
     ap₂ (λ (a : List PidFinding) (b : Option OpenUnit). a ++ ends_at e b) o.0 o.1
-    ∙ append-nil (map (at_packet i) (ended false held) ++ record { packet = last_of i is; found = begun_pes i (has_access u) (IsPes h false u.bytes) (is_none is) } ∷ [])
+    ∙ append-nil (map (at_packet i) (ended false held)
+    ++ record { packet = last_of i is; found = begun_pes i (has_access u) (IsPes h false u.bytes) (is_none is) } ∷ [])
     ∙ ap (λ (x : PidFinding). map (at_packet i) (ended false held) ++ x ∷ []) (sym found)
 
 -- a unit in some packets: its one finding, by cases on its length and on the bytes that came
 pub unit_gives : (id base0 : ℕ) (u : AccessUnit) (is : List ℕ) → IsTrue (fits_packet id (length u.bytes)) →
-    184 * length is < field_size (has_access u) + length (pes_packet_bytes id base0 u) + 184 → Gives unit_start (pes_packet_bytes id base0) (unit_found id base0) (record { item = u; packets = is })
+    184 * length is < field_size (has_access u) + length (pes_packet_bytes id base0 u) + 184 →
+    Gives unit_start (pes_packet_bytes id base0) (unit_found id base0) (record { item = u; packets = is })
 unfolding begin_or if_sent cut finds leaves
 unit_gives id base0 u [] fits few e held w = sym (append-nil (ends_at e held))
 unit_gives id base0 u (i ∷ is) fits few e held w = elim (cases_Bool ((unit_header id base0 u).len == 0)) [
   | inl zero_len ↦ unit_without id base0 u i is fits e held zero_len
   | inr len ↦ elim (cases_lt (reach u is) (length (pes_packet_bytes id base0 u))) [
     | inl less ↦ unit_cut id base0 u i is fits e held len less
-    | inr whole ↦ unit_whole id base0 u i is fits (omega (arith, few, reach_is (has_access u) (length is), field_most (has_access u), mul-suc 184 (length is))) e held len whole
+    | inr whole ↦ unit_whole id base0 u i is fits (omega (arith, few, reach_is (has_access u) (length is), field_most (has_access u), mul-suc 184 (length is)))
+        e held len whole
   ]
 ]

@@ -1,5 +1,6 @@
 -- Sections that are written are taken for sections.
-use Rattle.std.proofs.Common.{◌≡◌, ℕ, ◌+◌, ◌*◌, ◌/◌, ◌==◌, ◌&&◌, Bool, true, false, List, [], ◌∷◌, ◌++◌, length, Option, Some, None, refl, sym, ap, ◌∙◌, arith, ne_eqb, append-nil}
+use Rattle.std.proofs.Common.{◌≡◌, ℕ, ◌+◌, ◌*◌, ◌/◌, ◌==◌, ◌&&◌, Bool, true, false, List, [], ◌∷◌, ◌++◌, length, Option, Some, None, refl, sym, ap, ◌∙◌, arith}
+use Rattle.std.proofs.Common.{ne_eqb, append-nil}
 use Rattle.bit_fields.specs.Fields.{bit}
 use Rattle.psi_tables.specs.Reading.{section_at}
 use Rattle.psi_tables.specs.Encoding.{start_bytes, front_bytes, header_bytes, with_crc, section_bytes}
@@ -22,7 +23,8 @@ unfolding front_bytes start_bytes with_crc
 no_pes_by None tid p body = no_both (0 == tid) _ (second_byte (bit false) (bit p) (length body / 256))
 no_pes_by (Some h) tid p body = no_both (0 == tid) _ (second_byte (bit true) (bit p) ((9 + length body) / 256))
 
-no_fill_by : (l : Option LongHeader) (tid : ℕ) (p : Bool) (body : List ℕ) → (tid == 0xFF) ≡ false → is_stuffing (with_crc l (front_bytes tid p l (length body) ++ body)) ≡ false
+no_fill_by : (l : Option LongHeader) (tid : ℕ) (p : Bool) (body : List ℕ) → (tid == 0xFF) ≡ false →
+    is_stuffing (with_crc l (front_bytes tid p l (length body) ++ body)) ≡ false
 unfolding front_bytes start_bytes with_crc
 no_fill_by None tid p body e = e
 no_fill_by (Some h) tid p body e = e

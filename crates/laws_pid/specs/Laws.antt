@@ -48,7 +48,8 @@ UnitsComeBack = (pid n id base0 : ℕ) (content : ℕ → Content) (us : List Ac
 abbrev pub SectionsComeBack : Type 0
 SectionsComeBack = (pid n : ℕ) (content : ℕ → Content) (sections : List (List ℕ)) → IsRun n content → (pid == 8191) ≡ false →
     CarriesPieces pid (run_bytes content 0 n) (flat_map section_pieces sections) → All IsRecognized sections →
-    found_on pid (run_bytes content 0 n) ≡ map (with_pid_at pid) (each_found section_found n (sendings section_packets sections (packets_on pid (run_bytes content 0 n))))
+    found_on pid (run_bytes content 0 n) ≡ map (with_pid_at pid)
+    (each_found section_found n (sendings section_packets sections (packets_on pid (run_bytes content 0 n))))
 
 -- a PID without payloads, with clock references or with nothing: no finding
 abbrev pub NothingComesBack : Type 0

@@ -55,7 +55,8 @@ abbrev pub TablesComeBack : Type 0
 TablesComeBack = (table : Table) (n : ℕ) (content : ℕ → Content) → IsRun n content → TableIsAlone table content → HasPlaces table → HasRoom table →
     All IsRecognized (sections_of_rounds table n) →
     found_on table.pid (run_bytes content 0 n)
-    ≡ map (with_pid_at table.pid) (each_found section_found n (sendings section_packets (sections_of_rounds table n) (packets_on table.pid (run_bytes content 0 n))))
+    ≡ map (with_pid_at table.pid)
+    (each_found section_found n (sendings section_packets (sections_of_rounds table n) (packets_on table.pid (run_bytes content 0 n))))
 
 -- a stream in its own slots, alone on its PID: what is found are its units
 abbrev pub StreamsComeBack : Type 0

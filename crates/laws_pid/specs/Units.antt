@@ -46,7 +46,17 @@ carried_in access packets = 184 * length packets - field_size access
 unfoldable pub unit_found : ℕ → ℕ → Ending → AccessUnit → ℕ → List ℕ → PidFinding
 unit_found id base0 e u i is =
     if (unit_header id base0 u).len == 0
-    then record { packet = e.packet; found = begun_pes i (has_access u) (IsPes (unit_header id base0 u) e.open_ended (take (carried_in (has_access u) (i ∷ is) - unit_header_size base0 u) u.bytes)) false }
+    then record {
+      packet = e.packet;
+      found =
+          begun_pes i (has_access u)
+          (IsPes (unit_header id base0 u) e.open_ended (take (carried_in (has_access u) (i ∷ is) - unit_header_size base0 u) u.bytes))
+          false;
+    }
     else (if nat_le (length (pes_packet_bytes id base0 u)) (carried_in (has_access u) (i ∷ is))
     then record { packet = last_of i is; found = begun_pes i (has_access u) (IsPes (unit_header id base0 u) false u.bytes) (is_none is) }
-    else record { packet = e.packet; found = begun_pes i (has_access u) (IsTruncated (take (carried_in (has_access u) (i ∷ is)) (pes_packet_bytes id base0 u))) false })
+    else record {
+      packet = e.packet;
+      found =
+          begun_pes i (has_access u) (IsTruncated (take (carried_in (has_access u) (i ∷ is)) (pes_packet_bytes id base0 u))) false;
+    })

@@ -12,9 +12,9 @@ pub fn units_come_back()
     ensures { UnitsComeBack }
 {}
 
-/// States the findings of a PID that carries sections: each section that was sent whole; then the bytes of the
-/// current section, as truncated; and nothing else. No section may begin 00 01 (after pointer_field 0 that is a PES packet)
-/// or have table_id 0xFF (stuffing).
+/// States the findings of a PID that carries sections: each section that was sent whole; then the bytes of the current
+/// section, as truncated; and nothing else. No section may begin 00 01 (after pointer_field 0 that is a PES packet) or
+/// have table_id 0xFF (stuffing).
 pub fn sections_come_back()
     ensures { SectionsComeBack }
 {}
@@ -40,8 +40,8 @@ pub fn found_in_order()
     ensures { FoundInOrder }
 {}
 
-/// States that if the payloads on a PID, slot by slot, are numbered from 0 on, and nothing else is on it, its packets carry
-/// them: the premise of the laws above, from what each slot carries.
+/// States that if the payloads on a PID, slot by slot, are numbered from 0 on, and nothing else is on it, its packets
+/// carry them: the premise of the laws above, from what each slot carries.
 pub fn numbered_payloads()
     ensures { NumberedPayloads }
 {}

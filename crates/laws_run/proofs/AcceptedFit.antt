@@ -18,7 +18,8 @@ FitsId id u = IsTrue (fits_packet id (length u.bytes))
 accepted_fits : (id earliest : ℕ) (u : AccessUnit) → IsTrue (is_unit_id id) → IsAccepted id earliest u → FitsId id u
 accepted_fits id earliest u is a = rw (is, le-leb 1 (length u.bytes) a.some, le-leb (length u.bytes) (greatest_size id) (omega (arith, a.most))) refl
 
-judged_fit : (id earliest stream : ℕ) (u : AccessUnit) (cause : Option FeedError) (after : Run) → IsTrue (is_unit_id id) → refusal id earliest stream u ≡ cause →
+judged_fit : (id earliest stream : ℕ) (u : AccessUnit) (cause : Option FeedError) (after : Run) → IsTrue (is_unit_id id) →
+    refusal id earliest stream u ≡ cause →
     All (FitsId id) after.units → All (FitsId id) (judged cause u after).units
 unfolding judged
 judged_fit id earliest stream u (Some cause) after is e h = All-nil (FitsId id)

@@ -23,7 +23,8 @@ far rate least from until own s (suc n) q le end h = elim (cases_Bool (own s)) [
       omega (arith, le, first)
   | inr k ↦
       let at : own_slots own s (suc n) ≡ own_slots own (suc s) n = rw k refl in
-      far rate least from until own (suc s) n q (omega (arith, le)) (omega (arith, end)) (subst (λ (l : List ℕ). Recur rate least from (begins_of l) until) at h)
+      far rate least from until own (suc s) n q (omega (arith, le)) (omega (arith, end))
+      (subst (λ (l : List ℕ). Recur rate least from (begins_of l) until) at h)
 ]
 
 -- one more place at most, not after the end
@@ -42,7 +43,8 @@ last_late rate least limit until o p (e ∷ []) le end op h =
 last_late rate least limit until o p (e ∷ f ∷ es) le end op h = absurd end
 
 -- after place p, where slot o, not after it, was the last own slot or the begin
-pub between : (rate least limit until : ℕ) (ends : List ℕ) (own begun : ℕ → Bool) (s n o p : ℕ) → least ≤ limit → IsEnd until ends → o ≤ p → p ≤ s → 188 * (s + n) ≤ until →
+pub between : (rate least limit until : ℕ) (ends : List ℕ) (own begun : ℕ → Bool) (s n o p : ℕ) → least ≤ limit → IsEnd until ends → o ≤ p → p ≤ s →
+    188 * (s + n) ≤ until →
     ((t : ℕ) → t < s + n → own t ≡ true → begun t ≡ true) → Recur rate least (188 * o) (begins_of (own_slots own s n)) until →
     late rate limit (p ∷ own_slots begun s n ++ ends) ≡ []
 unfolding Recur own_slots
@@ -65,7 +67,8 @@ between rate least limit until ends own begun s (suc n) o p le end op ps few all
             let first = far rate least (188 * o) until own (suc s) n s (omega arith) (omega (arith, few)) same in
             let gap : (s - p) * 1504000 ≤ least * rate = omega (arith, op, first) in
             let short = short_gap rate least limit (s - p) gap le in
-            let rest = between rate least limit until ends own begun (suc s) n o s le end (omega (arith, op, ps)) (omega arith) (omega (arith, few)) later same in
+            let rest = between rate least limit until ends own begun (suc s) n o s le end (omega (arith, op, ps)) (omega arith) (omega (arith, few)) later
+            same in
             rw (b, short) rest
         | inr c ↦
             let rest = between rate least limit until ends own begun (suc s) n o p le end op (omega (arith, ps)) (omega (arith, few)) later same in

@@ -1,5 +1,6 @@
 -- What `carry` wrote is given back unit by unit.
-use Rattle.std.proofs.Common.{◌≡◌, ℕ, zero, suc, ◌+◌, ◌%◌, ◌<◌, ◌≤◌, ◌==◌, Bool, true, false, cond, List, [], ◌∷◌, ◌++◌, length, map, take, drop, Option, Some, None, refl, sym, ap, ap₂, subst, ◌∙◌, arith, All, inl, inr, IsTrue, eqb-true, ne_eqb, length-append, append_assoc}
+use Rattle.std.proofs.Common.{◌≡◌, ℕ, zero, suc, ◌+◌, ◌%◌, ◌<◌, ◌≤◌, ◌==◌, Bool, true, false, cond, List, [], ◌∷◌, ◌++◌, length, map, take, drop, Option, Some}
+use Rattle.std.proofs.Common.{None, refl, sym, ap, ap₂, subst, ◌∙◌, arith, All, inl, inr, IsTrue, eqb-true, ne_eqb, length-append, append_assoc}
 use Rattle.std.specs.List.{flat_map}
 use Rattle.std.proofs.Math.Seq.{take-append_seam, drop-append_seam, take-length}
 use Rattle.std.proofs.lemmas.Bool.{cases_Bool}
@@ -164,10 +165,13 @@ sent_in_a_row id i (u ∷ us) =
     let c : ℕ = unit_packets id 0 u in
     let first : List ℕ = packets_from i c in
     let rest : List ℕ = packets_from (i + c) (packet_count id us) in
-    let all : packets_from i (packet_count id (u ∷ us)) ≡ first ++ rest = ap (packets_from i) (sum_by-cons (unit_packets id 0) u us) ∙ packets_add i c (packet_count id us) in
+    let all : packets_from i (packet_count id (u ∷ us)) ≡ first ++ rest = ap (packets_from i) (sum_by-cons (unit_packets id 0) u us)
+    ∙ packets_add i c (packet_count id us) in
     let size : length first ≡ c = packets_length i c in
-    let taken : take c (packets_from i (packet_count id (u ∷ us))) ≡ first = ap (take c) all ∙ ap (λ (n : ℕ). take n (first ++ rest)) (sym size) ∙ take-append_seam first rest in
-    let left : drop c (packets_from i (packet_count id (u ∷ us))) ≡ rest = ap (drop c) all ∙ ap (λ (n : ℕ). drop n (first ++ rest)) (sym size) ∙ drop-append_seam first rest in
+    let taken : take c (packets_from i (packet_count id (u ∷ us))) ≡ first = ap (take c) all ∙ ap (λ (n : ℕ). take n (first ++ rest)) (sym size)
+    ∙ take-append_seam first rest in
+    let left : drop c (packets_from i (packet_count id (u ∷ us))) ≡ rest = ap (drop c) all ∙ ap (λ (n : ℕ). drop n (first ++ rest)) (sym size)
+    ∙ drop-append_seam first rest in
     ap₂ (λ (xs : List ℕ) (more : List (Sending AccessUnit)). record { item = u; packets = xs } ∷ more) taken
     (ap (sendings (unit_packets id 0) us) left ∙ sent_in_a_row id (i + c) us)
 
@@ -205,11 +209,13 @@ on_each pid ps run q told = elim (cases_Bool (pid == q)) [
       subst (λ (p : ℕ). All (λ f. has_pid pid f.pid ≡ true) (found_on p (run_bytes (row_content pid ps) 0 (length ps)))) same
       (own_pid pid (all_found (run_bytes (row_content pid ps) 0 (length ps))))
   | inr n ↦
-      subst (All (λ (f : FindingView). has_pid pid f.pid ≡ true)) (sym (nothing_comes_back q (length ps) (row_content pid ps) run told (λ t lt. row_silent pid q t ps n)))
+      subst (All (λ (f : FindingView). has_pid pid f.pid ≡ true))
+      (sym (nothing_comes_back q (length ps) (row_content pid ps) run told (λ t lt. row_silent pid q t ps n)))
       (All-nil (λ (f : FindingView). has_pid pid f.pid ≡ true))
 ]
 
-row_carries : (pid : ℕ) (ps : List Piece) → Fits (row_content pid ps) → (pid == 8191) ≡ false → CarriesPieces pid (run_bytes (row_content pid ps) 0 (length ps)) ps
+row_carries : (pid : ℕ) (ps : List Piece) → Fits (row_content pid ps) → (pid == 8191) ≡ false →
+    CarriesPieces pid (run_bytes (row_content pid ps) 0 (length ps)) ps
 row_carries pid ps fits told =
     let sent : List Payload = payloads_in pid (row_content pid ps) 0 (length ps) in
     let are : map piece_in sent ≡ ps = row_pieces pid ps in

@@ -1,5 +1,6 @@
 -- On each PID that has clock references they come in time.
-use Rattle.std.proofs.Common.{◌≡◌, ◌⊎◌, ℕ, zero, suc, ◌+◌, ◌*◌, ◌≤◌, ◌==◌, ◌&&◌, Bool, true, false, List, [], ◌∷◌, map, Option, Some, None, slice_get, refl, sym, ap, subst, ◌∙◌, inl, inr, eqb-true}
+use Rattle.std.proofs.Common.{◌≡◌, ◌⊎◌, ℕ, zero, suc, ◌+◌, ◌*◌, ◌≤◌, ◌==◌, ◌&&◌, Bool, true, false, List, [], ◌∷◌, map, Option, Some, None, slice_get, refl}
+use Rattle.std.proofs.Common.{sym, ap, subst, ◌∙◌, inl, inr, eqb-true}
 use Rattle.std.specs.Prelude.{⊤}
 use Rattle.std.proofs.lemmas.Bool.{cases_Bool, false≢true}
 use Rattle.clock27.specs.Recurrence.{Recur}
@@ -82,7 +83,8 @@ stream_none d units pid slot k (Some s) = by (place_at (owned_stream d k s) 0 0 
     by None = tt
     by (Some place) = tt
 
-clock_none : (d : Described) (pid slot i : ℕ) (o : Option DescribedProgram) → slice_get d.programs i ≡ o → NoProgram d.programs pid → NoClock pid (pcr_content d slot o)
+clock_none : (d : Described) (pid slot i : ℕ) (o : Option DescribedProgram) → slice_get d.programs i ≡ o → NoProgram d.programs pid →
+    NoClock pid (pcr_content d slot o)
 unfolding pcr_content
 clock_none d pid slot i None e none = tt
 clock_none d pid slot i (Some p) e none = none i p e
@@ -96,7 +98,8 @@ table_none d pid slot t (Some kind) = by (part_at (table_of d t) slot)
     by None = tt
     by (Some part) = tt
 
-slot_none : (d : Scheduled) (units : ℕ → List AccessUnit) (pid slot : ℕ) (item : Slot) → NoProgram d.description.programs pid → NoClock pid (content_in d units slot item)
+slot_none : (d : Scheduled) (units : ℕ → List AccessUnit) (pid slot : ℕ) (item : Slot) → NoProgram d.description.programs pid →
+    NoClock pid (content_in d units slot item)
 unfolding content_in
 slot_none d units pid slot (Stream k) none = stream_none d units pid slot k (slice_get d.description.streams k)
 slot_none d units pid slot (Pcr i) none = clock_none d.description pid slot i (slice_get d.description.programs i) refl none
@@ -153,7 +156,8 @@ pub clocks_in_time : (d : Scheduled) (units : ℕ → List AccessUnit) (slots li
 clocks_in_time d units slots limit pid fits wide kept = elim (find_program d.description.programs pid) [
   | inl (i, p, is, same) ↦
       subst (λ (q : ℕ). pcr_late d.description.rate limit (run_bytes (content_at d units) 0 slots) q ≡ []) same
-      (program_in_time d p slots limit (run_bytes (content_at d units) 0 slots) (kept i p is) (at_place (λ (q : DescribedProgram). q.pcr_limit ≤ limit) d.description.programs i p wide is))
+      (program_in_time d p slots limit (run_bytes (content_at d units) 0 slots) (kept i p is)
+      (at_place (λ (q : DescribedProgram). q.pcr_limit ≤ limit) d.description.programs i p wide is))
   | inr none ↦
       ap (λ (es : List Entry). late d.description.rate limit (pcr_places es)) (run_pid_list pid slots (content_at d units) fits)
       ∙ ap (late d.description.rate limit) (none_listed pid (content_at d units) 0 slots (λ t. all_none d units pid t none))

@@ -1,11 +1,13 @@
 -- What a description's tables are written as: sections that can be written, none of table_id 0xFF.
-use Rattle.std.proofs.Common.{◌≡◌, ℕ, ◌+◌, ◌%◌, ◌<◌, ◌≤◌, ◌==◌, Bool, true, false, List, [], ◌++◌, length, map, Option, None, Some, refl, arith, length-append, All, ne_eqb, if◌then◌else◌}
+use Rattle.std.proofs.Common.{◌≡◌, ℕ, ◌+◌, ◌%◌, ◌<◌, ◌≤◌, ◌==◌, Bool, true, false, List, [], ◌++◌, length, map, Option, None, Some, refl, arith, length-append}
+use Rattle.std.proofs.Common.{All, ne_eqb, if◌then◌else◌}
 use Rattle.std.specs.Option.{option_to_list}
 use Rattle.std.specs.Prelude.{is_some}
 use Rattle.std.proofs.lemmas.List.Elements.{All-head}
 use Rattle.psi_tables.specs.CheckWord.{check_word}
 use Rattle.psi_tables.specs.Views.{SectionView}
-use Rattle.psi_tables.specs.Encoding.{section_bytes, with_crc, header_bytes, front_bytes, start_bytes, long_header_bytes, check_word_bytes, LongFits, IsWritable}
+use Rattle.psi_tables.specs.Encoding.{section_bytes, with_crc, header_bytes, front_bytes, start_bytes, long_header_bytes, check_word_bytes, LongFits}
+use Rattle.psi_tables.specs.Encoding.{IsWritable}
 use Rattle.psi_tables.specs.declared.section.LongHeader.{LongHeader}
 use Rattle.psi_tables.specs.ProgramAssociation.{pat_section, pat_header, programs_bytes}
 use Rattle.psi_tables.specs.ProgramMap.{pmt_body, pmt_section, pmt_header}
@@ -50,7 +52,8 @@ long_written table_id private h body low fits le = record {
 }
 
 single_fits : (extension : ℕ) → extension ≤ 65535 → LongFits (single_header extension)
-single_fits extension le = record { table_id_extension = omega (arith, le); version_number = omega arith; section_number = omega arith; last_section_number = omega arith }
+single_fits extension le =
+    record { table_id_extension = omega (arith, le); version_number = omega arith; section_number = omega arith; last_section_number = omega arith }
 
 -- ---- table by table
 
@@ -59,9 +62,11 @@ Fits4096 text = length text ≤ 4096
 
 pub pat_written : (d : Described) (section moment : ℕ) → IsInRange d → Fits4096 (kind_bytes d Pat section moment) → IsWritten (kind_bytes d Pat section moment)
 unfolding pat_section pat_header
-pat_written d section moment r le = long_written 0 false (pat_says d).header (programs_bytes (pat_says d).programs) (omega arith) (single_fits d.transport_stream_id r.transport_stream_id) le
+pat_written d section moment r le =
+    long_written 0 false (pat_says d).header (programs_bytes (pat_says d).programs) (omega arith) (single_fits d.transport_stream_id r.transport_stream_id) le
 
-pub pmt_written : (d : Described) (o : Option DescribedProgram) (section : ℕ) → All IsProgram (option_to_list o) → section < length (map (pmt_length d) (option_to_list o)) →
+pub pmt_written : (d : Described) (o : Option DescribedProgram) (section : ℕ) → All IsProgram (option_to_list o) →
+    section < length (map (pmt_length d) (option_to_list o)) →
     Fits4096 (elim o as (λ _. List ℕ) [ None ↦ [] | Some program ↦ section_bytes (pmt_section (pmt_says d program)) ]) →
     IsWritten (elim o as (λ _. List ℕ) [ None ↦ [] | Some program ↦ section_bytes (pmt_section (pmt_says d program)) ])
 unfolding pmt_section pmt_header
@@ -69,7 +74,8 @@ pmt_written d None section is within le = absurd (omega (arith, within))
 pmt_written d (Some p) section is within le =
     long_written 2 false (pmt_says d p).header (pmt_body (pmt_says d p)) (omega arith) (single_fits p.number (All-head IsProgram p [] is).most_number) le
 
-pub nit_written : (d : Described) (o : Option DescribedNetwork) (section : ℕ) → All IsNetwork (option_to_list o) → section < length (map nit_length (option_to_list o)) →
+pub nit_written : (d : Described) (o : Option DescribedNetwork) (section : ℕ) → All IsNetwork (option_to_list o) →
+    section < length (map nit_length (option_to_list o)) →
     Fits4096 (elim o as (λ _. List ℕ) [ None ↦ [] | Some network ↦ section_bytes (nit_section (nit_says d network)) ]) →
     IsWritten (elim o as (λ _. List ℕ) [ None ↦ [] | Some network ↦ section_bytes (nit_section (nit_says d network)) ])
 unfolding nit_section

@@ -1,5 +1,6 @@
 -- Each section of a table is whole, and is distinguishable from PES packets and stuffing if no ready-made one of the table is taken for these.
-use Rattle.std.proofs.Common.{◌≡◌, ℕ, suc, ◌+◌, ◌<◌, ◌≤◌, ◌==◌, ◌&&◌, ◌||◌, Bool, true, false, List, [], ◌∷◌, length, map, get_or, slice_get, Option, None, Some, Result, Ok, Err, refl, sym, ap, subst, ◌∙◌, arith, All, inl, inr, eqb-true}
+use Rattle.std.proofs.Common.{◌≡◌, ℕ, suc, ◌+◌, ◌<◌, ◌≤◌, ◌==◌, ◌&&◌, ◌||◌, Bool, true, false, List, [], ◌∷◌, length, map, get_or, slice_get, Option, None}
+use Rattle.std.proofs.Common.{Some, Result, Ok, Err, refl, sym, ap, subst, ◌∙◌, arith, All, inl, inr, eqb-true}
 use Rattle.std.specs.Option.{option_to_list}
 use Rattle.std.proofs.lemmas.Bool.{cases_Bool, false≢true}
 use Rattle.std.proofs.lemmas.List.{length-map}
@@ -63,7 +64,8 @@ no_pes_of a b rest h = elim (cases_Bool (may_begin_pes (0 ∷ a ∷ b ∷ rest))
 given_of : (text : List ℕ) → IsWhole text → 3 ≤ length text → is_mistaken text ≡ false → IsRecognized text
 given_of [] w some h = absurd (omega (arith, some))
 given_of (a ∷ []) w some h = absurd (omega (arith, some))
-given_of (a ∷ b ∷ rest) w some h = record { view = w.view; read = w.read; no_fill = first_false (a == 0xFF) ((a == 0) && (b == 1)) h; no_pes = no_pes_of a b rest h }
+given_of (a ∷ b ∷ rest) w some h =
+    record { view = w.view; read = w.read; no_fill = first_false (a == 0xFF) ((a == 0) && (b == 1)) h; no_pes = no_pes_of a b rest h }
 
 whole_given : (text : List ℕ) → IsWhole text → is_mistaken text ≡ false → IsRecognized text
 whole_given text w h = given_of text w (read_fits text (w.view, length text) w.read).some h
@@ -97,13 +99,18 @@ private_sent (Some table) j is within =
     let one = All-get_or IsTable (table ∷ []) 0 table (omega arith) is in
     let whole : IsWhole (get_or table.sections j []) =
     one_whole (get_or table.sections j []) (All-get_or (λ (text : List ℕ). is_one_section text ≡ true) table.sections j [] inside one.whole_sections) in
-    record { whole = whole; given = λ told. whole_given (get_or table.sections j []) whole (All-get_or (λ (text : List ℕ). is_mistaken text ≡ false) table.sections j [] inside told) }
+    record {
+      whole = whole;
+      given =
+          λ told. whole_given (get_or table.sections j []) whole (All-get_or (λ (text : List ℕ). is_mistaken text ≡ false) table.sections j [] inside told);
+    }
 
 made_sent : (d : Described) (t j moment : ℕ) (k : TableKind) → IsInRange d → table_kind d t ≡ Some k → IsMade k → j < section_count d t →
     IsSent (IsDistinguishable d t) (table_bytes d t j moment)
 made_sent d t j moment k r is made within = written_sent (IsDistinguishable d t) (table_bytes d t j moment) (text_written d t j moment k r is made within)
 
-kind_sent : (d : Described) (t j moment : ℕ) (k : TableKind) → IsInRange d → table_kind d t ≡ Some k → j < section_count d t → IsSent (IsDistinguishable d t) (table_bytes d t j moment)
+kind_sent : (d : Described) (t j moment : ℕ) (k : TableKind) → IsInRange d → table_kind d t ≡ Some k → j < section_count d t →
+    IsSent (IsDistinguishable d t) (table_bytes d t j moment)
 kind_sent d t j moment Pat r is within = made_sent d t j moment Pat r is tt within
 kind_sent d t j moment (Pmt p) r is within = made_sent d t j moment (Pmt p) r is tt within
 kind_sent d t j moment Nit r is within = made_sent d t j moment Nit r is tt within
@@ -125,7 +132,8 @@ kind_sent d t j moment (Private i) r is within =
 pub section_whole : (d : Described) (t j moment : ℕ) → IsInRange d → t < table_count d → j < section_count d t → IsWhole (table_bytes d t j moment)
 section_whole d t j moment r lt within = let k = kind_there (table_kinds d) t lt in (kind_sent d t j moment k.0 r k.1 within).whole
 
-pub section_distinguishable : (d : Described) (t j moment : ℕ) → IsInRange d → t < table_count d → IsDistinguishable d t → j < section_count d t → IsRecognized (table_bytes d t j moment)
+pub section_distinguishable : (d : Described) (t j moment : ℕ) → IsInRange d → t < table_count d → IsDistinguishable d t → j < section_count d t →
+    IsRecognized (table_bytes d t j moment)
 section_distinguishable d t j moment r lt told within = let k = kind_there (table_kinds d) t lt in (kind_sent d t j moment k.0 r k.1 within).given told
 
 -- ---- all sections of a table's rounds

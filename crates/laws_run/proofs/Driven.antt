@@ -1,5 +1,6 @@
 -- Whatever is fed and written, in any order, a multiplexer stands for the history that it leaves.
-use Rattle.std.proofs.Common.{◌≡◌, ℕ, ◌^◌, ◌<◌, ◌≤◌, List, [], ◌∷◌, map, slice_get, Option, Some, None, refl, sym, ap₂, subst, ◌∙◌, arith, inl, inr, lt-ltb, le-ltb}
+use Rattle.std.proofs.Common.{◌≡◌, ℕ, ◌^◌, ◌<◌, ◌≤◌, List, [], ◌∷◌, map, slice_get, Option, Some, None, refl, sym, ap₂, subst, ◌∙◌, arith, inl, inr, lt-ltb}
+use Rattle.std.proofs.Common.{le-ltb}
 use Rattle.std.proofs.lemmas.Bool.{cases_lt}
 use Rattle.pes_packet.specs.AccessUnits.{AccessUnit}
 use Rattle.slot_contents.specs.Contents.{packet_of, run_bytes}
@@ -47,13 +48,16 @@ first d capacity r = record {
 
 -- ---- a unit
 
-unit_stands : (h : History) (m : MuxState) (k : ℕ) (u : AccessUnit) → IsInRange m.schedule.description → Stands h m → refusal_of m h k u ≡ None → Stands (with_unit h k u) (fed m k u)
+unit_stands : (h : History) (m : MuxState) (k : ℕ) (u : AccessUnit) → IsInRange m.schedule.description → Stands h m → refusal_of m h k u ≡ None →
+    Stands (with_unit h k u) (fed m k u)
 unit_stands h m k u r st none =
     let cause : Option FeedError = queue_cause m.slots u (slice_get m.queues k) in
-    let t = takes feed_laws h m k u cause (fed m k u) (parameters_known m.schedule r) st (record { first = refl; taken = λ e. refl; same_schedule = refl; same_capacity = refl }) in
+    let t = takes feed_laws h m k u cause (fed m k u) (parameters_known m.schedule r) st
+    (record { first = refl; taken = λ e. refl; same_schedule = refl; same_capacity = refl }) in
     t.stands (t.first ∙ none)
 
-pub fed_stands : (d : Scheduled) (capacity : ℕ) (h : History) (k : ℕ) (u : AccessUnit) (cause : Option FeedError) → IsInRange d.description → StandsFor d capacity h →
+pub fed_stands : (d : Scheduled) (capacity : ℕ) (h : History) (k : ℕ) (u : AccessUnit) (cause : Option FeedError) → IsInRange d.description →
+    StandsFor d capacity h →
     feed_cause d capacity h k u (slice_get d.description.streams k) ≡ cause → StandsFor d capacity (fed_history h k u cause)
 unfolding fed_history
 fed_stands d capacity h k u (Some cause) r w e = w
@@ -71,7 +75,8 @@ fed_stands d capacity h k u None r w e =
 
 -- ---- a slot
 
-slot_stands : (d : Scheduled) (capacity : ℕ) (h : History) → IsInRange d.description → StandsFor d capacity h → h.slots < 2 ^ 40 → StandsFor d capacity (next_slot h)
+slot_stands : (d : Scheduled) (capacity : ℕ) (h : History) → IsInRange d.description → StandsFor d capacity h → h.slots < 2 ^ 40 →
+    StandsFor d capacity (next_slot h)
 slot_stands d capacity h r w less =
     let m : MuxState = w.mux in
     let next : MuxState = after m (slot_of m.schedule.schedule m.slots) in
@@ -82,7 +87,8 @@ slot_stands d capacity h r w less =
 
 -- ---- events
 
-step_stands : (d : Scheduled) (capacity : ℕ) (h : History) (step : Step) → IsInRange d.description → StandsFor d capacity h → StandsFor d capacity (step_history d capacity h step)
+step_stands : (d : Scheduled) (capacity : ℕ) (h : History) (step : Step) → IsInRange d.description → StandsFor d capacity h →
+    StandsFor d capacity (step_history d capacity h step)
 unfolding step_history
 step_stands d capacity h (FeedStep k u) r w = fed_stands d capacity h k u (feed_cause d capacity h k u (slice_get d.description.streams k)) r w refl
 step_stands d capacity h SlotStep r w = elim (cases_lt h.slots (2 ^ 40)) [
@@ -90,7 +96,8 @@ step_stands d capacity h SlotStep r w = elim (cases_lt h.slots (2 ^ 40)) [
   | inr over ↦ let test = le-ltb h.slots (2 ^ 40) over in rw test w
 ]
 
-all_stand : (d : Scheduled) (capacity : ℕ) (h : History) (steps : List Step) → IsInRange d.description → StandsFor d capacity h → StandsFor d capacity (history_after d capacity h steps)
+all_stand : (d : Scheduled) (capacity : ℕ) (h : History) (steps : List Step) → IsInRange d.description → StandsFor d capacity h →
+    StandsFor d capacity (history_after d capacity h steps)
 unfolding history_after
 all_stand d capacity h [] r w = w
 all_stand d capacity h (step ∷ rest) r w = all_stand d capacity (step_history d capacity h step) rest r (step_stands d capacity h step r w)

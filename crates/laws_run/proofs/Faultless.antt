@@ -1,5 +1,6 @@
 -- Nothing is wrong with the finished bytes of a run.
-use Rattle.std.proofs.Common.{◌≡◌, ℕ, ◌+◌, ◌-◌, ◌*◌, ◌^◌, ◌<◌, ◌==◌, not, nat_le, Bool, true, false, cond, List, [], ◌∷◌, length, map, Some, slice_get, refl, sym, subst, arith, All, inl, inr}
+use Rattle.std.proofs.Common.{◌≡◌, ℕ, ◌+◌, ◌-◌, ◌*◌, ◌^◌, ◌<◌, ◌==◌, not, nat_le, Bool, true, false, cond, List, [], ◌∷◌, length, map, Some, slice_get, refl}
+use Rattle.std.proofs.Common.{sym, subst, arith, All, inl, inr}
 use Rattle.std.proofs.lemmas.List.Elements.{All-nil, All-cons, All-head, All-tail, All-append}
 use Rattle.own_slots.specs.Slots.{own_slots}
 use Rattle.own_slots.specs.Rounds.{starts}
@@ -9,7 +10,8 @@ use Rattle.slot_contents.specs.Contents.{run_bytes}
 use Rattle.description_parts.specs.Described.{DescribedStream}
 use Rattle.description_parts.specs.Ranges.{IsInRange}
 use Rattle.description_parts.specs.Tables.{table_count, table_pid}
-use Rattle.demux.specs.Views.{WhatView, IsDuplicate, BreaksCounter, IsScrambled, IsTruncated, IsSection, IsBadSection, IsPes, IsBadPes, IsBadPacket, IsErrored, PidFinding, FindingView}
+use Rattle.demux.specs.Views.{WhatView, IsDuplicate, BreaksCounter, IsScrambled, IsTruncated, IsSection, IsBadSection, IsPes, IsBadPes, IsBadPacket, IsErrored}
+use Rattle.demux.specs.Views.{PidFinding, FindingView}
 use Rattle.demux.specs.Laws.{with_pid_at}
 use Rattle.table_rounds.specs.Tables.{round_places}
 use Rattle.unit_queue.specs.OwnedStreams.{has_access}
@@ -26,7 +28,8 @@ use Rattle.mux_core.specs.Histories.{owned_stream, table_of, content_at}
 use Rattle.mux_core.specs.Headline.{UnitsKept}
 use Rattle.mux_core.proofs.Accepted.{units_kept}
 use Rattle.laws_run.specs.GivenBack.{IsSentOn}
-use Rattle.laws_run.specs.Clean.{Fault, RefusedPacket, ErroredPacket, BrokenCounter, RepeatedPacket, ScrambledPacket, RefusedSection, RefusedPes, fault_of, NoneIs, CleanLaw, StandingCleanLaw}
+use Rattle.laws_run.specs.Clean.{Fault, RefusedPacket, ErroredPacket, BrokenCounter, RepeatedPacket, ScrambledPacket, RefusedSection, RefusedPes, fault_of}
+use Rattle.laws_run.specs.Clean.{NoneIs, CleanLaw, StandingCleanLaw}
 use Rattle.laws_run.proofs.DistinguishableSections.{section_whole, rounds_all}
 use Rattle.laws_run.proofs.NothingElse.{sent_or_silent}
 use Rattle.laws_run.proofs.RunFindings.{is_run, stream_units_fit, one_stream, one_table, has_places, has_room, silent_back, given_back}
@@ -40,7 +43,8 @@ stream_clean d units n k s r kept few is =
     units_are_clean s.pid n s.stream_id d.description.base0 (content_at d units) (units k) (is_run d units n r kept few) alone.no_null
     (streams_carry (owned_stream d k s) n (units k) (content_at d units) alone) (stream_units_fit d units k s kept is)
 
-table_clean : (d : Scheduled) (units : ℕ → List AccessUnit) (n t : ℕ) → IsInRange d.description → UnitsKept d units → n < 2 ^ 64 - 1 → t < table_count d.description →
+table_clean : (d : Scheduled) (units : ℕ → List AccessUnit) (n t : ℕ) → IsInRange d.description → UnitsKept d units → n < 2 ^ 64 - 1 →
+    t < table_count d.description →
     All IsFaultless (found_on (table_pid d.description t) (run_bytes (content_at d units) 0 n))
 table_clean d units n t r kept few lt =
     let alone = one_table d units t r kept lt in
@@ -53,12 +57,14 @@ table_clean d units n t r kept few lt =
 abbrev CleanOn : Scheduled → (ℕ → List AccessUnit) → ℕ → ℕ → Type 0
 CleanOn d units n pid = All IsFaultless (found_on pid (run_bytes (content_at d units) 0 n))
 
-sent_clean : (d : Scheduled) (units : ℕ → List AccessUnit) (n pid : ℕ) → IsInRange d.description → UnitsKept d units → n < 2 ^ 64 - 1 → IsSentOn d.description pid →
+sent_clean : (d : Scheduled) (units : ℕ → List AccessUnit) (n pid : ℕ) → IsInRange d.description → UnitsKept d units → n < 2 ^ 64 - 1 →
+    IsSentOn d.description pid →
     CleanOn d units n pid
 sent_clean d units n pid r kept few (inl (k, s, is, same)) = subst (CleanOn d units n) same (stream_clean d units n k s r kept few is)
 sent_clean d units n pid r kept few (inr (t, lt, same)) = subst (CleanOn d units n) same (table_clean d units n t r kept few lt)
 
-pub pid_clean : (d : Scheduled) (units : ℕ → List AccessUnit) (n : ℕ) → IsInRange d.description → UnitsKept d units → n < 2 ^ 64 - 1 → (pid : ℕ) → (pid == 8191) ≡ false →
+pub pid_clean : (d : Scheduled) (units : ℕ → List AccessUnit) (n : ℕ) → IsInRange d.description → UnitsKept d units → n < 2 ^ 64 - 1 → (pid : ℕ) →
+    (pid == 8191) ≡ false →
     CleanOn d units n pid
 pid_clean d units n r kept few pid told = elim (sent_or_silent d.description pid) [
   | inl sent ↦ sent_clean d units n pid r kept few sent
@@ -140,7 +146,8 @@ no_section bytes e = absurd (cc)
 unit_no_bad : (id base0 : ℕ) (e : Ending) (u : AccessUnit) (i : ℕ) (is : List ℕ) → NoBadPesAt (unit_found id base0 e u i is)
 unfolding unit_found
 unit_no_bad id base0 e u i is =
-    either ((unit_header id base0 u).len == 0) _ _ (no_pes _ _ _) (either (nat_le (length (pes_packet_bytes id base0 u)) (carried_in (has_access u) (i ∷ is))) _ _ (no_pes _ _ _) (no_cut _))
+    either ((unit_header id base0 u).len == 0) _ _ (no_pes _ _ _)
+    (either (nat_le (length (pes_packet_bytes id base0 u)) (carried_in (has_access u) (i ∷ is))) _ _ (no_pes _ _ _) (no_cut _))
 
 section_no_bad : (e : Ending) (text : List ℕ) (i : ℕ) (is : List ℕ) → NoBadPesAt (section_found e text i is)
 unfolding section_found
@@ -162,7 +169,8 @@ each_no_bad found count (x ∷ xs) h =
 told_no_bad : (pid : ℕ) (xs : List PidFinding) → All NoBadPesAt xs → NoneIs RefusedPes (map (with_pid_at pid) xs)
 told_no_bad pid [] h = All-nil (λ (f : FindingView). NoBadPes f.what)
 told_no_bad pid (x ∷ xs) h =
-    All-cons (λ (f : FindingView). NoBadPes f.what) (with_pid_at pid x) (map (with_pid_at pid) xs) (All-head NoBadPesAt x xs h) (told_no_bad pid xs (All-tail NoBadPesAt x xs h))
+    All-cons (λ (f : FindingView). NoBadPes f.what) (with_pid_at pid x) (map (with_pid_at pid) xs) (All-head NoBadPesAt x xs h)
+    (told_no_bad pid xs (All-tail NoBadPesAt x xs h))
 
 -- ---- the laws
 
@@ -178,8 +186,10 @@ clean d units n r kept few =
       once = none_is RepeatedPacket (all_found bytes) (λ e. cc) all;
       clear = none_is ScrambledPacket (all_found bytes) (λ e. cc) all;
       sections = none_is RefusedSection (all_found bytes) (λ e. cc) all;
-      stream_pes = λ k s is. subst (NoneIs RefusedPes) (sym (back.streams k s is)) (told_no_bad s.pid _ (each_no_bad _ n _ (unit_no_bad s.stream_id d.description.base0)));
-      table_pes = λ t lt told. subst (NoneIs RefusedPes) (sym (back.tables t lt told)) (told_no_bad (table_pid d.description t) _ (each_no_bad _ n _ section_no_bad));
+      stream_pes = λ k s is. subst (NoneIs RefusedPes) (sym (back.streams k s is))
+          (told_no_bad s.pid _ (each_no_bad _ n _ (unit_no_bad s.stream_id d.description.base0)));
+      table_pes = λ t lt told. subst (NoneIs RefusedPes) (sym (back.tables t lt told))
+          (told_no_bad (table_pid d.description t) _ (each_no_bad _ n _ section_no_bad));
     }
 
 pub standing_clean : StandingCleanLaw

@@ -1,5 +1,6 @@
 -- A decoder that follows PAT and PMT is told of each program and its streams.
-use Rattle.std.proofs.Common.{◌≡◌, ◌≤◌, ◌<◌, ℕ, zero, suc, ◌+◌, ◌-◌, Bool, true, false, cond, if◌then◌else◌, List, [], ◌∷◌, ◌++◌, length, map, filter, get_or, is_some, Option, Some, Ok, slice_get, All, refl, sym, ap, subst, ◌∙◌, arith}
+use Rattle.std.proofs.Common.{◌≡◌, ◌≤◌, ◌<◌, ℕ, zero, suc, ◌+◌, ◌-◌, Bool, true, false, cond, if◌then◌else◌, List, [], ◌∷◌, ◌++◌, length, map, filter, get_or}
+use Rattle.std.proofs.Common.{is_some, Option, Some, Ok, slice_get, All, refl, sym, ap, subst, ◌∙◌, arith}
 use Rattle.std.specs.Prelude.{Contains, slice_index_or}
 use Rattle.std.specs.List.{flat_map}
 use Rattle.std.specs.Option.{option_to_list}
@@ -16,7 +17,8 @@ use Rattle.psi_tables.proofs.SectionWritten.{written as section_written}
 use Rattle.description_parts.specs.Described.{Described, DescribedProgram, DescribedStream}
 use Rattle.description_parts.specs.Ranges.{IsInRange, IsProgram, IsStream, longest_section}
 use Rattle.description_parts.specs.Tables.{table_kinds, table_kind, table_count, table_limit, section_lengths, kind_lengths, pmt_length, is_shared_with}
-use Rattle.description.specs.SectionBytes.{network_entries, pat_entry, pmt_stream, is_of_program, pmt_streams, pmt_shared, pmt_tables, pmt_says, kind_bytes, table_bytes}
+use Rattle.description.specs.SectionBytes.{network_entries, pat_entry, pmt_stream, is_of_program, pmt_streams, pmt_shared, pmt_tables, pmt_says, kind_bytes}
+use Rattle.description.specs.SectionBytes.{table_bytes}
 use Rattle.description_parts.specs.declared.table_kind.TableKind.TheVariants.{Pmt}
 use Rattle.description.proofs.LoopLengths.{stream_descriptors-length}
 use Rattle.description.proofs.Pids.{at_place}
@@ -59,11 +61,13 @@ map_has f (z ∷ xs) zero x is = let same : z ≡ x = cc in (0, omega arith, ap 
 map_has f (z ∷ xs) (suc i) x is = cons_has (f z) (map f xs) (f x) (map_has f xs i x is)
 
 -- of what the first of several gives
-first_has : {X : Type 0} (f : List ℕ → List X) (wholes : List (List ℕ)) (whole : List ℕ) (y : X) → slice_get wholes 0 ≡ Some whole → Contains (f whole) y → Contains (flat_map f wholes) y
+first_has : {X : Type 0} (f : List ℕ → List X) (wholes : List (List ℕ)) (whole : List ℕ) (y : X) → slice_get wholes 0 ≡ Some whole → Contains (f whole) y →
+    Contains (flat_map f wholes) y
 first_has f [] whole y is c = absurd (let no : ⊥ = cc in no)
 first_has {X} f (w ∷ ws) whole y is c =
     let same : w ≡ whole = cc in
-    subst (λ (xs : List X). Contains xs y) (sym (flat_map-cons f w ws)) (front_has (f w) (flat_map f ws) y (subst (λ (x : List ℕ). Contains (f x) y) (sym same) c))
+    subst (λ (xs : List X). Contains xs y) (sym (flat_map-cons f w ws))
+    (front_has (f w) (flat_map f ws) y (subst (λ (x : List ℕ). Contains (f x) y) (sym same) c))
 
 -- ---- the map of a program can be written
 
@@ -78,7 +82,8 @@ stream_fits s i = record {
   info_length = omega (arith, stream_descriptors-length s i, i.descriptors.fits, at_most (is_some s.tag) 3, at_most (is_some s.language) 6);
 }
 
-kept_fit : (b : Bool) (s : DescribedStream) (ss : List DescribedStream) → IsStream s → StreamsFit (map pmt_stream ss) → StreamsFit (map pmt_stream (cond b (s ∷ ss) ss))
+kept_fit : (b : Bool) (s : DescribedStream) (ss : List DescribedStream) → IsStream s → StreamsFit (map pmt_stream ss) →
+    StreamsFit (map pmt_stream (cond b (s ∷ ss) ss))
 kept_fit true s ss is rest = (stream_fits s is, rest)
 kept_fit false s ss is rest = rest
 
@@ -101,7 +106,8 @@ map_bytes d t i j moment p kind is =
     let by_program : kind_bytes d (Pmt i) j moment ≡ section_bytes (pmt_section (pmt_says d p)) = rw (is, kind_bytes) refl in
     by_kind ∙ by_program
 
-pub map_fits : (d : Described) (t i : ℕ) (p : DescribedProgram) → IsInRange d → t < table_count d → table_kind d t ≡ Some (Pmt i) → slice_get d.programs i ≡ Some p → PmtFits (pmt_says d p)
+pub map_fits : (d : Described) (t i : ℕ) (p : DescribedProgram) → IsInRange d → t < table_count d → table_kind d t ≡ Some (Pmt i) →
+    slice_get d.programs i ≡ Some p → PmtFits (pmt_says d p)
 map_fits d t i p r lt kind is =
     let program = at_place IsProgram d.programs i p r.programs is in
     let short = at_place (λ (x : DescribedProgram). pmt_length d x ≤ longest_section) d.programs i p r.pmt_lengths is in
@@ -112,10 +118,17 @@ map_fits d t i p r lt kind is =
     subst (λ (ls : List ℕ). length (section_bytes (pmt_section (pmt_says d p))) ≤ get_or ls 0 0) (by_kind ∙ by_program)
     (subst (λ (x : List ℕ). length x ≤ get_or (section_lengths d t) 0 0) (map_bytes d t i 0 0 p kind is) fit) in
     record {
-      header = record { table_id_extension = omega (arith, program.most_number); version_number = omega arith; section_number = omega arith; last_section_number = omega arith };
+      header = record {
+        table_id_extension = omega (arith, program.most_number);
+        version_number = omega arith;
+        section_number =
+            omega arith;
+        last_section_number = omega arith;
+      };
       pcr_pid = omega (arith, program.pcr_pid.high);
       streams = both_fit (pmt_streams p.number d.streams ++ pmt_shared p.number d.streams) (pmt_tables p.number d.tables)
-          (both_fit (pmt_streams p.number d.streams) (pmt_shared p.number d.streams) (streams_fit (is_of_program p.number) d.streams r.streams) (streams_fit (is_shared_with p.number) d.streams r.streams))
+          (both_fit (pmt_streams p.number d.streams) (pmt_shared p.number d.streams) (streams_fit (is_of_program p.number) d.streams r.streams)
+          (streams_fit (is_shared_with p.number) d.streams r.streams))
           (tables_fit p.number d.tables r.tables);
       room = omega (arith, map_size (pmt_says d p), within, short);
     }
@@ -128,7 +141,8 @@ map_read : (d : Described) (p : DescribedProgram) → PmtFits (pmt_says d p) →
 unfolding map_in map_by
 map_read d p fits fill =
     let again = written (pmt_says d p) fits in
-    let read : section_at (section_bytes (pmt_section (pmt_says d p)) ++ fill) ≡ Ok (pmt_section (pmt_says d p), length (section_bytes (pmt_section (pmt_says d p)))) =
+    let read : section_at (section_bytes (pmt_section (pmt_says d p)) ++ fill) ≡ Ok
+    (pmt_section (pmt_says d p), length (section_bytes (pmt_section (pmt_says d p)))) =
     (section_written (pmt_section (pmt_says d p)) again.writable).read fill in
     ap map_in read ∙ ap map_by again.read
 
@@ -137,22 +151,26 @@ TellsPrograms d section = (fill : List ℕ) → programs_in_section (section_at 
 
 -- ---- what is told
 
-program_there : (d : Described) (i : ℕ) (p : DescribedProgram) (bytes : List ℕ) → slice_get d.programs i ≡ Some p → Told (TellsPrograms d) 0 bytes → Contains (programs_named bytes) (pat_entry p)
+program_there : (d : Described) (i : ℕ) (p : DescribedProgram) (bytes : List ℕ) → slice_get d.programs i ≡ Some p → Told (TellsPrograms d) 0 bytes →
+    Contains (programs_named bytes) (pat_entry p)
 unfolding section_in
 program_there d i p bytes is told =
-    first_has (λ whole. programs_in_section (section_in whole)) (put_together (pieces_on 0 bytes)) (0 ∷ (told.section ++ fill_after told.section)) (pat_entry p) told.whole
+    first_has (λ whole. programs_in_section (section_in whole)) (put_together (pieces_on 0 bytes)) (0 ∷ (told.section ++ fill_after told.section)) (pat_entry p)
+    told.whole
     (subst (λ (xs : List Program). Contains xs (pat_entry p)) (sym (told.is (fill_after told.section)))
     (back_has (network_entries d) (map pat_entry d.programs) (pat_entry p) (map_has pat_entry d.programs i p is)))
 
 map_there : (d : Described) (p : DescribedProgram) (bytes : List ℕ) → Told (TellsMap d p) p.pmt_pid bytes → Contains (maps_on p.pmt_pid bytes) (pmt_says d p)
 unfolding section_in
 map_there d p bytes told =
-    first_has (λ whole. map_in (section_in whole)) (put_together (pieces_on p.pmt_pid bytes)) (0 ∷ (told.section ++ fill_after told.section)) (pmt_says d p) told.whole
+    first_has (λ whole. map_in (section_in whole)) (put_together (pieces_on p.pmt_pid bytes)) (0 ∷ (told.section ++ fill_after told.section)) (pmt_says d p)
+    told.whole
     (subst (λ (xs : List PmtView). Contains xs (pmt_says d p)) (sym (told.is (fill_after told.section))) (0, omega arith, refl))
 
 -- where each of these tables begins twice
 pub followed_by : (d : Scheduled) (units : ℕ → List AccessUnit) (slots : ℕ) (bytes : List ℕ) → IsInRange d.description → Headline d units slots bytes →
-    ((t : ℕ) → t < table_count d.description → table_limit d.description t ≡ 500 → TwoStarts (section_starts d.description d.schedule t 0) slots) → IsFollowed d.description bytes
+    ((t : ℕ) → t < table_count d.description → table_limit d.description t ≡ 500 → TwoStarts (section_starts d.description d.schedule t 0) slots) →
+    IsFollowed d.description bytes
 followed_by d units slots bytes r h twice = record {
   programs = λ i p is.
       let there : 0 < table_count d.description = omega arith in
@@ -166,7 +184,8 @@ followed_by d units slots bytes r h twice = record {
       let fits = map_fits d.description (i + 1) i p r there t.kind is in
       map_there d.description p bytes
       (subst (λ (pid : ℕ). Told (TellsMap d.description p) pid bytes) t.same
-      (table_told (TellsMap d.description p) d (i + 1) slots bytes r there (sections_law d.description (i + 1) r there).0 (h.tables (i + 1) there) (twice (i + 1) there limit)
+      (table_told (TellsMap d.description p) d (i + 1) slots bytes r there (sections_law d.description (i + 1) r there).0 (h.tables (i + 1) there)
+      (twice (i + 1) there limit)
       (λ j moment within. subst (TellsMap d.description p) (sym (map_bytes d.description (i + 1) i j moment p t.kind is)) (map_read d.description p fits))));
 }
 

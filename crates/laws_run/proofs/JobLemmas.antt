@@ -24,7 +24,8 @@ unfolding or_cause unit_refused
 neither index None next e = (refl, e)
 neither index (Some cause) next e = absurd (cc)
 
-one_more : (d : Scheduled) (capacity : ℕ) (fed : List (ℕ × AccessUnit)) (entry : ℕ × AccessUnit) → IsInRange d.description → StandsFor d capacity (job_history fed 0) →
+one_more : (d : Scheduled) (capacity : ℕ) (fed : List (ℕ × AccessUnit)) (entry : ℕ × AccessUnit) → IsInRange d.description →
+    StandsFor d capacity (job_history fed 0) →
     cause_after d capacity fed entry ≡ None → StandsFor d capacity (job_history (fed ++ (entry ∷ [])) 0)
 unfolding fed_history
 one_more d capacity fed entry r w none =

@@ -24,7 +24,8 @@ none_of_each {X} {Y} f (x ∷ xs) h = flat_map-cons f x xs ∙ ap (λ (ys : List
 pub none_on_each : (rule : Rule) (places : ℕ → List ℕ) (pids : List ℕ) → ((pid : ℕ) → places pid ≡ []) → on_each rule places pids ≡ []
 none_on_each rule places pids h = none_of_each (λ pid. map (fault rule (Some pid)) (places pid)) pids (λ pid. ap (map (fault rule (Some pid))) (h pid))
 
-one_left : {X : Type 0} (packets cut clocks findings associations maps network services events time stamps : List X) → packets ≡ [] → cut ≡ [] → clocks ≡ [] → findings ≡ [] →
+one_left : {X : Type 0} (packets cut clocks findings associations maps network services events time stamps : List X) → packets ≡ [] → cut ≡ [] → clocks ≡ [] →
+    findings ≡ [] →
     associations ≡ [] → maps ≡ [] → network ≡ [] → services ≡ [] → events ≡ [] → time ≡ [] →
     ((packets ++ cut) ++ clocks) ++ (findings ++ associations ++ maps ++ network ++ services ++ events ++ time ++ stamps) ≡ stamps
 one_left packets cut clocks findings associations maps network services events time stamps p c k f a m n s e t = rw (p, c, k, f, a, m, n, s, e, t) refl
@@ -51,7 +52,9 @@ pub reported : ReportedLaw
 reported d units n limit r promised kept wide few = all_reported d limit _ (sound d units n r kept few) (in_time d units n limit r promised kept wide few)
 
 pub standing_reported : StandingReportedLaw
-standing_reported h m n limit r promised st wide few = all_reported m.schedule limit _ (standing_sound h m n r st few) (standing_in_time h m n limit r promised st wide few)
+standing_reported h m n limit r promised st wide few =
+    all_reported m.schedule limit _ (standing_sound h m n r st few) (standing_in_time h m n limit r promised st wide few)
 
 pub job_reported : JobReportedLaw
-job_reported d units n limit r promised none wide few = all_reported d limit _ (job_sound d units n r none few) (job_in_time d units n limit r promised none wide few)
+job_reported d units n limit r promised none wide few =
+    all_reported d limit _ (job_sound d units n r none few) (job_in_time d units n limit r promised none wide few)

@@ -1,5 +1,6 @@
 -- The PIDs that the program association sections of a run name are those of the description's program maps.
-use Rattle.std.proofs.Common.{◌≡◌, ℕ, suc, ◌+◌, ◌-◌, ◌*◌, ◌/◌, ◌^◌, ◌<◌, ◌≤◌, ◌==◌, nat_le, nat_eq, Bool, true, false, cond, List, [], ◌∷◌, ◌++◌, length, map, take, drop, Option, Some, None, Ok, slice_get, refl, sym, ap, subst, ◌∙◌, arith, All, inl, inr, eqb-true, append-nil}
+use Rattle.std.proofs.Common.{◌≡◌, ℕ, suc, ◌+◌, ◌-◌, ◌*◌, ◌/◌, ◌^◌, ◌<◌, ◌≤◌, ◌==◌, nat_le, nat_eq, Bool, true, false, cond, List, [], ◌∷◌, ◌++◌, length, map}
+use Rattle.std.proofs.Common.{take, drop, Option, Some, None, Ok, slice_get, refl, sym, ap, subst, ◌∙◌, arith, All, inl, inr, eqb-true, append-nil}
 use Rattle.std.specs.Map.{lookup}
 use Rattle.std.specs.Option.{option_to_list}
 use Rattle.std.proofs.lemmas.Bool.{cases_Bool}
@@ -54,7 +55,8 @@ network_unnamed : (o : Option DescribedNetwork) (programs : List Program) →
 network_unnamed None programs = refl
 network_unnamed (Some n) programs = refl
 
-entries_named : (P : ℕ → Type 0) (ps : List DescribedProgram) → ((i : ℕ) (p : DescribedProgram) → slice_get ps i ≡ Some p → P p.pmt_pid) → All P (program_pids (map pat_entry ps))
+entries_named : (P : ℕ → Type 0) (ps : List DescribedProgram) → ((i : ℕ) (p : DescribedProgram) → slice_get ps i ≡ Some p → P p.pmt_pid) →
+    All P (program_pids (map pat_entry ps))
 entries_named P [] h = All-nil P
 entries_named P (p ∷ ps) h =
     let rest = entries_named P ps (λ i q e. h (suc i) q e) in
@@ -81,7 +83,13 @@ entry_count (Some n) programs = omega arith
 
 pub pat_fits : (d : Described) → IsInRange d → PatFits (pat_says d)
 pat_fits d r = record {
-  header = record { table_id_extension = omega (arith, r.transport_stream_id); version_number = omega arith; section_number = omega arith; last_section_number = omega arith };
+  header = record {
+    table_id_extension = omega (arith, r.transport_stream_id);
+    version_number = omega arith;
+    section_number = omega arith;
+    last_section_number =
+        omega arith;
+  };
   programs = entries_fit d.network (map pat_entry d.programs) (programs_fit d.programs r.programs);
   room = omega (arith, entry_count d.network (map pat_entry d.programs), length-map d.programs pat_entry, r.most_programs);
 }
@@ -93,12 +101,15 @@ unfolding programs_in_section programs_by
 pat_read_before d fill r =
     let table = pat_section (pat_says d) in
     let again = written (pat_says d) (pat_fits d r) in
-    let read : section_at (section_bytes (pat_section (pat_says d)) ++ fill) ≡ Ok (pat_section (pat_says d), length (section_bytes (pat_section (pat_says d)))) =
+    let read : section_at (section_bytes (pat_section (pat_says d)) ++ fill) ≡ Ok
+    (pat_section (pat_says d), length (section_bytes (pat_section (pat_says d)))) =
     (section_written table again.writable).read fill in
     ap programs_in_section read ∙ ap programs_by again.read
 
-pat_read : (d : Described) → IsInRange d → programs_in_section (section_at (section_bytes (pat_section (pat_says d)))) ≡ network_entries d ++ map pat_entry d.programs
-pat_read d r = ap (λ (bytes : List ℕ). programs_in_section (section_at bytes)) (sym (append-nil (section_bytes (pat_section (pat_says d))))) ∙ pat_read_before d [] r
+pat_read : (d : Described) → IsInRange d → programs_in_section (section_at (section_bytes (pat_section (pat_says d)))) ≡ network_entries d
+    ++ map pat_entry d.programs
+pat_read d r = ap (λ (bytes : List ℕ). programs_in_section (section_at bytes)) (sym (append-nil (section_bytes (pat_section (pat_says d)))))
+    ∙ pat_read_before d [] r
 
 -- each PID that something found names is that of a program's map
 abbrev Names : Described → WhatView → Type 0
@@ -163,7 +174,8 @@ found_name d pid (x ∷ xs) h =
 
 -- ---- a PID that is named
 
-by_one : (d : Described) (pid since packet : ℕ) (pids : List ℕ) (rest : List (ℕ × ℕ)) → All (IsMapPid d) pids → (lookup (nat_eq pid) rest ≡ Some since → IsMapPid d pid) →
+by_one : (d : Described) (pid since packet : ℕ) (pids : List ℕ) (rest : List (ℕ × ℕ)) → All (IsMapPid d) pids →
+    (lookup (nat_eq pid) rest ≡ Some since → IsMapPid d pid) →
     lookup (nat_eq pid) (map (λ q. (q, packet)) pids ++ rest) ≡ Some since → IsMapPid d pid
 by_one d pid since packet [] rest h others e = others e
 by_one d pid since packet (q ∷ pids) rest h others e = elim (cases_Bool (nat_eq pid q)) [
@@ -215,7 +227,8 @@ named_are_maps d units n pid since r kept few e = by_all d.description pid since
     texts_name : All (λ text. Names d.description (IsSection text)) (sections_of_rounds (table_of d 0) n)
     texts_name = rounds_all (λ text. Names d.description (IsSection text)) (table_of d 0) slots (λ j moment lt. text_names d.description j moment r)
 
-    back : map (with_pid_at 0) (each_found section_found n (sendings section_packets (sections_of_rounds (table_of d 0) n) (packets_on 0 bytes))) ≡ map (with_pid_at 0) (found_on 0 bytes)
+    back : map (with_pid_at 0) (each_found section_found n (sendings section_packets (sections_of_rounds (table_of d 0) n) (packets_on 0 bytes))) ≡ map
+        (with_pid_at 0) (found_on 0 bytes)
     back = sym (tables_come_back (table_of d 0) n content (is_run d units n r kept few) alone (has_places d 0 r there) (has_room d 0 r) given)
         ∙ as_told 0 bytes refl (omega (arith, count, few))
 

@@ -1,5 +1,6 @@
 -- Sections of program maps begin in time on each PID that is named for them, from the packet in which it is named to the end of a run.
-use Rattle.std.proofs.Common.{◌≡◌, ℕ, ◌+◌, ◌-◌, ◌*◌, ◌/◌, ◌^◌, ◌<◌, ◌≤◌, nat_lt, Bool, true, List, [], ◌∷◌, ◌++◌, length, filter, Option, Some, None, slice_get, refl, sym, ap, ap₂, subst, ◌∙◌, arith}
+use Rattle.std.proofs.Common.{◌≡◌, ℕ, ◌+◌, ◌-◌, ◌*◌, ◌/◌, ◌^◌, ◌<◌, ◌≤◌, nat_lt, Bool, true, List, [], ◌∷◌, ◌++◌, length, filter, Option, Some, None, slice_get}
+use Rattle.std.proofs.Common.{refl, sym, ap, ap₂, subst, ◌∙◌, arith}
 use Rattle.std.proofs.lemmas.Option.{slice_get_within}
 use Rattle.pes_packet.specs.AccessUnits.{AccessUnit}
 use Rattle.slot_contents.specs.Contents.{Content, run_bytes}
@@ -41,7 +42,8 @@ map_table d i p is =
     record { kind = kind; same = of_kind ∙ pid }
 
 -- on its PID, from any packet on
-map_in_time : (d : Scheduled) (units : ℕ → List AccessUnit) (n t i since : ℕ) → IsInRange d.description → Promised d.description d.schedule → UnitsKept d units →
+map_in_time : (d : Scheduled) (units : ℕ → List AccessUnit) (n t i since : ℕ) → IsInRange d.description → Promised d.description d.schedule →
+    UnitsKept d units →
     n < 2 ^ 64 - 1 → table_kind d.description t ≡ Some (Pmt i) →
     map_late_since d.description.rate (length (run_bytes (content_at d units) 0 n) / 188)
     (table_begins 0x02 (found_on (table_pid d.description t) (run_bytes (content_at d units) 0 n))) (Some since) ≡ []
@@ -85,7 +87,8 @@ map_in_time d units n t i since r promised kept few is =
     all s lt y = begins_there (table_of d t) 0 s n content fits (table.begins 0 s within lt y)
 
 -- on each PID
-pub maps_in_time : (d : Scheduled) (units : ℕ → List AccessUnit) (n : ℕ) → IsInRange d.description → Promised d.description d.schedule → UnitsKept d units → n < 2 ^ 64 - 1 →
+pub maps_in_time : (d : Scheduled) (units : ℕ → List AccessUnit) (n : ℕ) → IsInRange d.description → Promised d.description d.schedule → UnitsKept d units →
+    n < 2 ^ 64 - 1 →
     (pid : ℕ) → map_late d.description.rate (run_bytes (content_at d units) 0 n) pid ≡ []
 unfolding map_late_since
 maps_in_time d units n r promised kept few pid = by (named_since pid bytes) refl

@@ -17,7 +17,8 @@ use Rattle.laws_run.proofs.InTime.{in_time}
 
 kept_of : (d : Scheduled) (capacity : ℕ) (h : History) → IsInRange d.description → StandsFor d capacity h → UnitsKept d h.units
 kept_of d capacity h r w =
-    subst (λ (x : Scheduled). UnitsKept x h.units) w.schedule (units_kept h w.mux (subst (λ (x : Scheduled). IsInRange x.description) (sym w.schedule) r) w.stands)
+    subst (λ (x : Scheduled). UnitsKept x h.units) w.schedule
+    (units_kept h w.mux (subst (λ (x : Scheduled). IsInRange x.description) (sym w.schedule) r) w.stands)
 
 pub job_kept : (d : Scheduled) (units : List (ℕ × AccessUnit)) → IsInRange d.description → first_refused d (capacity_for units) [] units ≡ None →
     UnitsKept d (λ k. units_of k units)
@@ -25,7 +26,8 @@ job_kept d units r none = kept_of d (capacity_for units) (job_history units 0) r
 
 pub job_sound : JobSoundLaw
 job_sound d units n r none few =
-    subst IsSound (sym (output_bytes (content_at d (λ k. units_of k units)) 0 n)) (sound d (λ k. units_of k units) n r (job_kept d units r none) (omega (arith, few)))
+    subst IsSound (sym (output_bytes (content_at d (λ k. units_of k units)) 0 n))
+    (sound d (λ k. units_of k units) n r (job_kept d units r none) (omega (arith, few)))
 
 pub job_in_time : JobInTimeLaw
 job_in_time d units n limit r promised none wide few =

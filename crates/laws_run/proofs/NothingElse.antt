@@ -1,5 +1,6 @@
 -- Payloads are on the PIDs of streams and tables alone, and so is what is found.
-use Rattle.std.proofs.Common.{◌≡◌, ◌⊎◌, ℕ, zero, suc, ◌<◌, ◌==◌, Bool, true, false, cond, List, [], ◌∷◌, Option, Some, None, slice_get, refl, sym, ap, ◌∙◌, arith, All, inl, inr, eqb-true, eq-eqb}
+use Rattle.std.proofs.Common.{◌≡◌, ◌⊎◌, ℕ, zero, suc, ◌<◌, ◌==◌, Bool, true, false, cond, List, [], ◌∷◌, Option, Some, None, slice_get, refl, sym, ap, ◌∙◌}
+use Rattle.std.proofs.Common.{arith, All, inl, inr, eqb-true, eq-eqb}
 use Rattle.std.proofs.lemmas.Bool.{cases_Bool, eqb-false}
 use Rattle.std.proofs.lemmas.Option.{slice_get_within}
 use Rattle.std.proofs.lemmas.List.Elements.{All-nil, All-cons, All-head, All-tail}
@@ -53,7 +54,8 @@ table_silent d pid slot t (Some kind) e none = by (part_at (table_of d t) slot)
     by None = refl
     by (Some part) = let no = none.tables t (slice_get_within (table_kinds d.description) t kind e) in rw no refl
 
-slot_silent : (d : Scheduled) (units : ℕ → List AccessUnit) (pid slot : ℕ) (item : Slot) → IsSilent d.description pid → payload_in pid slot (content_in d units slot item) ≡ []
+slot_silent : (d : Scheduled) (units : ℕ → List AccessUnit) (pid slot : ℕ) (item : Slot) → IsSilent d.description pid →
+    payload_in pid slot (content_in d units slot item) ≡ []
 unfolding content_in
 slot_silent d units pid slot (Stream k) none = stream_silent d units pid slot k (slice_get d.description.streams k) refl none
 slot_silent d units pid slot (Pcr i) none = clock_silent d.description pid slot (slice_get d.description.programs i)

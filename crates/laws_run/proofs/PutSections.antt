@@ -1,5 +1,6 @@
 -- Where something begins anew after a section, that section is put together whole, with its pointer_field before it.
-use Rattle.std.proofs.Common.{◌≡◌, ◌≤◌, ◌<◌, ℕ, zero, suc, ◌+◌, ◌-◌, ◌*◌, ◌/◌, Bool, true, false, List, [], ◌∷◌, ◌++◌, length, take, drop, replicate, slice_get, Some, All, refl, sym, ap, subst, ◌∙◌, inl, inr, arith}
+use Rattle.std.proofs.Common.{◌≡◌, ◌≤◌, ◌<◌, ℕ, zero, suc, ◌+◌, ◌-◌, ◌*◌, ◌/◌, Bool, true, false, List, [], ◌∷◌, ◌++◌, length, take, drop, replicate, slice_get}
+use Rattle.std.proofs.Common.{Some, All, refl, sym, ap, subst, ◌∙◌, inl, inr, arith}
 use Rattle.std.specs.List.{concat}
 use Rattle.std.specs.Simd.{first_chunks}
 use Rattle.std.proofs.lemmas.Bool.{cases_lt, false≢true}
@@ -15,7 +16,8 @@ use Rattle.mux_core.specs.Decoder.{put_together, cut_thing}
 use Rattle.mux_core.proofs.PutTogether.{IsSome, all_marked, put_law, marked_length}
 
 -- nothing begins within one thing
-none_begins : (bs : List (List ℕ)) (rest : List Piece) (m j : ℕ) (p : Piece) → j < length bs → slice_get (take m (marked Continues bs ++ rest)) j ≡ Some p → is_start p.start ≡ false
+none_begins : (bs : List (List ℕ)) (rest : List Piece) (m j : ℕ) (p : Piece) → j < length bs → slice_get (take m (marked Continues bs ++ rest)) j ≡ Some p →
+    is_start p.start ≡ false
 unfolding marked
 none_begins [] rest m j p lt is = absurd (omega (arith, lt))
 none_begins (b ∷ bs) rest zero j p lt is = absurd (let no : ⊥ = cc in no)
@@ -41,7 +43,8 @@ short_list (q ∷ ps) (suc m) (suc j) p is = let rest = short_list ps m j p is i
 
 -- something begins after the first: so that one is whole
 pub first_whole : (c : Bool × List (List ℕ)) (cs : List (Bool × List (List ℕ))) (m j : ℕ) (p : Piece) → All IsSome (c ∷ cs) →
-    slice_get (take m (all_marked (c ∷ cs))) (suc j) ≡ Some p → is_start p.start ≡ true → slice_get (put_together (take m (all_marked (c ∷ cs)))) 0 ≡ Some (concat c.1)
+    slice_get (take m (all_marked (c ∷ cs))) (suc j) ≡ Some p → is_start p.start ≡ true →
+    slice_get (put_together (take m (all_marked (c ∷ cs)))) 0 ≡ Some (concat c.1)
 first_whole c cs m j p some is begins =
     let start = start_by true c.0 in
     let front : all_marked (c ∷ cs) ≡ marked (start_by true c.0) c.1 ++ all_marked cs = flat_map-cons cut_thing c cs in

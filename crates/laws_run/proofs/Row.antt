@@ -1,9 +1,11 @@
 -- Payloads in packets one after the other on one PID, as slots.
-use Rattle.std.proofs.Common.{◌≡◌, ℕ, suc, ◌+◌, ◌%◌, ◌^◌, ◌<◌, ◌≤◌, ◌==◌, true, false, List, [], ◌∷◌, ◌++◌, length, map, Option, Some, None, slice_get, refl, sym, ap, ap₂, subst, ◌∙◌, arith, All, eq-eqb}
+use Rattle.std.proofs.Common.{◌≡◌, ℕ, suc, ◌+◌, ◌%◌, ◌^◌, ◌<◌, ◌≤◌, ◌==◌, true, false, List, [], ◌∷◌, ◌++◌, length, map, Option, Some, None, slice_get, refl}
+use Rattle.std.proofs.Common.{sym, ap, ap₂, subst, ◌∙◌, arith, All, eq-eqb}
 use Rattle.std.proofs.lemmas.Bool.{false≢true}
 use Rattle.ts_packet.specs.Beginnings.{room_of}
 use Rattle.ts_packet.specs.Packets.{payload_packet}
-use Rattle.slot_contents.specs.Contents.{Content, PayloadContent, NullContent, ContentFits, Payload, Piece, packet_of, run_bytes, payload_in, payloads_in, NumberedBy, Numbered}
+use Rattle.slot_contents.specs.Contents.{Content, PayloadContent, NullContent, ContentFits, Payload, Piece, packet_of, run_bytes, payload_in, payloads_in}
+use Rattle.slot_contents.specs.Contents.{NumberedBy, Numbered}
 use Rattle.slot_contents.specs.RunLaws.{Fits}
 use Rattle.description.proofs.Pids.{at_place}
 use Rattle.unit_queue.specs.Payloads.{piece_in}
@@ -57,12 +59,15 @@ one_payload : (pid s : ℕ) (q : Piece) → payload_in pid s (PayloadContent pid
 one_payload pid s q = let y : (pid == pid) ≡ true = eq-eqb pid pid refl in rw y refl
 
 payloads_more : (pid : ℕ) (ps : List Piece) (s : ℕ) (q : Piece) (qs : List Piece) → IsRest ps s (q ∷ qs) →
-    payloads_in pid (row_content pid ps) s (suc (length qs)) ≡ record { index = s; start = q.start; bytes = q.bytes } ∷ payloads_in pid (row_content pid ps) (suc s) (length qs)
+    payloads_in pid (row_content pid ps) s (suc (length qs)) ≡ record { index = s; start = q.start; bytes = q.bytes } ∷ payloads_in pid (row_content pid ps)
+    (suc s) (length qs)
 unfolding payloads_in
 payloads_more pid ps s q qs h =
-    ap (λ (xs : List Payload). xs ++ payloads_in pid (row_content pid ps) (suc s) (length qs)) (ap (payload_in pid s) (here pid ps s q qs h) ∙ one_payload pid s q)
+    ap (λ (xs : List Payload). xs ++ payloads_in pid (row_content pid ps) (suc s) (length qs))
+    (ap (payload_in pid s) (here pid ps s q qs h) ∙ one_payload pid s q)
 
-row_pieces_from : (pid : ℕ) (ps : List Piece) (s : ℕ) (qs : List Piece) → IsRest ps s qs → map piece_in (payloads_in pid (row_content pid ps) s (length qs)) ≡ qs
+row_pieces_from : (pid : ℕ) (ps : List Piece) (s : ℕ) (qs : List Piece) → IsRest ps s qs →
+    map piece_in (payloads_in pid (row_content pid ps) s (length qs)) ≡ qs
 unfolding payloads_in
 row_pieces_from pid ps s [] h = refl
 row_pieces_from pid ps s (q ∷ qs) h =
@@ -73,7 +78,8 @@ row_indices_from : (pid : ℕ) (ps : List Piece) (s : ℕ) (qs : List Piece) →
 unfolding payloads_in packets_from
 row_indices_from pid ps s [] h = refl
 row_indices_from pid ps s (q ∷ qs) h =
-    ap (map (λ (p : Payload). p.index)) (payloads_more pid ps s q qs h) ∙ ap (λ (xs : List ℕ). s ∷ xs) (row_indices_from pid ps (suc s) qs (rest_after ps s q qs h))
+    ap (map (λ (p : Payload). p.index)) (payloads_more pid ps s q qs h)
+    ∙ ap (λ (xs : List ℕ). s ∷ xs) (row_indices_from pid ps (suc s) qs (rest_after ps s q qs h))
 
 row_numbered_from : (pid : ℕ) (ps : List Piece) (s : ℕ) (qs : List Piece) → IsRest ps s qs → Numbered pid (row_content pid ps) s (length qs) s
 unfolding Numbered

@@ -47,13 +47,15 @@ use Rattle.mux_core.proofs.TablesRead.{there as kind_there}
 pub is_run : (d : Scheduled) (units : ℕ → List AccessUnit) (n : ℕ) → IsInRange d.description → UnitsKept d units → n < 2 ^ 64 - 1 → IsRun n (content_at d units)
 is_run d units n r kept few = record { fits = contents_fit d units r kept; few = few }
 
-units_fit : (rules : StreamParameters) (us : List AccessUnit) → ParametersInRange rules → All (IsUnit rules) us → All (λ u. IsTrue (fits_packet rules.stream_id (length u.bytes))) us
+units_fit : (rules : StreamParameters) (us : List AccessUnit) → ParametersInRange rules → All (IsUnit rules) us →
+    All (λ u. IsTrue (fits_packet rules.stream_id (length u.bytes))) us
 units_fit rules [] is h = All-nil (λ (u : AccessUnit). IsTrue (fits_packet rules.stream_id (length u.bytes)))
 units_fit rules (u ∷ us) is h =
     All-cons (λ (u : AccessUnit). IsTrue (fits_packet rules.stream_id (length u.bytes))) u us (fits_unit rules u is (All-head (IsUnit rules) u us h))
     (units_fit rules us is (All-tail (IsUnit rules) u us h))
 
-pub stream_units_fit : (d : Scheduled) (units : ℕ → List AccessUnit) (k : ℕ) (s : DescribedStream) → UnitsKept d units → slice_get d.description.streams k ≡ Some s →
+pub stream_units_fit : (d : Scheduled) (units : ℕ → List AccessUnit) (k : ℕ) (s : DescribedStream) → UnitsKept d units →
+    slice_get d.description.streams k ≡ Some s →
     All (λ u. IsTrue (fits_packet s.stream_id (length u.bytes))) (units k)
 stream_units_fit d units k s kept is = units_fit (owned_stream d k s).parameters (units k) (kept.parameters k s is) (kept.kept k s is).units
 
@@ -81,7 +83,8 @@ stream_back d units n k s r kept few is =
     ∙ ap (λ (sent : List (Sending AccessUnit)). map (with_pid_at s.pid) (each_found (unit_found s.stream_id d.description.base0) n sent))
     (units_are_placed (owned_stream d k s) n (units k) (content_at d units) alone)
 
-table_back : (d : Scheduled) (units : ℕ → List AccessUnit) (n t : ℕ) → IsInRange d.description → UnitsKept d units → n < 2 ^ 64 - 1 → t < table_count d.description →
+table_back : (d : Scheduled) (units : ℕ → List AccessUnit) (n t : ℕ) → IsInRange d.description → UnitsKept d units → n < 2 ^ 64 - 1 →
+    t < table_count d.description →
     IsDistinguishable d.description t → found_on (table_pid d.description t) (run_bytes (content_at d units) 0 n) ≡ table_findings d n t
 table_back d units n t r kept few lt told =
     let alone = one_table d units t r kept lt in
@@ -94,7 +97,8 @@ table_back d units n t r kept few lt told =
 
 -- ---- the whole
 
-pub silent_back : (d : Scheduled) (units : ℕ → List AccessUnit) (n pid : ℕ) → IsRun n (content_at d units) → (pid == 8191) ≡ false → IsSilent d.description pid →
+pub silent_back : (d : Scheduled) (units : ℕ → List AccessUnit) (n pid : ℕ) → IsRun n (content_at d units) → (pid == 8191) ≡ false →
+    IsSilent d.description pid →
     found_on pid (run_bytes (content_at d units) 0 n) ≡ []
 silent_back d units n pid run told none = nothing_comes_back pid n (content_at d units) run told (λ t lt. all_silent d units pid t none)
 

@@ -1,5 +1,6 @@
 -- Where the sections of a table begin, as the monitor finds it: in the packets with the start indicator.
-use Rattle.std.proofs.Common.{◌≡◌, ℕ, zero, suc, ◌+◌, ◌*◌, ◌==◌, ◌&&◌, nat_le, Bool, true, false, cond, List, [], ◌∷◌, ◌++◌, length, map, filter, take, Some, slice_get, refl, sym, ap, subst, ◌∙◌, All, inl, inr, eq-eqb}
+use Rattle.std.proofs.Common.{◌≡◌, ℕ, zero, suc, ◌+◌, ◌*◌, ◌==◌, ◌&&◌, nat_le, Bool, true, false, cond, List, [], ◌∷◌, ◌++◌, length, map, filter, take, Some}
+use Rattle.std.proofs.Common.{slice_get, refl, sym, ap, subst, ◌∙◌, All, inl, inr, eq-eqb}
 use Rattle.std.specs.Prelude.{slice_index}
 use Rattle.std.specs.List.{filter_map, flat_map}
 use Rattle.std.proofs.lemmas.Bool.{cases_Bool}
@@ -36,7 +37,8 @@ begins_told id pid (x ∷ xs) = let rest = begins_told id pid xs in rw rest refl
 abbrev starts_of : List Payload → List ℕ
 starts_of ps = map (λ p. p.index) (filter (λ p. is_start p.start) ps)
 
-begin_is : (id : ℕ) (e : Ending) (text : List ℕ) (i : ℕ) (is : List ℕ) → slice_index text 0 ≡ id → table_begin id (section_found e text i is).found.begun ≡ Some i
+begin_is : (id : ℕ) (e : Ending) (text : List ℕ) (i : ℕ) (is : List ℕ) → slice_index text 0 ≡ id →
+    table_begin id (section_found e text i is).found.begun ≡ Some i
 unfolding table_begin section_found
 begin_is id e text i is same =
     let yes : (slice_index text 0 == id) ≡ true = eq-eqb (slice_index text 0) id same in
@@ -60,7 +62,8 @@ abbrev section_start : List ℕ → Start
 section_start section = Begins
 
 pub sent_begins : (id n : ℕ) (texts : List (List ℕ)) (packets : List ℕ) → All (λ text. slice_index text 0 ≡ id) texts →
-    table_begins id (each_found section_found n (sendings section_packets texts packets)) ≡ starts_of (sent_payloads section_start filled_section (sendings section_packets texts packets))
+    table_begins id (each_found section_found n (sendings section_packets texts packets)) ≡ starts_of
+    (sent_payloads section_start filled_section (sendings section_packets texts packets))
 unfolding each_found sent_payloads sendings
 sent_begins id n [] packets h = refl
 sent_begins id n (text ∷ texts) packets h =
@@ -104,7 +107,8 @@ entry_there pid content s zero k e is start = absurd (cc)
 entry_there pid content s (suc n) k e is start =
     by (λ j at. entry_there pid content (suc s) n j e at start) (is_of_pid pid (view_of (content s))) refl k is
   where
-    by : ((j : ℕ) → slice_get (entries_in pid content (suc s) n) j ≡ Some e → begun pid content e.index ≡ true) → (b : Bool) → is_of_pid pid (view_of (content s)) ≡ b →
+    by : ((j : ℕ) → slice_get (entries_in pid content (suc s) n) j ≡ Some e → begun pid content e.index ≡ true) → (b : Bool) →
+        is_of_pid pid (view_of (content s)) ≡ b →
         (j : ℕ) → slice_get (cond b (entry_at s (content s) ∷ entries_in pid content (suc s) n) (entries_in pid content (suc s) n)) j ≡ Some e →
         begun pid content e.index ≡ true
     by rest false y j at = rest j at
@@ -112,7 +116,8 @@ entry_there pid content s (suc n) k e is start =
     by rest true y zero at =
         let same : entry_at s (content s) ≡ e = cc in
         let slot : s ≡ e.index = ap (λ (x : Entry). x.index) same in
-        let here : (view_of (content s)).header.payload_unit_start_indicator ≡ true = ap (λ (x : Entry). x.packet.header.payload_unit_start_indicator) same ∙ start in
+        let here : (view_of (content s)).header.payload_unit_start_indicator ≡ true = ap (λ (x : Entry). x.packet.header.payload_unit_start_indicator) same
+        ∙ start in
         let there : begun pid content s ≡ true = rw (y, here) refl in
         subst (λ (t : ℕ). begun pid content t ≡ true) slot there
 

@@ -1,5 +1,6 @@
 -- Sections of NIT, SDT, EIT and TDT begin in time once they have begun.
-use Rattle.std.proofs.Common.{◌≡◌, ℕ, ◌-◌, ◌*◌, ◌^◌, ◌<◌, ◌≤◌, ◌==◌, false, List, [], ◌∷◌, map, slice_get, Option, None, Some, refl, sym, ap, subst, ◌∙◌, arith, All, inl, inr, append-nil, ne_eqb}
+use Rattle.std.proofs.Common.{◌≡◌, ℕ, ◌-◌, ◌*◌, ◌^◌, ◌<◌, ◌≤◌, ◌==◌, false, List, [], ◌∷◌, map, slice_get, Option, None, Some, refl, sym, ap, subst, ◌∙◌, arith}
+use Rattle.std.proofs.Common.{All, inl, inr, append-nil, ne_eqb}
 use Rattle.std.specs.Option.{option_to_list}
 use Rattle.std.proofs.lemmas.Bool.{cases_Bool}
 use Rattle.std.proofs.lemmas.List.Elements.{All-head}
@@ -42,16 +43,20 @@ record Suits (d : Described) (id limit : ℕ) (k : TableKind) : Type 0 where
   table_id : table_id_of k ≡ id
   within : kind_limit d k ≤ limit
 
-program_higher : (pid : ℕ) (o : Option DescribedProgram) → IsLow pid → All IsProgram (option_to_list o) → elim o as (λ _. ℕ) [ None ↦ 0 | Some program ↦ program.pmt_pid ] ≡ pid → ⊥
+program_higher : (pid : ℕ) (o : Option DescribedProgram) → IsLow pid → All IsProgram (option_to_list o) →
+    elim o as (λ _. ℕ) [ None ↦ 0 | Some program ↦ program.pmt_pid ] ≡ pid → ⊥
 program_higher pid None low is e = let some = low.0 in omega (arith, some, e)
-program_higher pid (Some p) low is e = let most = low.1 in let least : 32 ≤ p.pmt_pid = (All-head IsProgram p [] is).pmt_pid.low in omega (arith, most, least, e)
+program_higher pid (Some p) low is e = let most = low.1 in let least : 32 ≤ p.pmt_pid = (All-head IsProgram p [] is).pmt_pid.low in
+    omega (arith, most, least, e)
 
-table_higher : (pid : ℕ) (o : Option DescribedTable) → IsLow pid → All IsTable (option_to_list o) → elim o as (λ _. ℕ) [ None ↦ 0 | Some private ↦ private.pid ] ≡ pid → ⊥
+table_higher : (pid : ℕ) (o : Option DescribedTable) → IsLow pid → All IsTable (option_to_list o) →
+    elim o as (λ _. ℕ) [ None ↦ 0 | Some private ↦ private.pid ] ≡ pid → ⊥
 table_higher pid None low is e = let some = low.0 in omega (arith, some, e)
 table_higher pid (Some t) low is e = let most = low.1 in let least : 32 ≤ t.pid = (All-head IsTable t [] is).pid.low in omega (arith, most, least, e)
 
 stream_higher : (d : Described) (pid k : ℕ) (s : DescribedStream) → IsInRange d → IsLow pid → slice_get d.streams k ≡ Some s → s.pid ≡ pid → ⊥
-stream_higher d pid k s r low is e = let most = low.1 in let least : 32 ≤ s.pid = (at_place IsStream d.streams k s r.streams is).pid.low in omega (arith, most, least, e)
+stream_higher d pid k s r low is e = let most = low.1 in let least : 32 ≤ s.pid = (at_place IsStream d.streams k s r.streams is).pid.low in
+    omega (arith, most, least, e)
 
 -- only one of the four kinds is there
 kind_on : (P : TableKind → Type 0) (d : Described) (pid : ℕ) (k : TableKind) → IsInRange d → IsLow pid → kind_pid d k ≡ pid →
@@ -106,7 +111,8 @@ silent_in_time d units n pid id limit r kept few low none =
 
 -- ---- PID by PID
 
-pid_in_time : (d : Scheduled) (units : ℕ → List AccessUnit) (n pid id limit : ℕ) → IsInRange d.description → Promised d.description d.schedule → UnitsKept d units →
+pid_in_time : (d : Scheduled) (units : ℕ → List AccessUnit) (n pid id limit : ℕ) → IsInRange d.description → Promised d.description d.schedule →
+    UnitsKept d units →
     n < 2 ^ 64 - 1 → IsLow pid → ((k : TableKind) → kind_pid d.description k ≡ pid → Suits d.description id limit k) → Late d units n pid id limit ≡ []
 pid_in_time d units n pid id limit r promised kept few low suits = elim (sent_or_silent d.description pid) [
   | inl sent ↦ by sent
@@ -123,25 +129,30 @@ pid_in_time d units n pid id limit r promised kept few low suits = elim (sent_or
         (sent_in_time d units n id limit t k.0 r promised kept few k.1 (suits k.0 (sym on ∙ same)))
 
 abbrev InTimeOn : ℕ → ℕ → ℕ → Type 0
-InTimeOn pid id limit = (d : Scheduled) (units : ℕ → List AccessUnit) (n : ℕ) → IsInRange d.description → Promised d.description d.schedule → UnitsKept d units → n < 2 ^ 64 - 1 →
+InTimeOn pid id limit = (d : Scheduled) (units : ℕ → List AccessUnit) (n : ℕ) → IsInRange d.description → Promised d.description d.schedule →
+    UnitsKept d units → n < 2 ^ 64 - 1 →
     table_late d.description.rate limit pid id (run_bytes (content_at d units) 0 n) ≡ []
 
 pub nit_in_time : InTimeOn 0x10 0x40 10000
 nit_in_time d units n r promised kept few = pid_in_time d units n 0x10 0x40 10000 r promised kept few (omega arith, omega arith)
     (λ k on. kind_on (Suits d.description 0x40 10000) d.description 0x10 k r (omega arith, omega arith) on
-    (λ e. record { made = tt; table_id = refl; within = omega arith }) (λ e. absurd (omega (arith, e))) (λ e. absurd (omega (arith, e))) (λ e. absurd (omega (arith, e))))
+    (λ e. record { made = tt; table_id = refl; within = omega arith }) (λ e. absurd (omega (arith, e))) (λ e. absurd (omega (arith, e)))
+    (λ e. absurd (omega (arith, e))))
 
 pub sdt_in_time : InTimeOn 0x11 0x42 2000
 sdt_in_time d units n r promised kept few = pid_in_time d units n 0x11 0x42 2000 r promised kept few (omega arith, omega arith)
     (λ k on. kind_on (Suits d.description 0x42 2000) d.description 0x11 k r (omega arith, omega arith) on
-    (λ e. absurd (omega (arith, e))) (λ e. record { made = tt; table_id = refl; within = omega arith }) (λ e. absurd (omega (arith, e))) (λ e. absurd (omega (arith, e))))
+    (λ e. absurd (omega (arith, e))) (λ e. record { made = tt; table_id = refl; within = omega arith }) (λ e. absurd (omega (arith, e)))
+    (λ e. absurd (omega (arith, e))))
 
 pub eit_in_time : InTimeOn 0x12 0x4E 2000
 eit_in_time d units n r promised kept few = pid_in_time d units n 0x12 0x4E 2000 r promised kept few (omega arith, omega arith)
     (λ k on. kind_on (Suits d.description 0x4E 2000) d.description 0x12 k r (omega arith, omega arith) on
-    (λ e. absurd (omega (arith, e))) (λ e. absurd (omega (arith, e))) (λ e. record { made = tt; table_id = refl; within = omega arith }) (λ e. absurd (omega (arith, e))))
+    (λ e. absurd (omega (arith, e))) (λ e. absurd (omega (arith, e))) (λ e. record { made = tt; table_id = refl; within = omega arith })
+    (λ e. absurd (omega (arith, e))))
 
 pub tdt_in_time : InTimeOn 0x14 0x70 30000
 tdt_in_time d units n r promised kept few = pid_in_time d units n 0x14 0x70 30000 r promised kept few (omega arith, omega arith)
     (λ k on. kind_on (Suits d.description 0x70 30000) d.description 0x14 k r (omega arith, omega arith) on
-    (λ e. absurd (omega (arith, e))) (λ e. absurd (omega (arith, e))) (λ e. absurd (omega (arith, e))) (λ e. record { made = tt; table_id = refl; within = omega arith }))
+    (λ e. absurd (omega (arith, e))) (λ e. absurd (omega (arith, e))) (λ e. absurd (omega (arith, e)))
+    (λ e. record { made = tt; table_id = refl; within = omega arith }))

@@ -1,5 +1,6 @@
 -- From any packet on, places among which are all of some own slots that recur within a limit are never late.
-use Rattle.std.proofs.Common.{◌≡◌, ℕ, zero, suc, ◌+◌, ◌-◌, ◌*◌, ◌≤◌, ◌<◌, nat_lt, Bool, true, false, List, [], ◌∷◌, ◌++◌, filter, refl, ap, subst, ◌∙◌, arith, inl, inr, le-ltb, lt-ltb}
+use Rattle.std.proofs.Common.{◌≡◌, ℕ, zero, suc, ◌+◌, ◌-◌, ◌*◌, ◌≤◌, ◌<◌, nat_lt, Bool, true, false, List, [], ◌∷◌, ◌++◌, filter, refl, ap, subst, ◌∙◌, arith}
+use Rattle.std.proofs.Common.{inl, inr, le-ltb, lt-ltb}
 use Rattle.std.proofs.lemmas.Bool.{cases_Bool, cases_lt}
 use Rattle.clock27.specs.Recurrence.{Recur}
 use Rattle.own_slots.specs.Slots.{own_slots}
@@ -14,7 +15,8 @@ record After (rate least until : ℕ) (own : ℕ → Bool) (s m : ℕ) : Type 0 
   passed : last ≤ s
   recur : Recur rate least (188 * last) (begins_of (own_slots own (suc s) m)) until
 
-one_after : (rate least until o s m : ℕ) (own : ℕ → Bool) → o ≤ s → Recur rate least (188 * o) (begins_of (own_slots own s (suc m))) until → After rate least until own s m
+one_after : (rate least until o s m : ℕ) (own : ℕ → Bool) → o ≤ s → Recur rate least (188 * o) (begins_of (own_slots own s (suc m))) until →
+    After rate least until own s m
 unfolding Recur own_slots
 one_after rate least until o s m own le h = elim (cases_Bool (own s)) [
   | inl y ↦
@@ -25,7 +27,8 @@ one_after rate least until o s m own le h = elim (cases_Bool (own s)) [
       record { last = o; passed = le; recur = subst (λ (l : List ℕ). Recur rate least (188 * o) (begins_of l) until) at h }
 ]
 
-all_after : (rate least until o s k n m t : ℕ) (own : ℕ → Bool) → n ≡ k + m → t ≡ k + s → o ≤ s → Recur rate least (188 * o) (begins_of (own_slots own s (suc n))) until →
+all_after : (rate least until o s k n m t : ℕ) (own : ℕ → Bool) → n ≡ k + m → t ≡ k + s → o ≤ s →
+    Recur rate least (188 * o) (begins_of (own_slots own s (suc n))) until →
     After rate least until own t m
 all_after rate least until o s zero n m t own e f le h =
     let rest : n ≡ m = omega (arith, e) in
@@ -85,8 +88,10 @@ since_in_time rate least limit since n own begun le all h = elim (cases_lt since
     by : (m : ℕ) → since < n → n ≡ suc since + m → late rate limit (since ∷ filter (λ t. nat_lt since t) (own_slots begun 0 n) ++ n ∷ []) ≡ []
     by m lt e =
         let one : n ≡ suc (since + m) = omega (arith, e) in
-        let recur : Recur rate least 0 (begins_of (own_slots own 0 (suc (since + m)))) (188 * n) = subst (λ (t : ℕ). Recur rate least 0 (begins_of (own_slots own 0 t)) (188 * n)) one h in
-        let from : After rate least (188 * n) own since m = all_after rate least (188 * n) 0 0 since (since + m) m since own refl (omega arith) (omega arith) recur in
+        let recur : Recur rate least 0 (begins_of (own_slots own 0 (suc (since + m)))) (188 * n) =
+        subst (λ (t : ℕ). Recur rate least 0 (begins_of (own_slots own 0 t)) (188 * n)) one h in
+        let from : After rate least (188 * n) own since m =
+        all_after rate least (188 * n) 0 0 since (since + m) m since own refl (omega arith) (omega arith) recur in
         let passed = from.passed in
         let places = first_dropped begun since 0 (suc since) n m e (omega arith) in
         ap (λ (slots : List ℕ). late rate limit (since ∷ slots ++ n ∷ [])) places

@@ -1,5 +1,6 @@
 -- The monitor finds nothing wrong with the packets of a run, nor with what is found in them.
-use Rattle.std.proofs.Common.{◌≡◌, ℕ, zero, suc, ◌+◌, ◌-◌, ◌*◌, ◌/◌, ◌%◌, ◌^◌, ◌<◌, ◌==◌, Bool, false, List, [], ◌∷◌, ◌++◌, length, map, Some, None, Result, Ok, refl, sym, ap, subst, ◌∙◌, arith, All, inl, inr, if◌then◌else◌}
+use Rattle.std.proofs.Common.{◌≡◌, ℕ, zero, suc, ◌+◌, ◌-◌, ◌*◌, ◌/◌, ◌%◌, ◌^◌, ◌<◌, ◌==◌, Bool, false, List, [], ◌∷◌, ◌++◌, length, map, Some, None, Result, Ok}
+use Rattle.std.proofs.Common.{refl, sym, ap, subst, ◌∙◌, arith, All, inl, inr, if◌then◌else◌}
 use Rattle.std.specs.List.{enumerate_from}
 use Rattle.std.proofs.lemmas.Bool.{cases_Bool}
 use Rattle.std.proofs.lemmas.List.Concat.{flat_map-cons}
@@ -12,7 +13,8 @@ use Rattle.slot_contents.specs.Contents.{Content, PayloadContent, PcrContent, Nu
 use Rattle.slot_contents.specs.RunLaws.{Fits}
 use Rattle.slot_contents.proofs.Runs.{content_again, run_length}
 use Rattle.ts_packet.proofs.Listing.{first_cut}
-use Rattle.demux.specs.Views.{WhatView, IsDuplicate, BreaksCounter, IsScrambled, IsTruncated, IsSection, IsBadSection, IsPes, IsBadPes, IsBadPacket, IsErrored, PidFinding}
+use Rattle.demux.specs.Views.{WhatView, IsDuplicate, BreaksCounter, IsScrambled, IsTruncated, IsSection, IsBadSection, IsPes, IsBadPes, IsBadPacket, IsErrored}
+use Rattle.demux.specs.Views.{PidFinding}
 use Rattle.demux.specs.Findings.{findings_to_end}
 use Rattle.demux.specs.Laws.{with_pid_at}
 use Rattle.demux.proofs.WholeStream.{each_pid_alone}
@@ -87,11 +89,13 @@ findings_fine : (pid : ℕ) (xs : List PidFinding) → All IsFaultless (map (wit
 findings_fine pid [] h = refl
 findings_fine pid (x ∷ xs) h =
     flat_map-cons (faults_of_one pid) x xs
-    ∙ ap (λ (fs : List StreamFault). fs ++ finding_faults pid xs) (one_fine pid x.packet x.found.what (All-head IsFaultless (with_pid_at pid x) (map (with_pid_at pid) xs) h))
+    ∙ ap (λ (fs : List StreamFault). fs ++ finding_faults pid xs)
+    (one_fine pid x.packet x.found.what (All-head IsFaultless (with_pid_at pid x) (map (with_pid_at pid) xs) h))
     ∙ findings_fine pid xs (All-tail IsFaultless (with_pid_at pid x) (map (with_pid_at pid) xs) h)
 
 -- the monitor's findings of a PID are those that a demultiplexer tells
-pub as_told : (pid : ℕ) (bytes : List ℕ) → (pid == 8191) ≡ false → length bytes / 188 < 2 ^ 64 - 1 → told_on pid bytes ≡ map (with_pid_at pid) (found_on pid bytes)
+pub as_told : (pid : ℕ) (bytes : List ℕ) → (pid == 8191) ≡ false → length bytes / 188 < 2 ^ 64 - 1 →
+    told_on pid bytes ≡ map (with_pid_at pid) (found_on pid bytes)
 as_told pid bytes told few =
     let same : found_on pid bytes ≡ findings_to_end (length bytes / 188) (pid_list pid bytes) = rw told refl in
     (each_pid_alone pid bytes told few).1 ∙ ap (map (with_pid_at pid)) (sym same)

@@ -1,5 +1,6 @@
 -- PES packets with a PTS begin in time on each PID, if units come often and the sections are distinguishable.
-use Rattle.std.proofs.Common.{◌≡◌, ℕ, zero, suc, ◌+◌, ◌-◌, ◌*◌, ◌/◌, ◌^◌, ◌<◌, ◌≤◌, ◌==◌, Bool, false, List, [], ◌∷◌, ◌++◌, length, map, take, drop, Some, slice_get, refl, sym, ap, subst, ◌∙◌, arith, All, inl, inr, if◌then◌else◌}
+use Rattle.std.proofs.Common.{◌≡◌, ℕ, zero, suc, ◌+◌, ◌-◌, ◌*◌, ◌/◌, ◌^◌, ◌<◌, ◌≤◌, ◌==◌, Bool, false, List, [], ◌∷◌, ◌++◌, length, map, take, drop, Some}
+use Rattle.std.proofs.Common.{slice_get, refl, sym, ap, subst, ◌∙◌, arith, All, inl, inr, if◌then◌else◌}
 use Rattle.std.proofs.Math.Nat.{mul-le-mul_right}
 use Rattle.std.proofs.lemmas.Bool.{cases_Bool}
 use Rattle.std.proofs.lemmas.List.{length-drop, length-take, drop_all}
@@ -66,7 +67,8 @@ none_sent count b slots some e =
     omega (arith, size, some, length-take count (drop b slots), length-drop b slots)
 
 -- the slot in which a unit begins is not before its release
-begins_released : (l : OwnedStream) (n free s : ℕ) (u : AccessUnit) (more : List ℕ) → take (packet_count l u) (drop (first_slot l free u) (own_slots l.own 0 n)) ≡ s ∷ more →
+begins_released : (l : OwnedStream) (n free s : ℕ) (u : AccessUnit) (more : List ℕ) →
+    take (packet_count l u) (drop (first_slot l free u) (own_slots l.own 0 n)) ≡ s ∷ more →
     u.dts * l.parameters.rate ≤ s * 135360000 + l.parameters.lead * l.parameters.rate
 begins_released l n free s u more e =
     let b : ℕ = first_slot l free u in
@@ -84,8 +86,10 @@ gap_of rate lead before dts p s early late soon =
     let scaled : (dts + lead) * rate ≤ (before + 63000) * rate = mul-le-mul_right rate soon in
     omega (arith, early, late, scaled)
 
-timely_first : (l : OwnedStream) (n free s : ℕ) (u : AccessUnit) (more : List ℕ) → take (packet_count l u) (drop (first_slot l free u) (own_slots l.own 0 n)) ≡ s ∷ more →
-    All (λ t. t * 135360000 ≤ u.dts * l.parameters.rate) (head_in (take (packet_count l u) (drop (first_slot l free u) (own_slots l.own 0 n)))) → s * 135360000 ≤ u.dts * l.parameters.rate
+timely_first : (l : OwnedStream) (n free s : ℕ) (u : AccessUnit) (more : List ℕ) →
+    take (packet_count l u) (drop (first_slot l free u) (own_slots l.own 0 n)) ≡ s ∷ more →
+    All (λ t. t * 135360000 ≤ u.dts * l.parameters.rate) (head_in (take (packet_count l u) (drop (first_slot l free u) (own_slots l.own 0 n)))) →
+    s * 135360000 ≤ u.dts * l.parameters.rate
 timely_first l n free s u more e all =
     All-head (λ t. t * 135360000 ≤ u.dts * l.parameters.rate) s []
     (subst (λ (xs : List ℕ). All (λ t. t * 135360000 ≤ u.dts * l.parameters.rate) (head_in xs)) e all)
@@ -97,12 +101,14 @@ TimelyFrom l n free us = Timely l.own l.parameters.rate l.parameters.lead free (
 abbrev HeadsAfter : OwnedStream → ℕ → ℕ → AccessUnit → List AccessUnit → ℕ → Type 0
 HeadsAfter l n free u us s = late l.parameters.rate 700 (s ∷ heads (units_placed l (end_slot l free u) us (own_slots l.own 0 n))) ≡ []
 
-heads_follow : (l : OwnedStream) (n free p before : ℕ) (us : List AccessUnit) → before * l.parameters.rate ≤ p * 135360000 + l.parameters.lead * l.parameters.rate →
+heads_follow : (l : OwnedStream) (n free p before : ℕ) (us : List AccessUnit) → before * l.parameters.rate ≤ p * 135360000
+    + l.parameters.lead * l.parameters.rate →
     FollowSoon l.parameters.lead before us → TimelyFrom l n free us → late l.parameters.rate 700 (p ∷ heads (units_placed l free us (own_slots l.own 0 n))) ≡ []
 unfolding heads units_placed FollowSoon Timely first_slot
 heads_follow l n free p before [] early soon time = refl
 heads_follow l n free p before (u ∷ us) early soon time =
-    by (take (packet_count l u) (drop (first_slot l free u) (own_slots l.own 0 n))) refl (λ s from. heads_follow l n (end_slot l free u) s u.dts us from soon.1 time.1)
+    by (take (packet_count l u) (drop (first_slot l free u) (own_slots l.own 0 n))) refl
+    (λ s from. heads_follow l n (end_slot l free u) s u.dts us from soon.1 time.1)
   where
     by : (xs : List ℕ) → take (packet_count l u) (drop (first_slot l free u) (own_slots l.own 0 n)) ≡ xs →
         ((s : ℕ) → u.dts * l.parameters.rate ≤ s * 135360000 + l.parameters.lead * l.parameters.rate → HeadsAfter l n free u us s) →
@@ -151,14 +157,17 @@ stream_in_time : (d : Scheduled) (units : ℕ → List AccessUnit) (n k : ℕ) (
 stream_in_time d units n k s r promised kept often is =
     let texts = timed_pes_packets s.stream_id d.description.base0 (units k) in
     let own = kept.kept k s is in
-    let keeps : KeepsDeclaration (declaration s) (timed_pes_packets s.stream_id d.description.base0 (units k)) = record { spaced = own.spaced; sized = own.sized; allowed = own.allowed } in
+    let keeps : KeepsDeclaration (declaration s) (timed_pes_packets s.stream_id d.description.base0 (units k)) =
+    record { spaced = own.spaced; sized = own.sized; allowed = own.allowed } in
     let served = promised.streams k s texts is keeps in
     let range = stream_range d.description k s r is in
     heads_often (owned_stream d k s) n (units k) often
-    (timely (owned d.schedule (StreamItem k)) d.description.rate s.lead s.rx n (omega (arith, range.least_rx)) texts 0 0 (all_carried (owned_stream d k s) (units k)) (served.arrived n))
+    (timely (owned d.schedule (StreamItem k)) d.description.rate s.lead s.rx n (omega (arith, range.least_rx)) texts 0 0
+    (all_carried (owned_stream d k s) (units k)) (served.arrived n))
 
 sent_in_time : (d : Scheduled) (units : ℕ → List AccessUnit) (n pid : ℕ) → IsInRange d.description → Promised d.description d.schedule → UnitsKept d units →
-    HasPtsSpacing d units → n < 2 ^ 64 - 1 → (pid == 8191) ≡ false → length (run_bytes (content_at d units) 0 n) / 188 < 2 ^ 64 - 1 → IsSentOn d.description pid →
+    HasPtsSpacing d units → n < 2 ^ 64 - 1 → (pid == 8191) ≡ false → length (run_bytes (content_at d units) 0 n) / 188 < 2 ^ 64 - 1 →
+    IsSentOn d.description pid →
     pts_late d.description.rate (run_bytes (content_at d units) 0 n) pid ≡ []
 sent_in_time d units n pid r promised kept steady few told count (inl (k, s, is, same)) =
     let bytes : List ℕ = run_bytes (content_at d units) 0 n in
@@ -171,7 +180,8 @@ sent_in_time d units n pid r promised kept steady few told count (inr (t, lt, sa
     let bytes : List ℕ = run_bytes (content_at d units) 0 n in
     let back = (given_back d units n r kept few).tables t lt (steady.tables t lt) in
     by_told d.description.rate pid bytes [] told count
-    (ap (λ (q : ℕ). told_stamps (told_on q bytes)) (sym same) ∙ ap told_stamps back ∙ stamps_told (table_pid d.description t) _ ∙ no_heads n (sent_sections (table_of d t) n))
+    (ap (λ (q : ℕ). told_stamps (told_on q bytes)) (sym same) ∙ ap told_stamps back ∙ stamps_told (table_pid d.description t) _
+    ∙ no_heads n (sent_sections (table_of d t) n))
     refl
 
 pub stamps_in_time : (d : Scheduled) (units : ℕ → List AccessUnit) (n : ℕ) → IsInRange d.description → Promised d.description d.schedule → UnitsKept d units →

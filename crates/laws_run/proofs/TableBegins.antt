@@ -48,9 +48,11 @@ made_distinguishable d t k is made = subst (λ (o : Option TableKind). All (λ t
 -- in the packets of its PID with the start indicator, and in no others
 pub made_begins : (d : Scheduled) (units : ℕ → List AccessUnit) (n t : ℕ) (k : TableKind) → IsInRange d.description → UnitsKept d units → n < 2 ^ 64 - 1 →
     table_kind d.description t ≡ Some k → IsMade k →
-    table_begins (table_id_of k) (found_on (table_pid d.description t) (run_bytes (content_at d units) 0 n)) ≡ own_slots (begun (table_pid d.description t) (content_at d units)) 0 n
+    table_begins (table_id_of k) (found_on (table_pid d.description t) (run_bytes (content_at d units) 0 n)) ≡ own_slots
+    (begun (table_pid d.description t) (content_at d units)) 0 n
 made_begins d units n t k r kept few is made =
-    begin_slots (table_id_of k) pid n content texts (found_on pid bytes) listed (tables_carry table n content alone (has_places d t r there) (has_room d t r)) ids
+    begin_slots (table_id_of k) pid n content texts (found_on pid bytes) listed (tables_carry table n content alone (has_places d t r there) (has_room d t r))
+    ids
     (sym (as_told pid bytes alone.no_null (omega (arith, count, few)))
     ∙ tables_come_back table n content (is_run d units n r kept few) alone (has_places d t r there) (has_room d t r) given)
   where
@@ -88,13 +90,16 @@ made_begins d units n t k r kept few is made =
     rounds = own_slots (starts table.own (round_places table.lengths) 0) 0 n
 
     given : All IsRecognized texts
-    given = rounds_all IsRecognized table rounds (λ j moment lt. section_distinguishable d.description t j moment r there (made_distinguishable d.description t k is made) lt)
+    given = rounds_all IsRecognized table rounds
+        (λ j moment lt. section_distinguishable d.description t j moment r there (made_distinguishable d.description t k is made) lt)
 
     ids : All (HasId (table_id_of k)) texts
     ids = rounds_all (HasId (table_id_of k)) table rounds (λ j moment lt. text_id d.description t j moment k is made lt)
 
 -- a section that is known to begin in a slot is one of these
-pub begins_there : (table : Table) (j s n : ℕ) (content : ℕ → Content) → Fits content → Begins table j s (run_bytes content 0 n) → begun table.pid content s ≡ true
+pub begins_there : (table : Table) (j s n : ℕ) (content : ℕ → Content) → Fits content → Begins table j s (run_bytes content 0 n) →
+    begun table.pid content s ≡ true
 begins_there table j s n content fits b =
     subst (λ (x : ℕ). begun table.pid content x ≡ true) b.slot
-    (entry_there table.pid content 0 n b.number b.entry (ap (λ (es : List Entry). slice_get es b.number) (sym (run_pid_list table.pid n content fits)) ∙ b.listed) b.start)
+    (entry_there table.pid content 0 n b.number b.entry
+    (ap (λ (es : List Entry). slice_get es b.number) (sym (run_pid_list table.pid n content fits)) ∙ b.listed) b.start)

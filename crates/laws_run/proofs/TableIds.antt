@@ -1,5 +1,6 @@
 -- The table_id of each section of a table that is not ready-made.
-use Rattle.std.proofs.Common.{◌≡◌, ℕ, ◌/◌, ◌%◌, ◌<◌, Bool, true, false, List, [], length, map, slice_get, Option, None, Some, refl, subst, ◌∙◌, ap, arith, if◌then◌else◌}
+use Rattle.std.proofs.Common.{◌≡◌, ℕ, ◌/◌, ◌%◌, ◌<◌, Bool, true, false, List, [], length, map, slice_get, Option, None, Some, refl, subst, ◌∙◌, ap, arith}
+use Rattle.std.proofs.Common.{if◌then◌else◌}
 use Rattle.std.specs.Prelude.{is_some, slice_index}
 use Rattle.std.specs.Option.{option_to_list}
 use Rattle.psi_tables.specs.Encoding.{section_bytes, with_crc, header_bytes, front_bytes, start_bytes}
@@ -62,7 +63,8 @@ tdt_id : (d : Described) (section moment : ℕ) → HasId 0x70 (kind_bytes d Tdt
 unfolding section_bytes with_crc header_bytes front_bytes start_bytes tdt_section
 tdt_id d section moment = refl
 
-kind_id : (d : Described) (k : TableKind) (section moment : ℕ) → IsThere d k → IsMade k → section < length (kind_lengths d k) → HasId (table_id_of k) (kind_bytes d k section moment)
+kind_id : (d : Described) (k : TableKind) (section moment : ℕ) → IsThere d k → IsMade k → section < length (kind_lengths d k) →
+    HasId (table_id_of k) (kind_bytes d k section moment)
 kind_id d Pat section moment there made within = pat_id d section moment
 kind_id d (Pmt p) section moment there made within = pmt_id d (slice_get d.programs p) section within
 kind_id d Nit section moment there made within = nit_id d d.network section within

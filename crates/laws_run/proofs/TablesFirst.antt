@@ -1,5 +1,6 @@
 -- PAT and PMT have come before the packets of a stream.
-use Rattle.std.proofs.Common.{◌≡◌, ◌≤◌, ◌<◌, ℕ, zero, suc, ◌+◌, ◌*◌, ◌%◌, nat_eq, Bool, true, false, List, [], ◌∷◌, ◌++◌, length, map, take, replicate, option_map, Option, Some, slice_get, refl, sym, ap, subst, ◌∙◌, inl, inr, arith}
+use Rattle.std.proofs.Common.{◌≡◌, ◌≤◌, ◌<◌, ℕ, zero, suc, ◌+◌, ◌*◌, ◌%◌, nat_eq, Bool, true, false, List, [], ◌∷◌, ◌++◌, length, map, take, replicate}
+use Rattle.std.proofs.Common.{option_map, Option, Some, slice_get, refl, sym, ap, subst, ◌∙◌, inl, inr, arith}
 use Rattle.std.specs.Prelude.{cond}
 use Rattle.std.proofs.Math.Nat.{mul-le-mul_right}
 use Rattle.std.proofs.Math.Seq.{take-append-add}
@@ -63,7 +64,8 @@ record InSlot (pid s n : ℕ) (content : ℕ → Content) (i : ℕ) : Type 0 whe
   within : i < s + n
 
 first_or_later : (pid s n : ℕ) (content : ℕ → Content) (rest : List Entry) (j : ℕ) (e : Entry) → is_of_pid pid (view_of (content s)) ≡ true →
-    slice_get (entry_at s (content s) ∷ rest) j ≡ Some e → ((i : ℕ) → slice_get rest i ≡ Some e → InSlot pid (suc s) n content e.index) → InSlot pid s (suc n) content e.index
+    slice_get (entry_at s (content s) ∷ rest) j ≡ Some e → ((i : ℕ) → slice_get rest i ≡ Some e → InSlot pid (suc s) n content e.index) →
+    InSlot pid s (suc n) content e.index
 first_or_later pid s n content rest zero e y is later =
     let whole : entry_at s (content s) ≡ e = cc in
     let same : s ≡ e.index = ap (λ (x : Entry). x.index) whole in
@@ -99,8 +101,10 @@ taken (x ∷ xs) (suc m) zero p is = is
 taken (x ∷ xs) (suc m) (suc j) p is = taken xs m j p is
 
 -- two lists of parts, side by side: where the first has an element the second has one, of the same part
-side_by_side : (l : OwnedStream) (u : AccessUnit) (us : List AccessUnit) (front : List Piece) (count j : ℕ) (p : Piece) → length front ≡ count → slice_get (front ++ all_pieces l us) j ≡ Some p →
-    ((i : ℕ) → slice_get (all_pieces l us) i ≡ Some p → Sender l us i) → (v : AccessUnit) × (slice_get (replicate count u ++ all_senders l us) j ≡ Some v) × (DueLate (u ∷ us) → 180000 ≤ v.dts)
+side_by_side : (l : OwnedStream) (u : AccessUnit) (us : List AccessUnit) (front : List Piece) (count j : ℕ) (p : Piece) → length front ≡ count →
+    slice_get (front ++ all_pieces l us) j ≡ Some p →
+    ((i : ℕ) → slice_get (all_pieces l us) i ≡ Some p → Sender l us i) →
+    (v : AccessUnit) × (slice_get (replicate count u ++ all_senders l us) j ≡ Some v) × (DueLate (u ∷ us) → 180000 ≤ v.dts)
 side_by_side l u us [] zero j p size is rest = let s = rest j is in (s.unit, s.is, λ late. s.late (All-tail (λ x. 180000 ≤ x.dts) u us late))
 side_by_side l u us [] (suc count) j p size is rest = absurd (omega (arith, size))
 side_by_side l u us (x ∷ front) zero j p size is rest = absurd (omega (arith, size))
@@ -115,7 +119,8 @@ sender l [] j p is = absurd (let no : ⊥ = cc in no)
 sender l (u ∷ us) j p is =
     let pieces = flat_map-cons (λ (x : AccessUnit). pes_pieces (has_access x) (pes_bytes l x)) u us in
     let senders = flat_map-cons (λ (x : AccessUnit). replicate (packet_count l x) x) u us in
-    let found = side_by_side l u us (pes_pieces (has_access u) (pes_bytes l u)) (packet_count l u) j p (piece_counts l u) (subst (λ (xs : List Piece). slice_get xs j ≡ Some p) pieces is)
+    let found = side_by_side l u us (pes_pieces (has_access u) (pes_bytes l u)) (packet_count l u) j p (piece_counts l u)
+    (subst (λ (xs : List Piece). slice_get xs j ≡ Some p) pieces is)
     (λ i there. sender l us i p there) in
     record { unit = found.0; is = ap (λ (xs : List AccessUnit). slice_get xs j) senders ∙ found.1; late = found.2 }
 
@@ -126,8 +131,10 @@ pub late_slot : (d : Scheduled) (k : ℕ) (s : DescribedStream) (units : List Ac
 late_slot d k s units n j bytes e r there kept late is =
     let l = owned_stream d k s in
     let one : slice_get (map (λ x. piece_in (payload_at x)) (pid_list s.pid bytes)) j ≡ Some (piece_in (payload_at e)) =
-    slice_get-map (λ (x : Entry). piece_in (payload_at x)) (pid_list s.pid bytes) j ∙ ap (λ (o : Option Entry). option_map (λ (x : Entry). piece_in (payload_at x)) o) is in
-    let piece = taken (all_pieces l units) (length (pid_list s.pid bytes)) j (piece_in (payload_at e)) (sym (ap (λ (xs : List Piece). slice_get xs j) kept.pieces) ∙ one) in
+    slice_get-map (λ (x : Entry). piece_in (payload_at x)) (pid_list s.pid bytes) j
+    ∙ ap (λ (o : Option Entry). option_map (λ (x : Entry). piece_in (payload_at x)) o) is in
+    let piece = taken (all_pieces l units) (length (pid_list s.pid bytes)) j (piece_in (payload_at e))
+    (sym (ap (λ (xs : List Piece). slice_get xs j) kept.pieces) ∙ one) in
     let from = sender l units j (piece_in (payload_at e)) piece in
     let released = kept.not_early j e from.unit is from.is in
     let due = mul-le-mul_right d.description.rate (from.late late) in
@@ -158,26 +165,31 @@ fewer own i none two = elim (cases_lt two.two i) [
 ]
 
 -- so each table that recurs within half a second begins twice before a packet of a stream whose units are due late
-pub begun_twice : (d : Scheduled) (units : ℕ → List AccessUnit) (n k j : ℕ) (s : DescribedStream) (e : Entry) → IsInRange d.description → Promised d.description d.schedule → UnitsKept d units →
+pub begun_twice : (d : Scheduled) (units : ℕ → List AccessUnit) (n k j : ℕ) (s : DescribedStream) (e : Entry) → IsInRange d.description →
+    Promised d.description d.schedule → UnitsKept d units →
     slice_get d.description.streams k ≡ Some s → DueLate (units k) → slice_get (pid_list s.pid (run_bytes (content_at d units) 0 n)) j ≡ Some e →
     (t : ℕ) → t < table_count d.description → table_limit d.description t ≡ 500 → TwoStarts (section_starts d.description d.schedule t 0) e.index
 begun_twice d units n k j s e r promised kept there late is t lt limit =
     let h = headline d units n r promised kept in
-    let slot = in_slot s.pid (content_at d units) 0 n j e (sym (ap (λ (es : List Entry). slice_get es j) (run_pid_list s.pid n (content_at d units) (contents_fit d units r kept))) ∙ is) in
+    let slot = in_slot s.pid (content_at d units) 0 n j e
+    (sym (ap (λ (es : List Entry). slice_get es j) (run_pid_list s.pid n (content_at d units) (contents_fit d units r kept))) ∙ is) in
     let long = late_slot d k s (units k) n j (run_bytes (content_at d units) 0 n) e r there (h.streams k s there) late is in
     let pid = stream_pid d k s there in
     let here : slot_of d.schedule e.index ≡ Stream k =
-    slots_apart d.description (slot_of d.schedule e.index) (Stream k) s.pid r (names d units e.index s.pid (slots_below d.description (Stream k) s.pid r pid) slot.of) pid in
+    slots_apart d.description (slot_of d.schedule e.index) (Stream k) s.pid r
+    (names d units e.index s.pid (slots_below d.description (Stream k) s.pid r pid) slot.of) pid in
     let more = headline d units (suc e.index) r promised kept in
     fewer (section_starts d.description d.schedule t 0) e.index
-    (λ y. is_table t (slot_of d.schedule e.index) (own_of (owned d.schedule (TableItem t)) (round_packets d.description t) (first_packet d.description t 0) e.index y) k here)
+    (λ y. is_table t (slot_of d.schedule e.index)
+    (own_of (owned d.schedule (TableItem t)) (round_packets d.description t) (first_packet d.description t 0) e.index y) k here)
     (two_starts (section_starts d.description d.schedule t 0) d.description.rate (table_limit d.description t) (suc e.index) (omega (arith, long)) limit
     ((more.tables t lt).sections_recur 0 (sections_law d.description t r lt).0))
 
 pub tables_first : TablesFirstLaw
 tables_first d units n k j s e r promised kept there late is =
     let fits = contents_fit d units r kept in
-    let slot = in_slot s.pid (content_at d units) 0 n j e (sym (ap (λ (es : List Entry). slice_get es j) (run_pid_list s.pid n (content_at d units) fits)) ∙ is) in
+    let slot = in_slot s.pid (content_at d units) 0 n j e
+    (sym (ap (λ (es : List Entry). slice_get es j) (run_pid_list s.pid n (content_at d units) fits)) ∙ is) in
     subst (IsFollowed d.description) (sym (prefix (content_at d units) 0 e.index n fits (omega (arith, slot.within))))
     (followed_by d units e.index (run_bytes (content_at d units) 0 e.index) r (headline d units e.index r promised kept)
     (begun_twice d units n k j s e r promised kept there late is))

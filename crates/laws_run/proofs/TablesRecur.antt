@@ -26,12 +26,14 @@ use Rattle.laws_run.proofs.TableBegins.{made_begins, begins_there}
 use Rattle.laws_run.proofs.Between.{IsEnd, between}
 
 -- where the end of the run counts, and where it does not
-pub made_in_time : (d : Scheduled) (units : ℕ → List AccessUnit) (n limit t : ℕ) (k : TableKind) (ends : List ℕ) → IsInRange d.description → Promised d.description d.schedule →
+pub made_in_time : (d : Scheduled) (units : ℕ → List AccessUnit) (n limit t : ℕ) (k : TableKind) (ends : List ℕ) → IsInRange d.description →
+    Promised d.description d.schedule →
     UnitsKept d units → n < 2 ^ 64 - 1 → table_kind d.description t ≡ Some k → IsMade k → kind_limit d.description k ≤ limit → IsEnd (188 * n) ends →
     late d.description.rate limit (0 ∷ table_begins (table_id_of k) (found_on (table_pid d.description t) (run_bytes (content_at d units) 0 n)) ++ ends) ≡ []
 made_in_time d units n limit t k ends r promised kept few is made le end =
     ap (λ (places : List ℕ). late d.description.rate limit (0 ∷ places ++ ends)) (made_begins d units n t k r kept few is made)
-    ∙ between d.description.rate (table_limit d.description t) limit (188 * n) ends own (begun pid content) 0 n 0 0 wide end (omega arith) (omega arith) (omega arith) all
+    ∙ between d.description.rate (table_limit d.description t) limit (188 * n) ends own (begun pid content) 0 n 0 0 wide end (omega arith) (omega arith)
+    (omega arith) all
     (table.sections_recur 0 within)
   where
     content : ℕ → Content
@@ -61,7 +63,8 @@ made_in_time d units n limit t k ends r promised kept few is made le end =
     all : (s : ℕ) → s < 0 + n → own s ≡ true → begun pid content s ≡ true
     all s lt y = begins_there (table_of d t) 0 s n content fits (table.begins 0 s within (omega (arith, lt)) y)
 
-pub pat_in_time : (d : Scheduled) (units : ℕ → List AccessUnit) (n : ℕ) → IsInRange d.description → Promised d.description d.schedule → UnitsKept d units → n < 2 ^ 64 - 1 →
+pub pat_in_time : (d : Scheduled) (units : ℕ → List AccessUnit) (n : ℕ) → IsInRange d.description → Promised d.description d.schedule → UnitsKept d units →
+    n < 2 ^ 64 - 1 →
     pat_late d.description.rate (run_bytes (content_at d units) 0 n) ≡ []
 pat_in_time d units n r promised kept few =
     let content : ℕ → Content = content_at d units in

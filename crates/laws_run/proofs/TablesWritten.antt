@@ -1,12 +1,15 @@
 -- Each section of each table that is not ready-made can be written.
-use Rattle.std.proofs.Common.{◌≡◌, ℕ, zero, suc, ◌+◌, ◌/◌, ◌<◌, ◌≤◌, Bool, true, false, List, [], ◌∷◌, ◌++◌, length, map, get_or, slice_get, Option, None, Some, refl, sym, subst, arith, All}
+use Rattle.std.proofs.Common.{◌≡◌, ℕ, zero, suc, ◌+◌, ◌/◌, ◌<◌, ◌≤◌, Bool, true, false, List, [], ◌∷◌, ◌++◌, length, map, get_or, slice_get, Option, None, Some}
+use Rattle.std.proofs.Common.{refl, sym, subst, arith, All}
 use Rattle.std.specs.Option.{option_to_list}
 use Rattle.std.specs.List.{list_any}
 use Rattle.std.specs.Prelude.{is_some, ⊤}
 use Rattle.std.proofs.lemmas.List.Elements.{All-head, All-tail, All-nil, All-cons, All-append, All-filter, All-get_or}
 use Rattle.description_parts.specs.Described.{Described, DescribedNetwork, DescribedProgram, DescribedEvent}
 use Rattle.description_parts.specs.Ranges.{IsInRange, IsProgram, IsEvent}
-use Rattle.description_parts.specs.Tables.{numbers_from, only_if, has_event, scheduled_programs, service_tables, table_kinds, table_kind, kind_lengths, section_lengths, section_count, pat_length, pmt_length, nit_length, sdt_length, eit_length, eit_lengths, longest_event}
+use Rattle.description_parts.specs.Tables.{numbers_from, only_if, has_event, scheduled_programs, service_tables, table_kinds, table_kind, kind_lengths}
+use Rattle.description_parts.specs.Tables.{section_lengths, section_count, pat_length, pmt_length, nit_length, sdt_length, eit_length, eit_lengths}
+use Rattle.description_parts.specs.Tables.{longest_event}
 use Rattle.description.specs.SectionBytes.{kind_bytes, table_bytes}
 use Rattle.description_parts.specs.declared.table_kind.TableKind.{TableKind}
 use Rattle.description_parts.specs.declared.table_kind.TableKind.TheVariants.{Pat, Pmt, Nit, Sdt, Eit, Tdt, Private}
@@ -106,7 +109,9 @@ IsMade Tdt = ⊤
 
 kind_short : (d : Described) (k : TableKind) → IsInRange d → IsThere d k → IsMade k → All Below4096 (kind_lengths d k)
 kind_short d Pat r there made = one_short (pat_length d) (omega (arith, r.most_programs, network_list d.network))
-kind_short d (Pmt p) r there made = mapped_short (pmt_length d) (slice_get d.programs p) (at_most_one (λ (x : DescribedProgram). pmt_length d x ≤ 1024) d.programs p (slice_get d.programs p) r.pmt_lengths refl)
+kind_short d (Pmt p) r there made =
+    mapped_short (pmt_length d) (slice_get d.programs p)
+    (at_most_one (λ (x : DescribedProgram). pmt_length d x ≤ 1024) d.programs p (slice_get d.programs p) r.pmt_lengths refl)
 kind_short d Nit r there made = mapped_short nit_length d.network r.nit_length
 kind_short d Sdt r there made = let le = r.sdt_length there in one_short (sdt_length d) (omega (arith, le))
 kind_short d Eit r there made = schedules_short (scheduled_programs d) (All-filter has_event IsProgram d.programs r.programs)

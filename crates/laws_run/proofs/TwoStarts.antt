@@ -1,5 +1,6 @@
 -- A table whose sections recur within half a second begins twice in a run of more than a second, so that the first section is whole.
-use Rattle.std.proofs.Common.{◌≡◌, ◌≤◌, ◌<◌, ℕ, zero, suc, ◌+◌, ◌-◌, ◌*◌, Bool, true, false, List, [], ◌∷◌, ◌++◌, length, map, take, Option, Some, slice_get, option_map, All, refl, sym, ap, subst, ◌∙◌, inl, inr, arith}
+use Rattle.std.proofs.Common.{◌≡◌, ◌≤◌, ◌<◌, ℕ, zero, suc, ◌+◌, ◌-◌, ◌*◌, Bool, true, false, List, [], ◌∷◌, ◌++◌, length, map, take, Option, Some, slice_get}
+use Rattle.std.proofs.Common.{option_map, All, refl, sym, ap, subst, ◌∙◌, inl, inr, arith}
 use Rattle.std.specs.List.{concat, flat_map}
 use Rattle.std.specs.Simd.{first_chunks}
 use Rattle.std.proofs.lemmas.Bool.{cases_Bool}
@@ -75,7 +76,8 @@ pub record TwoStarts (own : ℕ → Bool) (n : ℕ) : Type 0 where
   pub apart : one < two
   pub within : two < n
 
-two_of : (own : ℕ → Bool) (rate n : ℕ) (slots : List ℕ) → 1000 * rate < n * 1504000 → own_slots own 0 n ≡ slots → Recur rate 500 0 (map (λ s. 188 * s) slots) (188 * n) →
+two_of : (own : ℕ → Bool) (rate n : ℕ) (slots : List ℕ) → 1000 * rate < n * 1504000 → own_slots own 0 n ≡ slots →
+    Recur rate 500 0 (map (λ s. 188 * s) slots) (188 * n) →
     TwoStarts own n
 unfolding Recur
 two_of own rate n [] long e recur = absurd (omega (arith, long, recur))
@@ -85,7 +87,8 @@ two_of own rate n (a ∷ b ∷ rest) long e recur =
     let g = first_own own (suc a) f.left b rest f.others in
     record { one = a; two = b; one_own = f.is_own; two_own = g.is_own; apart = omega (arith, g.low); within = omega (arith, f.sum, g.sum) }
 
-pub two_starts : (own : ℕ → Bool) (rate limit n : ℕ) → 1000 * rate < n * 1504000 → limit ≡ 500 → Recur rate limit 0 (map (λ s. 188 * s) (own_slots own 0 n)) (188 * n) →
+pub two_starts : (own : ℕ → Bool) (rate limit n : ℕ) → 1000 * rate < n * 1504000 → limit ≡ 500 →
+    Recur rate limit 0 (map (λ s. 188 * s) (own_slots own 0 n)) (188 * n) →
     TwoStarts own n
 two_starts own rate limit n long is recur =
     two_of own rate n (own_slots own 0 n) long refl (subst (λ (l : ℕ). Recur rate l 0 (map (λ s. 188 * s) (own_slots own 0 n)) (188 * n)) is recur)
@@ -138,7 +141,8 @@ record FirstWhole (ps : List Piece) (sections : List (List ℕ)) : Type 0 where
   first : slice_get sections 0 ≡ Some section
   whole : slice_get (put_together ps) 0 ≡ Some (0 ∷ (section ++ fill_after section))
 
-whole_of : (ps : List Piece) (m j : ℕ) (p : Piece) (sections : List (List ℕ)) → ps ≡ take m (all_marked (map thing_of sections)) → slice_get ps (suc j) ≡ Some p →
+whole_of : (ps : List Piece) (m j : ℕ) (p : Piece) (sections : List (List ℕ)) → ps ≡ take m (all_marked (map thing_of sections)) →
+    slice_get ps (suc j) ≡ Some p →
     is_start p.start ≡ true → FirstWhole ps sections
 whole_of ps m j p [] cut is start = absurd (none_taken m (suc j) p (subst (λ (x : List Piece). slice_get x (suc j) ≡ Some p) cut is))
 whole_of ps m j p (x ∷ xs) cut is start = record {
@@ -155,13 +159,15 @@ pub record FirstSent (sections : List (List ℕ)) (packets : ℕ) : Type 0 where
   pub first : slice_get sections 0 ≡ Some section
   pub sent : section_packets section ≤ packets
 
-sent_of : (ps : List Piece) (m j : ℕ) (p : Piece) (sections : List (List ℕ)) → ps ≡ take m (all_marked (map thing_of sections)) → slice_get ps (suc j) ≡ Some p →
+sent_of : (ps : List Piece) (m j : ℕ) (p : Piece) (sections : List (List ℕ)) → ps ≡ take m (all_marked (map thing_of sections)) →
+    slice_get ps (suc j) ≡ Some p →
     is_start p.start ≡ true → FirstSent sections (length ps)
 unfolding chunks_of
 sent_of ps m j p [] cut is begins = absurd (none_taken m (suc j) p (subst (λ (x : List Piece). slice_get x (suc j) ≡ Some p) cut is))
 sent_of ps m j p (x ∷ xs) cut is begins =
     let start = start_by true false in
-    let front : all_marked (thing_of x ∷ map thing_of xs) ≡ marked (start_by true false) (chunks_of x) ++ all_marked (map thing_of xs) = flat_map-cons cut_thing (thing_of x) (map thing_of xs) in
+    let front : all_marked (thing_of x ∷ map thing_of xs) ≡ marked (start_by true false) (chunks_of x) ++ all_marked (map thing_of xs) =
+    flat_map-cons cut_thing (thing_of x) (map thing_of xs) in
     let there : slice_get (take m (marked (start_by true false) (chunks_of x) ++ all_marked (map thing_of xs))) (suc j) ≡ Some p =
     subst (λ (q : List Piece). slice_get (take m q) (suc j) ≡ Some p) front (subst (λ (q : List Piece). slice_get q (suc j) ≡ Some p) cut is) in
     let ends = first_ends start (chunks_of x) (all_marked (map thing_of xs)) m j p there begins in
@@ -171,7 +177,8 @@ sent_of ps m j p (x ∷ xs) cut is begins =
 -- ---- of a table
 
 table_cut : (d : Scheduled) (t slots : ℕ) (bytes : List ℕ) → IsInRange d.description → t < table_count d.description → TableKept d t slots bytes →
-    pieces_on (table_pid d.description t) bytes ≡ take (length (table_payloads (table_of d t) slots)) (all_marked (map thing_of (sections_of_rounds (table_of d t) slots)))
+    pieces_on (table_pid d.description t) bytes ≡ take (length (table_payloads (table_of d t) slots))
+    (all_marked (map thing_of (sections_of_rounds (table_of d t) slots)))
 table_cut d t slots bytes r lt kept =
     let table : Table = table_of d t in
     sym (piece_lists (pid_list (table_pid d.description t) bytes)) ∙ ap (map piece_in) kept.sections.payloads
@@ -185,7 +192,8 @@ record BeginsAgain (ps : List Piece) : Type 0 where
   is : slice_get ps (suc before) ≡ Some piece
   start : is_start piece.start ≡ true
 
-table_again : (d : Scheduled) (t slots : ℕ) (bytes : List ℕ) → 0 < section_count d.description t → TableKept d t slots bytes → TwoStarts (section_starts d.description d.schedule t 0) slots →
+table_again : (d : Scheduled) (t slots : ℕ) (bytes : List ℕ) → 0 < section_count d.description t → TableKept d t slots bytes →
+    TwoStarts (section_starts d.description d.schedule t 0) slots →
     BeginsAgain (pieces_on (table_pid d.description t) bytes)
 table_again d t slots bytes some kept two =
     let es : List Entry = pid_list (table_pid d.description t) bytes in
@@ -195,7 +203,8 @@ table_again d t slots bytes some kept two =
     record {
       before = l.before;
       piece = piece_in (payload_at l.entry);
-      is = slice_get-map (λ (e : Entry). piece_in (payload_at e)) es (suc l.before) ∙ ap (λ (o : Option Entry). option_map (λ (e : Entry). piece_in (payload_at e)) o) l.listed;
+      is = slice_get-map (λ (e : Entry). piece_in (payload_at e)) es (suc l.before)
+          ∙ ap (λ (o : Option Entry). option_map (λ (e : Entry). piece_in (payload_at e)) o) l.listed;
       start = start_indicated l.entry.packet ∙ l.start;
     }
 
@@ -205,7 +214,8 @@ pub record Told (P : List ℕ → Type 0) (pid : ℕ) (bytes : List ℕ) : Type 
   pub is : P section
   pub whole : slice_get (put_together (pieces_on pid bytes)) 0 ≡ Some (0 ∷ (section ++ fill_after section))
 
-pub table_told : (P : List ℕ → Type 0) (d : Scheduled) (t slots : ℕ) (bytes : List ℕ) → IsInRange d.description → t < table_count d.description → 0 < section_count d.description t →
+pub table_told : (P : List ℕ → Type 0) (d : Scheduled) (t slots : ℕ) (bytes : List ℕ) → IsInRange d.description → t < table_count d.description →
+    0 < section_count d.description t →
     TableKept d t slots bytes → TwoStarts (section_starts d.description d.schedule t 0) slots →
     ((j moment : ℕ) → j < length (section_lengths d.description t) → P (table_bytes d.description t j moment)) → Told P (table_pid d.description t) bytes
 table_told P d t slots bytes r lt some kept two each =
@@ -221,5 +231,6 @@ pub table_sent : (d : Scheduled) (t slots : ℕ) (bytes : List ℕ) → IsInRang
     FirstSent (sections_of_rounds (table_of d t) slots) (length (pieces_on (table_pid d.description t) bytes))
 table_sent d t slots bytes r lt some kept two =
     let l = table_again d t slots bytes some kept two in
-    sent_of (pieces_on (table_pid d.description t) bytes) (length (table_payloads (table_of d t) slots)) l.before l.piece (sections_of_rounds (table_of d t) slots)
+    sent_of (pieces_on (table_pid d.description t) bytes) (length (table_payloads (table_of d t) slots)) l.before l.piece
+    (sections_of_rounds (table_of d t) slots)
     (table_cut d t slots bytes r lt kept) l.is l.start

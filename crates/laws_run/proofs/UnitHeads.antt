@@ -37,7 +37,8 @@ unit_begins : (id base0 : ℕ) (e : Ending) (u : AccessUnit) (i : ℕ) (is : Lis
 unfolding pts_begin unit_found
 unit_begins id base0 e u i is = elim (cases_Bool ((unit_header id base0 u).len == 0)) [
   | inl y ↦ rw y refl
-  | inr n ↦ elim (cases_Bool (nat_le (length (pes_packet_bytes id base0 u)) (carried_in (has_access u) (i ∷ is)))) [ inl y ↦ rw (n, y) refl | inr k ↦ rw (n, k) refl ]
+  | inr n ↦ elim (cases_Bool (nat_le (length (pes_packet_bytes id base0 u)) (carried_in (has_access u) (i ∷ is))))
+      [ inl y ↦ rw (n, y) refl | inr k ↦ rw (n, k) refl ]
 ]
 
 one_head : (id base0 : ℕ) (e : Ending) (u : AccessUnit) (packets : List ℕ) (found : List PidFinding) (rest : List ℕ) → pts_begins found ≡ rest →
@@ -59,7 +60,8 @@ no_stamp : (e : Ending) (text : List ℕ) (i : ℕ) (is : List ℕ) → pts_begi
 unfolding pts_begin section_found
 no_stamp e text i is = elim (cases_Bool (nat_le (1 + length text) (184 * length (i ∷ is)))) [ inl y ↦ rw y refl | inr k ↦ rw k refl ]
 
-none_more : (e : Ending) (text packets : List ℕ) (found : List PidFinding) → pts_begins found ≡ [] → pts_begins (if_sent (section_found e text) packets ++ found) ≡ []
+none_more : (e : Ending) (text packets : List ℕ) (found : List PidFinding) → pts_begins found ≡ [] →
+    pts_begins (if_sent (section_found e text) packets ++ found) ≡ []
 unfolding if_sent
 none_more e text [] found h = h
 none_more e text (i ∷ is) found h =

@@ -1,5 +1,6 @@
 -- The packets of a stream's PID are those of its units in their own slots.
-use Rattle.std.proofs.Common.{◌≡◌, ℕ, zero, suc, ◌-◌, ◌≤◌, min, List, [], ◌∷◌, ◌++◌, length, map, take, drop, refl, sym, ap, ap₂, ◌∙◌, inl, inr, arith, append-nil}
+use Rattle.std.proofs.Common.{◌≡◌, ℕ, zero, suc, ◌-◌, ◌≤◌, min, List, [], ◌∷◌, ◌++◌, length, map, take, drop, refl, sym, ap, ap₂, ◌∙◌, inl, inr, arith}
+use Rattle.std.proofs.Common.{append-nil}
 use Rattle.std.proofs.Math.Seq.{take-append_seam, drop-append_seam}
 use Rattle.std.proofs.lemmas.List.{map-append, length-take, length-drop}
 use Rattle.std.proofs.lemmas.Bool.{cases_lt}
@@ -63,7 +64,8 @@ unfolding packets_in_slots first_slot
 slots_more l free u us slots =
     let one : List ℕ = first_slots l free u slots in
     let rest : List Packet = packets_in_slots l.own l.parameters.rate l.parameters.lead (end_slot l free u) (map (timed l) us) slots in
-    map-append (λ (p : Packet). p.slot) (cut (timed l u).front (timed l u).size one) rest ∙ ap (λ (xs : List ℕ). xs ++ slots_in rest) (slots_of_cut (timed l u).front (timed l u).size one)
+    map-append (λ (p : Packet). p.slot) (cut (timed l u).front (timed l u).size one) rest
+    ∙ ap (λ (xs : List ℕ). xs ++ slots_in rest) (slots_of_cut (timed l u).front (timed l u).size one)
 
 -- where all slots are taken there are none
 none_left : (l : OwnedStream) (free : ℕ) (us : List AccessUnit) (slots : List ℕ) → length slots ≤ free → slots_from l free us slots ≡ []

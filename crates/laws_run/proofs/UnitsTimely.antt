@@ -1,5 +1,6 @@
 -- Each unit begins, of all that is sent of it, no earlier than its lead before its decoding time, and no later than that.
-use Rattle.std.proofs.Common.{◌≡◌, ℕ, zero, suc, ◌+◌, ◌-◌, ◌*◌, ◌<◌, ◌≤◌, min, Bool, List, [], ◌∷◌, ◌++◌, length, take, drop, refl, ap, subst, ◌∙◌, arith, All, inl, inr}
+use Rattle.std.proofs.Common.{◌≡◌, ℕ, zero, suc, ◌+◌, ◌-◌, ◌*◌, ◌<◌, ◌≤◌, min, Bool, List, [], ◌∷◌, ◌++◌, length, take, drop, refl, ap, subst, ◌∙◌, arith, All}
+use Rattle.std.proofs.Common.{inl, inr}
 use Rattle.std.proofs.Math.Nat.{mul-le-mul_right}
 use Rattle.std.proofs.lemmas.Bool.{cases_Bool, cases_lt}
 use Rattle.std.proofs.lemmas.List.{append_assoc, length-drop}
@@ -101,7 +102,8 @@ abbrev pub IsCarried : PesPacket → Type 0
 IsCarried unit = (0 < unit.size) × (unit.front < 184)
 
 one_timely : (rate r n prev : ℕ) (unit : PesPacket) (xs later : List ℕ) → 0 < r → 0 < unit.size → unit.front < 184 → All (λ t. t < n) xs →
-    (unit.dts * rate ≤ n * 135360000 → All (λ d. d * 720000 ≤ unit.dts * rate * r) (take unit.size (pes_left rate r prev (cut unit.front unit.size xs) ++ later))) →
+    (unit.dts * rate ≤ n * 135360000 →
+    All (λ d. d * 720000 ≤ unit.dts * rate * r) (take unit.size (pes_left rate r prev (cut unit.front unit.size xs) ++ later))) →
     All (λ s. s * 135360000 ≤ unit.dts * rate) (head_in xs)
 one_timely rate r n prev unit [] later pos some small inside left = All-nil (λ s. s * 135360000 ≤ unit.dts * rate)
 one_timely rate r n prev unit (s ∷ more) later pos some small inside left =
@@ -113,7 +115,8 @@ one_timely rate r n prev unit (s ∷ more) later pos some small inside left =
     (All-nil (λ s. s * 135360000 ≤ unit.dts * rate))
 
 pub timely : (own : ℕ → Bool) (rate lead r n : ℕ) → 0 < r → (units : List PesPacket) (free prev : ℕ) → All IsCarried units →
-    AllLeft rate r n units (pes_left rate r prev (packets_in_slots own rate lead free units (own_slots own 0 n))) → Timely own rate lead free units (own_slots own 0 n)
+    AllLeft rate r n units (pes_left rate r prev (packets_in_slots own rate lead free units (own_slots own 0 n))) →
+    Timely own rate lead free units (own_slots own 0 n)
 unfolding AllLeft packets_in_slots Timely
 timely own rate lead r n pos [] free prev carried all = tt
 timely own rate lead r n pos (unit ∷ units) free prev carried all =
@@ -126,8 +129,10 @@ timely own rate lead r n pos (unit ∷ units) free prev carried all =
     let later = pes_left rate r next (packets_in_slots own rate lead (b + p) units slots) in
     let joined : pes_left rate r prev (cut unit.front unit.size xs ++ packets_in_slots own rate lead (b + p) units slots)
     ≡ pes_left rate r prev (cut unit.front unit.size xs) ++ pes_left rate r next (packets_in_slots own rate lead (b + p) units slots) =
-    pes_left-append rate r prev (cut unit.front unit.size xs) (packets_in_slots own rate lead (b + p) units slots) ∙ rw (slots_of-cut unit.front unit.size xs) refl in
-    let both : AllLeft rate r n (unit ∷ units) (pes_left rate r prev (cut unit.front unit.size xs) ++ later) = subst (AllLeft rate r n (unit ∷ units)) joined all in
+    pes_left-append rate r prev (cut unit.front unit.size xs) (packets_in_slots own rate lead (b + p) units slots)
+    ∙ rw (slots_of-cut unit.front unit.size xs) refl in
+    let both : AllLeft rate r n (unit ∷ units) (pes_left rate r prev (cut unit.front unit.size xs) ++ later) =
+    subst (AllLeft rate r n (unit ∷ units)) joined all in
     let mine = All-head IsCarried unit units carried in
     let inside : All (λ t. t < n) xs = All-take (λ t. t < n) p (drop b slots) (All-drop (λ t. t < n) b slots (in_run own 0 n n (omega arith))) in (
       one_timely rate r n prev unit xs later pos mine.0 mine.1 inside (λ due. (both.0 due).1),

@@ -5,7 +5,8 @@ use Rattle.std.proofs.Common.{◌≡◌, ◌≤◌, ◌<◌, ℕ, [], refl, inr,
 use Rattle.std.proofs.lemmas.List.Elements.{All-nil, All-cons}
 use Rattle.description_parts.specs.Described.{DescribedNetwork, DescribedProgram, DescribedStream}
 use Rattle.description_parts.specs.Tables.{pmt_length, nit_length}
-use Rattle.description_parts.specs.Ranges.{IsPid, IsBytes, IsLanguage, IsNetwork, IsProgram, IsEvent, IsMultiplexingBuffer, IsFraming, IsStream, IsTable, IsListed, IsSharing, IsInRange, program_numbers, longest_section}
+use Rattle.description_parts.specs.Ranges.{IsPid, IsBytes, IsLanguage, IsNetwork, IsProgram, IsEvent, IsMultiplexingBuffer, IsFraming, IsStream, IsTable}
+use Rattle.description_parts.specs.Ranges.{IsListed, IsSharing, IsInRange, program_numbers, longest_section}
 use Rattle.laws_run.specs.WorkedService.{worked_stream, worked_program, worked_service}
 
 pid : (n : ℕ) → 32 ≤ n → n ≤ 8190 → IsPid n
@@ -76,14 +77,17 @@ worked_in_range = record {
   most_events = omega arith;
   most_streams = omega arith;
   streams = All-cons IsStream worked_stream [] stream_is (All-nil IsStream);
-  declared = All-cons (λ (s : DescribedStream). Contains (program_numbers worked_service) s.program) worked_stream [] (0, omega arith, refl) (All-nil (λ (s : DescribedStream). Contains (program_numbers worked_service) s.program));
+  declared = All-cons (λ (s : DescribedStream). Contains (program_numbers worked_service) s.program) worked_stream [] (0, omega arith, refl)
+      (All-nil (λ (s : DescribedStream). Contains (program_numbers worked_service) s.program));
   sharing = All-cons (IsSharing worked_service) worked_stream [] not_shared (All-nil (IsSharing worked_service));
   most_tables = omega arith;
   tables = All-nil IsTable;
   listed = All-nil (IsListed worked_service);
   distinct_pids = ((refl, (refl, tt)), ((refl, tt), (tt, tt)));
   distinct_numbers = (tt, tt);
-  pmt_lengths = All-cons (λ (p : DescribedProgram). pmt_length worked_service p ≤ longest_section) worked_program [] (omega arith) (All-nil (λ (p : DescribedProgram). pmt_length worked_service p ≤ longest_section));
+  pmt_lengths =
+      All-cons (λ (p : DescribedProgram). pmt_length worked_service p ≤ longest_section) worked_program [] (omega arith)
+      (All-nil (λ (p : DescribedProgram). pmt_length worked_service p ≤ longest_section));
   nit_length = All-nil (λ (n : DescribedNetwork). nit_length n ≤ longest_section);
   sdt_length = λ no. omega arith;
 }

@@ -43,7 +43,8 @@ unfolding places greatest work_at
 serving = refl
 
 accepted : first_refused worked (capacity_for worked_units) [] worked_units ≡ None
-unfolding max_stream_units or_cause unit_refused first_refused feed_cause or_feed_cause own_cause time_cause room_cause own_before left_at next_due pes_start_bytes packet_length stamp_bytes pts_header pts_dts_header header_with pes_header_bytes pes_packet_bytes
+unfolding max_stream_units or_cause unit_refused first_refused feed_cause or_feed_cause own_cause time_cause room_cause own_before left_at next_due
+    pes_start_bytes packet_length stamp_bytes pts_header pts_dts_header header_with pes_header_bytes pes_packet_bytes
 accepted = refl
 
 -- ---- the unit is within what its stream declares
@@ -54,7 +55,8 @@ unit_is = record { some = omega arith; most = omega arith; later = omega arith; 
 unit_kept : Kept (owned_stream worked 0 worked_stream) (worked_unit ∷ [])
 unfolding Spaced Sized GroupsWithin pes_start_bytes packet_length stamp_bytes pts_header pts_dts_header header_with pes_header_bytes pes_packet_bytes
 unit_kept = record {
-  units = All-cons (IsUnit (owned_stream worked 0 worked_stream).parameters) worked_unit [] unit_is (All-nil (IsUnit (owned_stream worked 0 worked_stream).parameters));
+  units = All-cons (IsUnit (owned_stream worked 0 worked_stream).parameters) worked_unit [] unit_is
+      (All-nil (IsUnit (owned_stream worked 0 worked_stream).parameters));
   spaced = (omega arith, tt);
   sized = (omega arith, tt);
   allowed = (omega arith, omega arith, tt);
@@ -70,7 +72,12 @@ kept = record { parameters = parameters_known worked worked_in_range; kept = kep
 -- ---- its bytes
 
 bytes : bytes_of worked (job_history worked_units 6) ≡ worked_bytes
-unfolding run_bytes packet_of content_at content_in table_in stream_in pcr_content part_content part_of place_in round_before payloads_before place_at first_slot first_own_slot own_before packet_header_bytes reference_bytes flags_of parts_bytes adaptation_bytes packet_bytes stuffing_field field_of payload_packet pcr_packet null_packet pes_start_bytes packet_length stamp_bytes pts_header pts_dts_header header_with pes_header_bytes pes_packet_bytes after_bit after_bits bits_of after_byte after_bytes check_word check_word_bytes start_bytes long_header_bytes front_bytes header_bytes with_crc section_bytes program_bytes programs_bytes pat_header pat_section info_length_bytes pid_bytes stream_entry stream_bytes streams_bytes pmt_body pmt_header pmt_section entry_bytes
+unfolding run_bytes packet_of content_at content_in table_in stream_in pcr_content part_content part_of place_in round_before payloads_before place_at
+    first_slot first_own_slot own_before packet_header_bytes reference_bytes flags_of parts_bytes adaptation_bytes packet_bytes stuffing_field field_of
+    payload_packet pcr_packet null_packet pes_start_bytes packet_length stamp_bytes pts_header pts_dts_header header_with pes_header_bytes pes_packet_bytes
+    after_bit after_bits bits_of after_byte after_bytes check_word check_word_bytes start_bytes long_header_bytes front_bytes header_bytes with_crc
+    section_bytes program_bytes programs_bytes pat_header pat_section info_length_bytes pid_bytes stream_entry stream_bytes streams_bytes pmt_body pmt_header
+    pmt_section entry_bytes
 bytes = refl
 
 -- ---- the conclusion

@@ -6,7 +6,8 @@ use Rattle.slot_contents.specs.Contents.{run_bytes}
 use Rattle.description_parts.specs.Described.{DescribedStream}
 use Rattle.description_parts.specs.Tables.{table_count, table_pid}
 use Rattle.description_parts.specs.Ranges.{IsInRange}
-use Rattle.demux.specs.Views.{WhatView, IsDuplicate, BreaksCounter, IsScrambled, IsTruncated, IsSection, IsBadSection, IsPes, IsBadPes, IsBadPacket, IsErrored, FindingView}
+use Rattle.demux.specs.Views.{WhatView, IsDuplicate, BreaksCounter, IsScrambled, IsTruncated, IsSection, IsBadSection, IsPes, IsBadPes, IsBadPacket, IsErrored}
+use Rattle.demux.specs.Views.{FindingView}
 use Rattle.laws_pid.specs.Laws.{all_found, found_on}
 use Rattle.mux_core.specs.Scheduled.{Scheduled}
 use Rattle.mux_core.specs.Histories.{History, empty_history, content_at, bytes_of}
@@ -69,4 +70,5 @@ StandingCleanLaw = (h : History) (m : MuxState) (n : ℕ) → IsInRange m.schedu
 
 -- so of the history that any units and slots leave, in any order
 abbrev pub DrivenCleanLaw : Type 0
-DrivenCleanLaw = (d : Scheduled) (capacity : ℕ) (steps : List Step) → IsInRange d.description → IsClean d (bytes_of d (history_after d capacity empty_history steps))
+DrivenCleanLaw = (d : Scheduled) (capacity : ℕ) (steps : List Step) → IsInRange d.description →
+    IsClean d (bytes_of d (history_after d capacity empty_history steps))

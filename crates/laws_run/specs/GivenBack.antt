@@ -24,7 +24,8 @@ use Rattle.laws_run.specs.Distinguishable.{IsDistinguishable}
 -- of a stream: one finding of each unit of which anything was sent, in order. A unit that was sent whole is there with its stream_id, its
 -- stamps as on the wire and its data; the last one may be cut short
 abbrev pub stream_findings : Scheduled → (ℕ → List AccessUnit) → ℕ → ℕ → DescribedStream → List FindingView
-stream_findings d units n k s = map (with_pid_at s.pid) (each_found (unit_found s.stream_id d.description.base0) n (sent_units (owned_stream d k s) n (units k)))
+stream_findings d units n k s =
+    map (with_pid_at s.pid) (each_found (unit_found s.stream_id d.description.base0) n (sent_units (owned_stream d k s) n (units k)))
 
 -- of a table: one finding of each section of which anything was sent, in order
 abbrev pub table_findings : Scheduled → ℕ → ℕ → List FindingView

@@ -15,5 +15,6 @@ JobLaw = (d : Scheduled) (units : List (ℕ × AccessUnit)) (n : ℕ) → IsInRa
 
 -- and nothing is wrong with them
 abbrev pub JobCleanLaw : Type 0
-JobCleanLaw = (d : Scheduled) (units : List (ℕ × AccessUnit)) (n : ℕ) → IsInRange d.description → first_refused d (capacity_for units) [] units ≡ None → n ≤ 2 ^ 40 →
+JobCleanLaw = (d : Scheduled) (units : List (ℕ × AccessUnit)) (n : ℕ) → IsInRange d.description → first_refused d (capacity_for units) [] units ≡ None →
+    n ≤ 2 ^ 40 →
     IsClean d (output_of false d (job_history units n))

@@ -37,7 +37,8 @@ StandingSoundLaw = (h : History) (m : MuxState) (n : ℕ) → IsInRange m.schedu
 
 -- and of a whole job
 abbrev pub JobSoundLaw : Type 0
-JobSoundLaw = (d : Scheduled) (units : List (ℕ × AccessUnit)) (n : ℕ) → IsInRange d.description → first_refused d (capacity_for units) [] units ≡ None → n ≤ 2 ^ 40 →
+JobSoundLaw = (d : Scheduled) (units : List (ℕ × AccessUnit)) (n : ℕ) → IsInRange d.description → first_refused d (capacity_for units) [] units ≡ None →
+    n ≤ 2 ^ 40 →
     IsSound (output_of false d (job_history units n))
 
 -- ---- what recurs, at the description's rate
@@ -69,7 +70,8 @@ InTimeLaw = (d : Scheduled) (units : ℕ → List AccessUnit) (n limit : ℕ) �
 
 -- so of what a multiplexer stands for
 abbrev pub StandingInTimeLaw : Type 0
-StandingInTimeLaw = (h : History) (m : MuxState) (n limit : ℕ) → IsInRange m.schedule.description → Promised m.schedule.description m.schedule.schedule → Stands h m →
+StandingInTimeLaw = (h : History) (m : MuxState) (n limit : ℕ) → IsInRange m.schedule.description → Promised m.schedule.description m.schedule.schedule →
+    Stands h m →
     IsWide m.schedule.description limit → n ≤ 2 ^ 40 → IsInTime m.schedule limit (run_bytes (content_at m.schedule h.units) 0 n)
 
 -- and of a whole job

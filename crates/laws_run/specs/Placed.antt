@@ -12,7 +12,8 @@ use Rattle.laws_pid.specs.Rounds.{sections_of_rounds}
 -- there are no more slots
 unfoldable pub units_placed : OwnedStream → ℕ → List AccessUnit → List ℕ → List (Sending AccessUnit)
 units_placed l free [] slots = []
-units_placed l free (u ∷ us) slots = record { item = u; packets = take (packet_count l u) (drop (first_slot l free u) slots) } ∷ units_placed l (end_slot l free u) us slots
+units_placed l free (u ∷ us) slots =
+    record { item = u; packets = take (packet_count l u) (drop (first_slot l free u) slots) } ∷ units_placed l (end_slot l free u) us slots
 
 -- the units of a stream in the first n slots
 abbrev pub sent_units : OwnedStream → ℕ → List AccessUnit → List (Sending AccessUnit)

@@ -43,8 +43,10 @@ PtsSpacingLaw = (d : Scheduled) (units : ℕ → List AccessUnit) (n limit : ℕ
 
 -- so of what a multiplexer stands for
 abbrev pub StandingPtsSpacingLaw : Type 0
-StandingPtsSpacingLaw = (h : History) (m : MuxState) (n limit : ℕ) → IsInRange m.schedule.description → Promised m.schedule.description m.schedule.schedule → Stands h m →
-    HasPtsSpacing m.schedule h.units → IsWide m.schedule.description limit → n ≤ 2 ^ 40 → faults_of m.schedule.description.rate limit (run_bytes (content_at m.schedule h.units) 0 n) ≡ []
+StandingPtsSpacingLaw = (h : History) (m : MuxState) (n limit : ℕ) → IsInRange m.schedule.description → Promised m.schedule.description m.schedule.schedule →
+    Stands h m →
+    HasPtsSpacing m.schedule h.units → IsWide m.schedule.description limit → n ≤ 2 ^ 40 →
+    faults_of m.schedule.description.rate limit (run_bytes (content_at m.schedule h.units) 0 n) ≡ []
 
 -- and of a whole job
 abbrev pub JobPtsSpacingLaw : Type 0

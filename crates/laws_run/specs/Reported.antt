@@ -29,10 +29,12 @@ ReportedLaw = (d : Scheduled) (units : ℕ → List AccessUnit) (n limit : ℕ) 
 
 -- so of what a multiplexer stands for
 abbrev pub StandingReportedLaw : Type 0
-StandingReportedLaw = (h : History) (m : MuxState) (n limit : ℕ) → IsInRange m.schedule.description → Promised m.schedule.description m.schedule.schedule → Stands h m →
+StandingReportedLaw = (h : History) (m : MuxState) (n limit : ℕ) → IsInRange m.schedule.description → Promised m.schedule.description m.schedule.schedule →
+    Stands h m →
     IsWide m.schedule.description limit → n ≤ 2 ^ 40 → IsReported m.schedule limit (run_bytes (content_at m.schedule h.units) 0 n)
 
 -- and of a whole job
 abbrev pub JobReportedLaw : Type 0
 JobReportedLaw = (d : Scheduled) (units : List (ℕ × AccessUnit)) (n limit : ℕ) → IsInRange d.description → Promised d.description d.schedule →
-    first_refused d (capacity_for units) [] units ≡ None → IsWide d.description limit → n ≤ 2 ^ 40 → IsReported d limit (output_of false d (job_history units n))
+    first_refused d (capacity_for units) [] units ≡ None → IsWide d.description limit → n ≤ 2 ^ 40 →
+    IsReported d limit (output_of false d (job_history units n))

@@ -20,4 +20,5 @@ DueLate units = All (λ u. 180000 ≤ u.dts) units
 abbrev pub TablesFirstLaw : Type 0
 TablesFirstLaw = (d : Scheduled) (units : ℕ → List AccessUnit) (n k j : ℕ) (s : DescribedStream) (e : Entry) →
     IsInRange d.description → Promised d.description d.schedule → UnitsKept d units → slice_get d.description.streams k ≡ Some s → DueLate (units k) →
-    slice_get (pid_list s.pid (run_bytes (content_at d units) 0 n)) j ≡ Some e → IsFollowed d.description (take (188 * e.index) (run_bytes (content_at d units) 0 n))
+    slice_get (pid_list s.pid (run_bytes (content_at d units) 0 n)) j ≡ Some e →
+    IsFollowed d.description (take (188 * e.index) (run_bytes (content_at d units) 0 n))

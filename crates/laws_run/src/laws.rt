@@ -46,18 +46,18 @@ pub fn carried_back()
     ensures accepted { AcceptedUnitsFit }
 {}
 
-/// States that a monitor reports no fault that packets and findings have by themselves (ETSI TR 101 290, 5.2.1 and 5.2.2):
-/// each packet has its sync byte, can be read and is not marked in error, the last one is whole, each continuity_counter
-/// follows on its PID, and no section is refused. In the definitions of `monitor`.
+/// States that a monitor reports no fault that packets and findings have by themselves (ETSI TR 101 290, 5.2.1 and
+/// 5.2.2): each packet has its sync byte, can be read and is not marked in error, the last one is whole, each
+/// continuity_counter follows on its PID, and no section is refused. In the definitions of `monitor`.
 pub fn monitored()
     ensures whole { SoundLaw }
     ensures standing { StandingSoundLaw }
     ensures jobs { JobSoundLaw }
 {}
 
-/// States that a monitor at the description's rate reports nothing as too late: clock references, if the limit given to the
-/// monitor, in milliseconds, is at least each program's (ISO/IEC 13818-1, 2.7.2), and sections of the PAT, of the PMTs
-/// that it names, of the NIT, SDT, EIT and TDT (ETSI TR 101 290, 5.2.1 and 5.2.3). For one plan that keeps its
+/// States that a monitor at the description's rate reports nothing as too late: clock references, if the limit given to
+/// the monitor, in milliseconds, is at least each program's (ISO/IEC 13818-1, 2.7.2), and sections of the PAT, of the
+/// PMTs that it names, of the NIT, SDT, EIT and TDT (ETSI TR 101 290, 5.2.1 and 5.2.3). For one plan that keeps its
 /// conditions and for two, whatever sections are ready-made.
 pub fn monitored_times()
     ensures whole { InTimeLaw }
@@ -81,16 +81,16 @@ pub fn monitored_pts_spacing()
     ensures jobs { JobPtsSpacingLaw }
 {}
 
-/// States that a decoder that follows PAT and PMT (ISO/IEC 13818-1, 2.4.4.3 and 2.4.4.8) learns, in a run of more than a
-/// second, the PID of each program's map, and from it the PIDs of its clock references, of its streams, of its shared
-/// streams and of the private tables that name it. With `mux_core::laws::decoded` it so gets each due unit, whole and in
-/// time.
+/// States that a decoder that follows PAT and PMT (ISO/IEC 13818-1, 2.4.4.3 and 2.4.4.8) learns, in a run of more than
+/// a second, the PID of each program's map, and from it the PIDs of its clock references, of its streams, of its shared
+/// streams and of the private tables that name it. With `mux_core::laws::decoded` it so gets each due unit, whole and
+/// in time.
 pub fn followed()
     ensures { FollowedLaw }
 {}
 
-/// States that such a decoder already knows each program and its streams before a packet of a stream whose units are due
-/// 2 s after the run's begin or later.
+/// States that such a decoder already knows each program and its streams before a packet of a stream whose units are
+/// due 2 s after the run's begin or later.
 pub fn tables_first()
     ensures { TablesFirstLaw }
 {}

@@ -9,7 +9,8 @@ use Rattle.demux.specs.Roles.{Role, NoPayload, ScrambledPayload, PesStart, Secti
 use Rattle.demux.specs.declared.open_unit.UnitKind.{UnitKind}
 use Rattle.demux.specs.declared.open_unit.UnitKind.TheVariants as unit_kinds
 use Rattle.demux.specs.OpenUnits.{OpenUnit, about_within, decided, appended, last_in, plain, section, sections_in, taken_by}
-use Rattle.demux.specs.Findings.{by_break, by_role, cut_short, decided_within, ended, found_at, found_if, found_or_cut, found_within, found_appended, last_bytes, last_bytes_by, undecided, unless_decided}
+use Rattle.demux.specs.Findings.{by_break, by_role, cut_short, decided_within, ended, found_at, found_if, found_or_cut, found_within, found_appended}
+use Rattle.demux.specs.Findings.{last_bytes, last_bytes_by, undecided, unless_decided}
 use Rattle.demux.specs.Machine.{PidState, found_by, next_open, step, step_marked, unbroken}
 use Rattle.demux.specs.Shown.{with_pid}
 use Rattle.demux.specs.Stream.{States, entry_of, findings_by, state_of, states_by, without_pid, with_state}
@@ -90,9 +91,11 @@ unfolding by_role
 role_by index NoPayload held h = tt
 role_by index ScrambledPayload held h = (tt, cut_by index held h)
 role_by index (PesStart access payload) held h =
-    join index (ended false held) (decided_within (record { packet = index; kind = unit_kinds.Pes; access = access; bytes = payload })) (ended_by index false held h)
+    join index (ended false held) (decided_within (record { packet = index; kind = unit_kinds.Pes; access = access; bytes = payload }))
+    (ended_by index false held h)
     (within_by index (record { packet = index; kind = unit_kinds.Pes; access = access; bytes = payload }) (decided unit_kinds.Pes payload) (itself index))
-role_by index (SectionStart before bytes) held h = join index (last_bytes before held) (sections_in index 0 bytes) (last_by index before held h) (sections_by index 0 bytes)
+role_by index (SectionStart before bytes) held h =
+    join index (last_bytes before held) (sections_in index 0 bytes) (last_by index before held h) (sections_by index 0 bytes)
 role_by index PointerPastEnd held h = (tt, cut_by index held h)
 role_by index (Continuation payload) held h = goes_by index payload held h
 
@@ -124,7 +127,8 @@ next_by : (index : ℕ) (r : Role) (held : Option OpenUnit) → part_by index he
 unfolding next_open undecided
 next_by index NoPayload held h = h
 next_by index ScrambledPayload held h = tt
-next_by index (PesStart access payload) held h = open_by index (record { packet = index; kind = unit_kinds.Pes; access = access; bytes = payload }) (decided unit_kinds.Pes payload) (itself index)
+next_by index (PesStart access payload) held h =
+    open_by index (record { packet = index; kind = unit_kinds.Pes; access = access; bytes = payload }) (decided unit_kinds.Pes payload) (itself index)
 next_by index (SectionStart before bytes) held h = section_by index (last_in 0 bytes)
 next_by index PointerPastEnd held h = tt
 next_by index (Continuation payload) None h = tt
@@ -161,7 +165,8 @@ state_within index pid (x ∷ states) h = by (pid == x.0) (state_within index pi
     by true k = h.0
     by false k = k
 
-with_within : (index pid : ℕ) (state : PidState) (states : States) → part_by index state.open_unit → states_within index states → states_within index (with_state pid state states)
+with_within : (index pid : ℕ) (state : PidState) (states : States) → part_by index state.open_unit → states_within index states →
+    states_within index (with_state pid state states)
 with_within index pid state [] k h = (k, tt)
 with_within index pid state (x ∷ states) k h = by (pid == x.0) (with_within index pid state states k h.1)
   where

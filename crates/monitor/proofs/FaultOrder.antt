@@ -18,7 +18,8 @@ use Rattle.monitor.specs.contracts.fault.RuleOrd.TheImpl as rules_ord
 -- 1. Rules
 
 all_rules : List Rule
-all_rules = rules.Sync ∷ rules.Packet ∷ rules.Error ∷ rules.Counter ∷ rules.Crc ∷ rules.Section ∷ rules.Pat ∷ rules.Pmt ∷ rules.Nit ∷ rules.Sdt ∷ rules.Eit ∷ rules.Tdt ∷ rules.Pcr ∷ rules.Pts ∷ rules.Cut ∷ []
+all_rules = rules.Sync ∷ rules.Packet ∷ rules.Error ∷ rules.Counter ∷ rules.Crc ∷ rules.Section ∷ rules.Pat ∷ rules.Pmt ∷ rules.Nit ∷ rules.Sdt ∷ rules.Eit ∷
+    rules.Tdt ∷ rules.Pcr ∷ rules.Pts ∷ rules.Cut ∷ []
 
 place : Rule → ℕ
 place r = rule_number r - 1
@@ -82,7 +83,8 @@ rules_agree = refl
 rules_by_number : (a b : Rule) → rules_ord.cmp-value.it a b ≡ nat_cmp (rule_number a) (rule_number b)
 unfolding rule_agrees
 rules_by_number a b =
-    agreed (rules_ord.cmp-value.it a b) (nat_cmp (rule_number a) (rule_number b)) (each_rule (rule_agrees a) (each_rule (λ (r : Rule). list_all (rule_agrees r) all_rules) rules_agree a) b)
+    agreed (rules_ord.cmp-value.it a b) (nat_cmp (rule_number a) (rule_number b))
+    (each_rule (rule_agrees a) (each_rule (λ (r : Rule). list_all (rule_agrees r) all_rules) rules_agree a) b)
 
 -- 2. Faults
 
@@ -91,7 +93,8 @@ in_turn f g = ordering_then (nat_cmp f.packet g.packet) (ordering_then (nat_cmp 
 
 faults_in_turn : (f g : StreamFault) → faults_ord.cmp-value.it f g ≡ in_turn f g
 unfolding in_turn
-faults_in_turn f g = ap (λ (o : Ordering). ordering_then (nat_cmp f.packet g.packet) (ordering_then o (option_cmp nat_cmp f.pid g.pid))) (rules_by_number f.rule g.rule)
+faults_in_turn f g =
+    ap (λ (o : Ordering). ordering_then (nat_cmp f.packet g.packet) (ordering_then o (option_cmp nat_cmp f.pid g.pid))) (rules_by_number f.rule g.rule)
 
 less_level : (a b : ℕ) (o : Ordering) (r : Bool) → (o ≡ Less → r ≡ true) → ordering_then (nat_cmp a b) o ≡ Less → cond (a == b) r (nat_lt a b) ≡ true
 less_level a b o r k = by (nat_lt a b) (a == b) refl refl

@@ -30,16 +30,19 @@ of_pid_in pid z (f ∷ found) e = by (of_pid_in pid z found) (has_pid pid f.pid)
 
     by : (has z (faults_of_all (found_of pid found)) ≡ true → has z (faults_of_all found) ≡ true) → (t : Bool) →
         has z (faults_of_all (cond t (f ∷ found_of pid found) (found_of pid found))) ≡ true → has z (new ++ faults_of_all found) ≡ true
-    by h true k = ⊎_elim (in_left z new (faults_of_all found)) (λ m. in_right z new (faults_of_all found) (h m)) (in_either z new (faults_of_all (found_of pid found)) k)
+    by h true k =
+        ⊎_elim (in_left z new (faults_of_all found)) (λ m. in_right z new (faults_of_all found) (h m)) (in_either z new (faults_of_all (found_of pid found)) k)
     by h false k = in_right z new (faults_of_all found) (h k)
 
 -- a finding of some PID stands behind each fault
-pid_of : (z : StreamFault) (packet : ℕ) (o : Option ℕ) (f : FindingView) → f.pid ≡ o → has z (faults_on f.packet f.pid f.what) ≡ true → (pid : ℕ) × (has_pid pid f.pid ≡ true)
+pid_of : (z : StreamFault) (packet : ℕ) (o : Option ℕ) (f : FindingView) → f.pid ≡ o → has z (faults_on f.packet f.pid f.what) ≡ true →
+    (pid : ℕ) × (has_pid pid f.pid ≡ true)
 unfolding faults_on has
 pid_of z packet None f e h = absurd (no_false (sym (rw e at h)))
 pid_of z packet (Some pid) f e h = let itself : (pid == pid) ≡ true = grind (arith, nat_tests) in (pid, ap (has_pid pid) e ∙ itself)
 
-pub of_pid_out : (z : StreamFault) (found : List FindingView) → has z (faults_of_all found) ≡ true → (pid : ℕ) × (has z (faults_of_all (found_of pid found)) ≡ true)
+pub of_pid_out : (z : StreamFault) (found : List FindingView) → has z (faults_of_all found) ≡ true →
+    (pid : ℕ) × (has z (faults_of_all (found_of pid found)) ≡ true)
 unfolding faults_of_all has
 of_pid_out z [] e = absurd (no_false (sym e))
 of_pid_out z (f ∷ found) e = ⊎_elim here (there (of_pid_out z found)) (in_either z new (faults_of_all found) e)
@@ -54,7 +57,8 @@ of_pid_out z (f ∷ found) e = ⊎_elim here (there (of_pid_out z found)) (in_ei
     here : has z new ≡ true → (pid : ℕ) × (has z (faults_of_all (found_of pid (f ∷ found))) ≡ true)
     here h = let k = pid_of z f.packet f.pid f refl h in (k.0, own k.0 (has_pid k.0 f.pid) k.1 h)
 
-    by : (pid : ℕ) (t : Bool) → has z (faults_of_all (found_of pid found)) ≡ true → has z (faults_of_all (cond t (f ∷ found_of pid found) (found_of pid found))) ≡ true
+    by : (pid : ℕ) (t : Bool) → has z (faults_of_all (found_of pid found)) ≡ true →
+        has z (faults_of_all (cond t (f ∷ found_of pid found) (found_of pid found))) ≡ true
     by pid true h = in_right z new (faults_of_all (found_of pid found)) h
     by pid false h = h
 
@@ -63,7 +67,8 @@ of_pid_out z (f ∷ found) e = ⊎_elim here (there (of_pid_out z found)) (in_ei
     there h m = let k = h m in (k.0, by k.0 (has_pid k.0 f.pid) k.1)
 
 -- so the faults of a stream's findings are those of each PID
-pub findings_on_each : (found : List FindingView) (on : ℕ → List PidFinding) (pids : List ℕ) → ((pid : ℕ) → found_of pid found ≡ map (with_pid_at pid) (on pid)) →
+pub findings_on_each : (found : List FindingView) (on : ℕ → List PidFinding) (pids : List ℕ) →
+    ((pid : ℕ) → found_of pid found ≡ map (with_pid_at pid) (on pid)) →
     ((pid : ℕ) (z : StreamFault) → has z (finding_faults pid (on pid)) ≡ true → within pid pids) →
     alike (faults_of_all found) (flat_map (λ pid. finding_faults pid (on pid)) pids)
 findings_on_each found on pids same_found covers = alike_from (faults_of_all found) (flat_map (λ pid. finding_faults pid (on pid)) pids) there back

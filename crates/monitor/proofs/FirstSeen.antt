@@ -1,6 +1,7 @@
 -- The PIDs of packets in the order in which they are first seen.
 use Rattle.std.proofs.lemmas.Bool.Decides.{nat_tests}
-use Rattle.std.proofs.Common.{arith, ◌≡◌, ℕ, ◌==◌, Bool, true, false, cond, nat_eq, List, [], ◌∷◌, ◌++◌, map, filter, Option, Some, Result, Ok, Err, refl, sym, ap, ap₂, ◌∙◌, append_assoc}
+use Rattle.std.proofs.Common.{arith, ◌≡◌, ℕ, ◌==◌, Bool, true, false, cond, nat_eq, List, [], ◌∷◌, ◌++◌, map, filter, Option, Some, Result, Ok, Err, refl, sym}
+use Rattle.std.proofs.Common.{ap, ap₂, ◌∙◌, append_assoc}
 use Rattle.std.specs.Prelude.{not, ◌||◌, ◌&&◌}
 use Rattle.std.specs.List.{filter_map, cons_option}
 use Rattle.std.specs.Map.{lookup}
@@ -127,7 +128,8 @@ missing {V} {X} f pid v (x ∷ es) others h =
     let e : (x.0 == pid) ≡ false = turned_test x.0 pid ∙ h.0 in
     ap₂ (λ (y : X) (ys : List X). y ∷ ys) (ap (λ (t : Bool). f (cond t (Some v) (lookup (nat_eq x.0) others)) x.0) e) (missing f pid v es others h.1)
 
-pub by_keys : {V X : Type 0} (f : Option V → ℕ → X) (es : List (ℕ × V)) → unique es → map (λ e. f (Some e.1) e.0) es ≡ map (λ k. f (lookup (nat_eq k) es) k) (keys es)
+pub by_keys : {V X : Type 0} (f : Option V → ℕ → X) (es : List (ℕ × V)) → unique es →
+    map (λ e. f (Some e.1) e.0) es ≡ map (λ k. f (lookup (nat_eq k) es) k) (keys es)
 by_keys f [] h = refl
 by_keys {V} {X} f (x ∷ es) h =
     let itself : (x.0 == x.0) ≡ true = same x.0 in
@@ -137,7 +139,8 @@ by_keys {V} {X} f (x ∷ es) h =
 -- 3. The PIDs of a stream's packets
 
 pub pids_are : (packets : List (ℕ × List ℕ)) → map (λ x. x.0) (starts_of packets)
-    ≡ map (λ entry. entry.packet.header.pid) (filter (λ entry. not entry.packet.header.transport_error_indicator) (filter_map (λ p. entry_of p.0 p.1 (packet_at p.1)) packets))
+    ≡ map (λ entry. entry.packet.header.pid)
+    (filter (λ entry. not entry.packet.header.transport_error_indicator) (filter_map (λ p. entry_of p.0 p.1 (packet_at p.1)) packets))
 unfolding start_of entry_of
 pids_are [] = refl
 pids_are (p ∷ packets) = by (packet_at p.1) (pids_are packets)
@@ -150,10 +153,13 @@ pids_are (p ∷ packets) = by (packet_at p.1) (pids_are packets)
 
     on : (packet : PacketView) (e : Bool) → map (λ x. x.0) (starts_of packets) ≡ pids rest →
         map (λ x. x.0) (cond e [] ((packet.header.pid, packet.header.payload_unit_start_indicator) ∷ []) ++ starts_of packets)
-        ≡ map (λ entry. entry.packet.header.pid) (cond (not e) ((record { index = p.0; bytes = p.1; packet = packet }) ∷ filter (λ entry. not entry.packet.header.transport_error_indicator) rest) (filter (λ entry. not entry.packet.header.transport_error_indicator) rest))
+        ≡ map (λ entry. entry.packet.header.pid)
+        (cond (not e) ((record { index = p.0; bytes = p.1; packet = packet }) ∷ filter (λ entry. not entry.packet.header.transport_error_indicator) rest)
+        (filter (λ entry. not entry.packet.header.transport_error_indicator) rest))
     on packet true h = h
     on packet false h = ap (λ (xs : List ℕ). packet.header.pid ∷ xs) h
 
-    by : (r : Result PacketView PacketError) → map (λ x. x.0) (starts_of packets) ≡ pids rest → map (λ x. x.0) (start_of r ++ starts_of packets) ≡ pids (cons_option (entry_of p.0 p.1 r) rest)
+    by : (r : Result PacketView PacketError) → map (λ x. x.0) (starts_of packets) ≡ pids rest →
+        map (λ x. x.0) (start_of r ++ starts_of packets) ≡ pids (cons_option (entry_of p.0 p.1 r) rest)
     by (Err error) h = h
     by (Ok packet) h = on packet packet.header.transport_error_indicator h

@@ -1,5 +1,6 @@
 -- What is found in a whole stream, to its end: of each PID, in the order of its packets.
-use Rattle.std.proofs.Common.{◌≡◌, ℕ, zero, suc, zero-add, ◌+◌, ◌-◌, ◌*◌, ◌/◌, ◌^◌, ◌≤◌, ◌<◌, ◌==◌, Bool, true, false, cond, List, [], ◌∷◌, ◌++◌, length, take, drop, map, None, Result, Ok, Err, refl, sym, ap, ap₂, subst, ◌∙◌, arith, append_assoc, length-drop}
+use Rattle.std.proofs.Common.{◌≡◌, ℕ, zero, suc, zero-add, ◌+◌, ◌-◌, ◌*◌, ◌/◌, ◌^◌, ◌≤◌, ◌<◌, ◌==◌, Bool, true, false, cond, List, [], ◌∷◌, ◌++◌, length, take}
+use Rattle.std.proofs.Common.{drop, map, None, Result, Ok, Err, refl, sym, ap, ap₂, subst, ◌∙◌, arith, append_assoc, length-drop}
 use Rattle.std.specs.Prelude.{All}
 use Rattle.std.specs.List.{concat}
 use Rattle.std.specs.Simd.{first_chunks}
@@ -14,7 +15,8 @@ use Rattle.demux.specs.Findings.{ended, findings_to_end}
 use Rattle.demux.specs.Machine.{PidState, found_by, step}
 use Rattle.demux.specs.Shown.{with_pid}
 use Rattle.demux.specs.Laws.{found_of, with_pid_at}
-use Rattle.demux.specs.Stream.{States, StreamState, ended_found, entry_of, findings_by, finished, found_in, held_found, next_packet, pushed, start, state_of, states_by, taken, with_state}
+use Rattle.demux.specs.Stream.{States, StreamState, ended_found, entry_of, findings_by, finished, found_in, held_found, next_packet, pushed, start, state_of}
+use Rattle.demux.specs.Stream.{states_by, taken, with_state}
 use Rattle.demux.specs.FoundSoFar.{FoundSoFar, found_in_all, taken_all}
 use Rattle.demux.proofs.EachPid.{of_append, of_with_pid, same_number}
 use Rattle.demux.proofs.PushedBytes.{pushed_less}
@@ -46,7 +48,8 @@ take_rest zero bytes = refl
 take_rest (suc k) bytes =
     let at : 188 * suc k ≡ 188 + 188 * k = omega arith in
     append_assoc (take 188 bytes) (concat (first_chunks 188 k (drop 188 bytes))) (drop (188 * suc k) bytes)
-    ∙ ap (λ (xs : List ℕ). take 188 bytes ++ (concat (first_chunks 188 k (drop 188 bytes)) ++ xs)) (ap (λ (i : ℕ). drop i bytes) at ∙ sym (drop_drop (188 * k) 188 bytes))
+    ∙ ap (λ (xs : List ℕ). take 188 bytes ++ (concat (first_chunks 188 k (drop 188 bytes)) ++ xs))
+    (ap (λ (i : ℕ). drop i bytes) at ∙ sym (drop_drop (188 * k) 188 bytes))
     ∙ ap (λ (xs : List ℕ). take 188 bytes ++ xs) (take_rest k (drop 188 bytes))
     ∙ take_drop 188 bytes
 
@@ -54,7 +57,8 @@ sizes : (k : ℕ) (bytes : List ℕ) → 188 * k ≤ length bytes → All (λ pa
 sizes zero bytes h = All-nil (λ packet. length packet ≡ 188)
 sizes (suc k) bytes h =
     let m : length (drop 188 bytes) ≡ length bytes - 188 = length-drop 188 bytes in
-    All-cons (λ packet. length packet ≡ 188) (take 188 bytes) (first_chunks 188 k (drop 188 bytes)) (length-take-le 188 bytes (omega arith)) (sizes k (drop 188 bytes) (omega arith))
+    All-cons (λ packet. length packet ≡ 188) (take 188 bytes) (first_chunks 188 k (drop 188 bytes)) (length-take-le 188 bytes (omega arith))
+    (sizes k (drop 188 bytes) (omega arith))
 
 pub packet_count : (k : ℕ) (bytes : List ℕ) → length (first_chunks 188 k bytes) ≡ k
 packet_count zero bytes = refl
@@ -93,15 +97,18 @@ held_of pid packet (x ∷ held) = refl
 finished_if : (s : StreamState) → s.ended ≡ false → (finished s).found ≡ s.found ++ (held_found s.packets s.held ++ ended_found s.packets s.states)
 finished_if s e = rw e refl
 
-finished_of : (pid : ℕ) (s : StreamState) → s.ended ≡ false → found_of pid (finished s).found ≡ found_of pid s.found ++ found_of pid (ended_found s.packets s.states)
+finished_of : (pid : ℕ) (s : StreamState) → s.ended ≡ false → found_of pid (finished s).found ≡ found_of pid s.found
+    ++ found_of pid (ended_found s.packets s.states)
 finished_of pid s e =
     let held = held_found s.packets s.held in
     let ends = ended_found s.packets s.states in
     ap (found_of pid) (finished_if s e) ∙ of_append pid s.found (held ++ ends)
-    ∙ ap (λ (xs : List FindingView). found_of pid s.found ++ xs) (of_append pid held ends ∙ ap (λ (xs : List FindingView). xs ++ found_of pid ends) (held_of pid s.packets s.held))
+    ∙ ap (λ (xs : List FindingView). found_of pid s.found ++ xs)
+    (of_append pid held ends ∙ ap (λ (xs : List FindingView). xs ++ found_of pid ends) (held_of pid s.packets s.held))
 
 -- what is held of a packet is of no PID
-held_no_matter : (pid : ℕ) (s : StreamState) (held : List ℕ) → s.ended ≡ false → found_of pid (finished (record s { held = held })).found ≡ found_of pid (finished s).found
+held_no_matter : (pid : ℕ) (s : StreamState) (held : List ℕ) → s.ended ≡ false →
+    found_of pid (finished (record s { held = held })).found ≡ found_of pid (finished s).found
 held_no_matter pid s held e = finished_of pid (record s { held = held }) e ∙ sym (finished_of pid s e)
 
 -- 4. The findings of a stream
@@ -161,7 +168,8 @@ unfolding states_by
 null_states index bytes states (Err error) h = h
 null_states index bytes states (Ok packet) h = by packet.header.transport_error_indicator (packet.header.pid == 8191) refl
   where
-    by : (e z : Bool) → (packet.header.pid == 8191) ≡ z → no_null (cond e states (cond z states (with_state packet.header.pid (step (state_of packet.header.pid states) (entry_of index bytes packet)) states)))
+    by : (e z : Bool) → (packet.header.pid == 8191) ≡ z →
+        no_null (cond e states (cond z states (with_state packet.header.pid (step (state_of packet.header.pid states) (entry_of index bytes packet)) states)))
     by true z k = h
     by false true k = h
     by false false k = no_null_with packet.header.pid (step (state_of packet.header.pid states) (entry_of index bytes packet)) states k h
@@ -191,12 +199,14 @@ of_null bytes =
     let all = null_all start packets tt in
     of_append 8191 (found_in_all start packets) (finished s).found
     ∙ ap₂ (λ (xs ys : List FindingView). xs ++ ys) all.0
-    (finished_of 8191 s (kept_open start packets) ∙ ap₂ (λ (xs ys : List FindingView). xs ++ ys) (ap (found_of 8191) (kept_found start packets)) (null_ended s.packets s.states all.1))
+    (finished_of 8191 s (kept_open start packets) ∙ ap₂ (λ (xs ys : List FindingView). xs ++ ys) (ap (found_of 8191) (kept_found start packets))
+    (null_ended s.packets s.states all.1))
 
 pub of_each : (bytes : List ℕ) → length bytes / 188 < 2 ^ 64 - 1 → (pid : ℕ) → found_of pid (found_whole bytes) ≡ map (with_pid_at pid) (found_on pid bytes)
 of_each bytes n pid = by (pid == 8191) refl
   where
-    by : (t : Bool) → (pid == 8191) ≡ t → found_of pid (found_whole bytes) ≡ map (with_pid_at pid) (cond t [] (findings_to_end (length bytes / 188) (pid_list pid bytes)))
+    by : (t : Bool) → (pid == 8191) ≡ t →
+        found_of pid (found_whole bytes) ≡ map (with_pid_at pid) (cond t [] (findings_to_end (length bytes / 188) (pid_list pid bytes)))
     by true e = ap (λ (k : ℕ). found_of k (found_whole bytes)) (same_number pid 8191 e) ∙ of_null bytes
     by false e = of_one_pid pid bytes e n
 
@@ -228,7 +238,9 @@ at_append packet (x ∷ xs) ys h k = (h.0, at_append packet xs ys h.1 k)
 at_ended : (packet : ℕ) (states : States) → all_at packet (ended_found packet states)
 unfolding ended_found
 at_ended packet [] = tt
-at_ended packet (x ∷ states) = at_append packet (map (with_pid x.0 packet) (ended true x.1.open_unit)) (ended_found packet states) (at_told x.0 packet (ended true x.1.open_unit)) (at_ended packet states)
+at_ended packet (x ∷ states) =
+    at_append packet (map (with_pid x.0 packet) (ended true x.1.open_unit)) (ended_found packet states) (at_told x.0 packet (ended true x.1.open_unit))
+    (at_ended packet states)
 
 rising_less : (low high : ℕ) (found : List FindingView) → low ≤ high → rising_from high found → rising_from low found
 rising_less low high [] n h = tt
@@ -247,15 +259,19 @@ rising_all s (packet ∷ packets) count tail e n h =
     let k : next_packet s.packets ≡ s.packets + 1 = omega arith in
     let rest = rising_all (taken s packet) packets count tail (omega arith) n h in
     subst (λ (xs : List FindingView). rising_from s.packets xs) (sym (append_assoc (found_in s packet) (found_in_all (taken s packet) packets) tail))
-    (rising_front s.packets s.packets (found_in s packet) (found_in_all (taken s packet) packets ++ tail) (omega arith) (at_findings s.packets packet s.states (packet_at packet))
+    (rising_front s.packets s.packets (found_in s packet) (found_in_all (taken s packet) packets ++ tail) (omega arith)
+    (at_findings s.packets packet s.states (packet_at packet))
     (rising_less s.packets (next_packet s.packets) (found_in_all (taken s packet) packets ++ tail) (omega arith) rest))
 
-pub ended_whole : (bytes : List ℕ) → (finished (taken_all start (cut_packets bytes))).found ≡ ended_found (taken_all start (cut_packets bytes)).packets (taken_all start (cut_packets bytes)).states
+pub ended_whole : (bytes : List ℕ) →
+    (finished (taken_all start (cut_packets bytes))).found ≡ ended_found (taken_all start (cut_packets bytes)).packets
+    (taken_all start (cut_packets bytes)).states
 ended_whole bytes =
     let packets = cut_packets bytes in
     let s = taken_all start packets in
     finished_if s (kept_open start packets)
-    ∙ ap₂ (λ (xs : List FindingView) (held : List ℕ). xs ++ (held_found s.packets held ++ ended_found s.packets s.states)) (kept_found start packets) (kept_held start packets)
+    ∙ ap₂ (λ (xs : List FindingView) (held : List ℕ). xs ++ (held_found s.packets held ++ ended_found s.packets s.states)) (kept_found start packets)
+    (kept_held start packets)
 
 pub rises : (bytes : List ℕ) → length bytes / 188 < 2 ^ 64 - 1 → rising_from 0 (found_whole bytes)
 rises bytes n =
@@ -264,8 +280,10 @@ rises bytes n =
     let k : length packets ≡ length bytes / 188 = packet_count (length bytes / 188) bytes in
     let fits : 0 + length packets < 2 ^ 64 = omega arith in
     let c : s.packets ≡ 0 + length packets = count_all start packets fits in
-    let tail : rising_from s.packets (ended_found s.packets s.states ++ []) = rising_front s.packets s.packets (ended_found s.packets s.states) [] (omega arith) (at_ended s.packets s.states) tt in
-    let last : rising_from s.packets (finished s).found = subst (λ (xs : List FindingView). rising_from s.packets xs) (append-nil (ended_found s.packets s.states) ∙ sym (ended_whole bytes)) tail in
+    let tail : rising_from s.packets (ended_found s.packets s.states ++ []) =
+    rising_front s.packets s.packets (ended_found s.packets s.states) [] (omega arith) (at_ended s.packets s.states) tt in
+    let last : rising_from s.packets (finished s).found =
+    subst (λ (xs : List FindingView). rising_from s.packets xs) (append-nil (ended_found s.packets s.states) ∙ sym (ended_whole bytes)) tail in
     rising_all start packets s.packets (finished s).found (sym c) (omega arith) last
 
 begun_append : (xs ys : List FindingView) → all_begun_by_then xs → all_begun_by_then ys → all_begun_by_then (xs ++ ys)

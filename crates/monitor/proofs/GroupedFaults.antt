@@ -1,5 +1,6 @@
 -- Group by group, the faults that are kept of a stream are those of its packets and findings.
-use Rattle.std.proofs.Common.{◌⊎◌, inl, inr, ◌≡◌, ℕ, ◌-◌, ◌*◌, ◌/◌, ◌^◌, ◌<◌, ◌==◌, Bool, true, false, cond, List, [], ◌∷◌, ◌++◌, length, map, filter, Some, refl, sym, ap, ap₂, subst, ◌∙◌, arith}
+use Rattle.std.proofs.Common.{◌⊎◌, inl, inr, ◌≡◌, ℕ, ◌-◌, ◌*◌, ◌/◌, ◌^◌, ◌<◌, ◌==◌, Bool, true, false, cond, List, [], ◌∷◌, ◌++◌, length, map, filter, Some}
+use Rattle.std.proofs.Common.{refl, sym, ap, ap₂, subst, ◌∙◌, arith}
 use Rattle.std.specs.Prelude.{not, ◌&&◌}
 use Rattle.std.specs.List.{enumerate_from, filter_map, flat_map}
 use Rattle.std.proofs.lemmas.List.{map-append}
@@ -39,7 +40,8 @@ listed_or pid (x ∷ entries) = by (x.packet.header.pid == pid) refl x.packet.he
     good : List Entry
     good = filter (λ entry. not entry.packet.header.transport_error_indicator) entries
 
-    later : (of ≡ []) ⊎ within pid (map (λ entry. entry.packet.header.pid) good) → (of ≡ []) ⊎ within pid (x.packet.header.pid ∷ map (λ entry. entry.packet.header.pid) good)
+    later : (of ≡ []) ⊎ within pid (map (λ entry. entry.packet.header.pid) good) →
+        (of ≡ []) ⊎ within pid (x.packet.header.pid ∷ map (λ entry. entry.packet.header.pid) good)
     later (inl h) = inl h
     later (inr h) = inr (inr h)
 
@@ -67,7 +69,8 @@ none_on pid bytes e = by (pid == 8191)
 -- 2. Clock references and PES packets with a PTS, on each PID
 
 pub pcr_alike : (rate limit : ℕ) (bytes : List ℕ) →
-    alike (map (late_fault rules.Pcr) (marked_all (no_marks (limit * rate)) (pcr_pairs (enumerate_from 0 (cut_packets bytes)))).late) (on_each rules.Pcr (pcr_late rate limit bytes) (packet_pids bytes))
+    alike (map (late_fault rules.Pcr) (marked_all (no_marks (limit * rate)) (pcr_pairs (enumerate_from 0 (cut_packets bytes)))).late)
+    (on_each rules.Pcr (pcr_late rate limit bytes) (packet_pids bytes))
 pcr_alike rate limit bytes = late_on_each rules.Pcr (marked_all (no_marks (limit * rate)) pairs).late (pcr_late rate limit bytes) (packet_pids bytes)
     (λ pid. gaps_of_each_pid rate limit pid pairs ∙ ap (late rate limit) (pcr_places_of pid (enumerate_from 0 (cut_packets bytes))))
     (λ pid x h. by pid x h (has_packets pid bytes))
@@ -80,9 +83,11 @@ pcr_alike rate limit bytes = late_on_each rules.Pcr (marked_all (no_marks (limit
     by pid x h (inr k) = k
 
 pub pts_alike : (rate : ℕ) (bytes : List ℕ) → length bytes / 188 < 2 ^ 64 - 1 →
-    alike (map (late_fault rules.Pts) (pts_of_all (no_marks (700 * rate)) (found_whole bytes)).late) (on_each rules.Pts (pts_late rate bytes) (packet_pids bytes))
+    alike (map (late_fault rules.Pts) (pts_of_all (no_marks (700 * rate)) (found_whole bytes)).late)
+    (on_each rules.Pts (pts_late rate bytes) (packet_pids bytes))
 pts_alike rate bytes n =
-    subst (λ (m : RecurrenceState). alike (map (late_fault rules.Pts) m.late) (on_each rules.Pts (pts_late rate bytes) (packet_pids bytes))) (sym (pts_is (no_marks (700 * rate)) found))
+    subst (λ (m : RecurrenceState). alike (map (late_fault rules.Pts) m.late) (on_each rules.Pts (pts_late rate bytes) (packet_pids bytes)))
+    (sym (pts_is (no_marks (700 * rate)) found))
     (late_on_each rules.Pts (marked_all (no_marks (700 * rate)) pairs).late (pts_late rate bytes) (packet_pids bytes)
     (λ pid. gaps_of_each_pid rate 700 pid pairs
     ∙ ap (late rate 700) (pts_places_of pid found ∙ ap (filter_map (λ f. pts_begin f.begun)) (of_each bytes n pid) ∙ pts_told pid (found_on pid bytes)))
@@ -106,29 +111,35 @@ no_false e = grind arith
 pub findings_alike : (bytes : List ℕ) → length bytes / 188 < 2 ^ 64 - 1 →
     alike (faults_of_all (found_whole bytes)) (flat_map (λ pid. finding_faults pid (found_on pid bytes)) (packet_pids bytes))
 unfolding has
-findings_alike bytes n = findings_on_each (found_whole bytes) (λ pid. found_on pid bytes) (packet_pids bytes) (of_each bytes n) (λ pid z h. by pid z h (has_packets pid bytes))
+findings_alike bytes n =
+    findings_on_each (found_whole bytes) (λ pid. found_on pid bytes) (packet_pids bytes) (of_each bytes n) (λ pid z h. by pid z h (has_packets pid bytes))
   where
-    by : (pid : ℕ) (z : StreamFault) → has z (finding_faults pid (found_on pid bytes)) ≡ true → (pid_list pid bytes ≡ []) ⊎ within pid (packet_pids bytes) → within pid (packet_pids bytes)
+    by : (pid : ℕ) (z : StreamFault) → has z (finding_faults pid (found_on pid bytes)) ≡ true → (pid_list pid bytes ≡ []) ⊎ within pid (packet_pids bytes) →
+        within pid (packet_pids bytes)
     by pid z h (inl e) = absurd (no_false (sym (subst (λ (at : List PidFinding). has z (finding_faults pid at) ≡ true) (none_on pid bytes e) h)))
     by pid z h (inr k) = k
 
 -- 4. Tables
 
-begins_whole : (pid table_id : ℕ) (bytes : List ℕ) → length bytes / 188 < 2 ^ 64 - 1 → begins_in pid table_id (found_whole bytes) ≡ table_begins table_id (found_on pid bytes)
+begins_whole : (pid table_id : ℕ) (bytes : List ℕ) → length bytes / 188 < 2 ^ 64 - 1 →
+    begins_in pid table_id (found_whole bytes) ≡ table_begins table_id (found_on pid bytes)
 begins_whole pid table_id bytes n = ap (filter_map (λ f. table_begin table_id f.begun)) (of_each bytes n pid) ∙ begins_told table_id pid (found_on pid bytes)
 
 itself : (pid : ℕ) → (pid == pid) ≡ true
 itself pid = grind (arith, nat_tests)
 
 pub table_group : (rule : Rule) (rate limit pid table_id : ℕ) (bytes : List ℕ) → length bytes / 188 < 2 ^ 64 - 1 →
-    map (late_fault rule) (table_of_all (new_watch pid table_id (limit * rate)) (found_whole bytes)).marks.late ≡ map (fault rule (Some pid)) (table_late rate limit pid table_id bytes)
+    map (late_fault rule) (table_of_all (new_watch pid table_id (limit * rate)) (found_whole bytes)).marks.late ≡ map (fault rule (Some pid))
+    (table_late rate limit pid table_id bytes)
 table_group rule rate limit pid table_id bytes n =
     ap (λ (t : TableState). map (late_fault rule) t.marks.late) (table_is (new_watch pid table_id (limit * rate)) (found_whole bytes))
     ∙ ap (λ (xs : List ℕ). map (late_fault rule) (marked_all (no_marks (limit * rate)) (on_pid pid xs)).late) (begins_whole pid table_id bytes n)
     ∙ late_from_none rule rate limit pid (table_begins table_id (found_on pid bytes)) (itself pid)
 
 -- the program association table, from the beginning to the end
-pat_marks : (limit_times_rate count : ℕ) (xs : List ℕ) → marked (marked_all (marked (no_marks limit_times_rate) 0 0) (on_pid 0 xs)) 0 count ≡ marked_all (no_marks limit_times_rate) (on_pid 0 (0 ∷ xs ++ count ∷ []))
+pat_marks : (limit_times_rate count : ℕ) (xs : List ℕ) →
+    marked (marked_all (marked (no_marks limit_times_rate) 0 0) (on_pid 0 xs)) 0 count ≡ marked_all (no_marks limit_times_rate)
+    (on_pid 0 (0 ∷ xs ++ count ∷ []))
 unfolding marked_all
 pat_marks limit_times_rate count xs =
     sym (marked_append (marked (no_marks limit_times_rate) 0 0) (on_pid 0 xs) ((0, count) ∷ []))
@@ -138,7 +149,9 @@ pub pat_group : (rate count : ℕ) (bytes : List ℕ) → length bytes / 188 < 2
     map (late_fault rules.Pat) (table_marked (table_of_all (table_marked (new_watch 0 0 (500 * rate)) 0) (found_whole bytes)) count).marks.late
     ≡ map (fault rules.Pat (Some 0)) (pat_late rate bytes)
 pat_group rate count bytes n e =
-    ap (λ (t : TableState). map (late_fault rules.Pat) (marked t.marks t.pid count).late) (table_is (table_marked (new_watch 0 0 (500 * rate)) 0) (found_whole bytes))
-    ∙ ap₂ (λ (xs : List ℕ) (c : ℕ). map (late_fault rules.Pat) (marked (marked_all (marked (no_marks (500 * rate)) 0 0) (on_pid 0 xs)) 0 c).late) (begins_whole 0 0 bytes n) e
+    ap (λ (t : TableState). map (late_fault rules.Pat) (marked t.marks t.pid count).late)
+    (table_is (table_marked (new_watch 0 0 (500 * rate)) 0) (found_whole bytes))
+    ∙ ap₂ (λ (xs : List ℕ) (c : ℕ). map (late_fault rules.Pat) (marked (marked_all (marked (no_marks (500 * rate)) 0 0) (on_pid 0 xs)) 0 c).late)
+    (begins_whole 0 0 bytes n) e
     ∙ ap (λ (m : RecurrenceState). map (late_fault rules.Pat) m.late) (pat_marks (500 * rate) (length bytes / 188) (table_begins 0 (found_on 0 bytes)))
     ∙ late_from_none rules.Pat rate 500 0 (0 ∷ table_begins 0 (found_on 0 bytes) ++ (length bytes / 188) ∷ []) (itself 0)

@@ -1,8 +1,10 @@
 -- What is noted of findings is no body of a PES packet.
-use Rattle.std.proofs.Common.{◌≡◌, ◌∙◌, ℕ, suc, ◌<◌, ◌≤◌, true, List, [], ◌∷◌, ◌++◌, length, map, drop, slice_get, Option, Some, None, inl, inr, refl, sym, ap, arith}
+use Rattle.std.proofs.Common.{◌≡◌, ◌∙◌, ℕ, suc, ◌<◌, ◌≤◌, true, List, [], ◌∷◌, ◌++◌, length, map, drop, slice_get, Option, Some, None, inl, inr, refl, sym, ap}
+use Rattle.std.proofs.Common.{arith}
 use Rattle.std.proofs.lemmas.List.{drop_all}
 use Rattle.std.proofs.lemmas.Option.{slice_get_cases}
-use Rattle.demux.specs.Views.{WhatView, IsDuplicate, BreaksCounter, IsScrambled, IsTruncated, IsSection, IsBadSection, IsPes, IsBadPes, IsBadPacket, IsErrored, FindingView}
+use Rattle.demux.specs.Views.{WhatView, IsDuplicate, BreaksCounter, IsScrambled, IsTruncated, IsSection, IsBadSection, IsPes, IsBadPes, IsBadPacket, IsErrored}
+use Rattle.demux.specs.Views.{FindingView}
 use Rattle.demux.specs.Machine.{PidState}
 use Rattle.demux.specs.Findings.{ended}
 use Rattle.demux.specs.Shown.{with_pid}
@@ -48,7 +50,8 @@ unfolding all_noted
 noted_both s [] ys = refl
 noted_both s (x ∷ xs) ys = noted_both (finding_noted s x) xs ys
 
-end_more : (packet i : ℕ) (states : States) (x : ℕ × PidState) (s next : FindingState) (none ends : List FindingView) → slice_get states i ≡ Some x → none ≡ [] →
+end_more : (packet i : ℕ) (states : States) (x : ℕ × PidState) (s next : FindingState) (none ends : List FindingView) → slice_get states i ≡ Some x →
+    none ≡ [] →
     AddsHeaders none ends (map (with_pid x.0 packet) (ended true x.1.open_unit)) → next ≡ all_noted s ends →
     all_noted next (ended_found packet (drop (suc i) states)) ≡ all_noted s (ended_found packet (drop i states))
 end_more packet i states x s next none ends there empty added noted =
@@ -58,7 +61,8 @@ end_more packet i states x s next none ends there empty added noted =
     ∙ sym (noted_both s one rest) ∙ ap (all_noted s) (sym (ended_next packet i states x there))
 
 pub ends_more : (packet i : ℕ) (states : States) (s next : FindingState) (none ends : List FindingView) → i < length states → none ≡ [] →
-    ((x : ℕ × PidState) → slice_get states i ≡ Some x → AddsHeaders none ends (map (with_pid x.0 packet) (ended true x.1.open_unit))) → next ≡ all_noted s ends →
+    ((x : ℕ × PidState) → slice_get states i ≡ Some x → AddsHeaders none ends (map (with_pid x.0 packet) (ended true x.1.open_unit))) →
+    next ≡ all_noted s ends →
     all_noted next (ended_found packet (drop (suc i) states)) ≡ all_noted s (ended_found packet (drop i states))
 ends_more packet i states s next none ends less empty added noted = elim (slice_get_cases states i).1 [
   | inl found ↦ end_more packet i states found.0 s next none ends found.2 empty (added found.0 found.2) noted

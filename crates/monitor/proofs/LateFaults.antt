@@ -1,5 +1,6 @@
 -- The faults of what comes too late, for each PID: which are there.
-use Rattle.std.proofs.Common.{◌⊎◌, inl, inr, ⊎_elim, ◌≡◌, ℕ, ◌==◌, Bool, true, false, cond, List, [], ◌∷◌, ◌++◌, map, filter, Some, refl, sym, ap, ap₂, subst, ◌∙◌, arith}
+use Rattle.std.proofs.Common.{◌⊎◌, inl, inr, ⊎_elim, ◌≡◌, ℕ, ◌==◌, Bool, true, false, cond, List, [], ◌∷◌, ◌++◌, map, filter, Some, refl, sym, ap, ap₂, subst}
+use Rattle.std.proofs.Common.{◌∙◌, arith}
 use Rattle.std.specs.Prelude.{◌||◌}
 use Rattle.std.specs.List.{flat_map}
 use Rattle.std.proofs.lemmas.Bool.Decides.{nat_tests}
@@ -39,7 +40,8 @@ alike_is xs ys e z = ap (λ (l : List StreamFault). has z l) e
 no_false : true ≡ false → ⊥
 no_false e = grind arith
 
-pub alike_from : (xs ys : List StreamFault) → ((z : StreamFault) → has z xs ≡ true → has z ys ≡ true) → ((z : StreamFault) → has z ys ≡ true → has z xs ≡ true) → alike xs ys
+pub alike_from : (xs ys : List StreamFault) → ((z : StreamFault) → has z xs ≡ true → has z ys ≡ true) →
+    ((z : StreamFault) → has z ys ≡ true → has z xs ≡ true) → alike xs ys
 alike_from xs ys h k z = by (has z xs) (has z ys) refl refl
   where
     by : (a b : Bool) → has z xs ≡ a → has z ys ≡ b → a ≡ b
@@ -84,7 +86,8 @@ each_out z f xs [] h e = absurd (no_false (sym e))
 each_out z f xs (q ∷ pids) h e = ⊎_elim (h q) (each_out z f xs pids h) (in_either z (f q) (flat_map f pids) e)
 
 -- what comes too late on a PID is there on its own
-pub late_in : (rule : Rule) (pid : ℕ) (z : StreamFault) (lates : List LatePacket) → has z (map (fault rule (Some pid)) (late_of pid lates)) ≡ true → has z (map (late_fault rule) lates) ≡ true
+pub late_in : (rule : Rule) (pid : ℕ) (z : StreamFault) (lates : List LatePacket) → has z (map (fault rule (Some pid)) (late_of pid lates)) ≡ true →
+    has z (map (late_fault rule) lates) ≡ true
 late_in rule pid z [] e = e
 late_in rule pid z (x ∷ lates) e = by (late_in rule pid z lates) (x.pid == pid) refl e
   where
@@ -96,7 +99,8 @@ late_in rule pid z (x ∷ lates) e = by (late_in rule pid z lates) (x.pid == pid
         has z (map (fault rule (Some pid)) (map (λ l. l.packet) (cond t (x ∷ filter (λ l. l.pid == pid) lates) (filter (λ l. l.pid == pid) lates)))) ≡ true →
         has z (map (late_fault rule) (x ∷ lates)) ≡ true
     by h true n f = ⊎_elim
-        (λ g. in_left z (late_fault rule x ∷ []) (map (late_fault rule) lates) (subst (λ (k : ℕ). has z (fault rule (Some k) x.packet ∷ []) ≡ true) (sym (same_number x.pid pid n)) g))
+        (λ g. in_left z (late_fault rule x ∷ []) (map (late_fault rule) lates)
+        (subst (λ (k : ℕ). has z (fault rule (Some k) x.packet ∷ []) ≡ true) (sym (same_number x.pid pid n)) g))
         (rest h)
         (in_either z (fault rule (Some pid) x.packet ∷ []) (map (fault rule (Some pid)) (late_of pid lates)) f)
     by h false n f = rest h f
@@ -114,7 +118,8 @@ late_out rule z (x ∷ lates) e = ⊎_elim here (there (late_out rule z lates)) 
     here : has z (late_fault rule x ∷ []) ≡ true → (pid : ℕ) × (has z (map (fault rule (Some pid)) (late_of pid (x ∷ lates))) ≡ true)
     here f = (x.pid, rw itself (in_left z (late_fault rule x ∷ []) (map (fault rule (Some x.pid)) (late_of x.pid lates)) f))
 
-    by : (pid : ℕ) (t : Bool) → (x.pid == pid) ≡ t → has z (map (fault rule (Some pid)) (late_of pid lates)) ≡ true → has z (map (fault rule (Some pid)) (late_of pid (x ∷ lates))) ≡ true
+    by : (pid : ℕ) (t : Bool) → (x.pid == pid) ≡ t → has z (map (fault rule (Some pid)) (late_of pid lates)) ≡ true →
+        has z (map (fault rule (Some pid)) (late_of pid (x ∷ lates))) ≡ true
     by pid true n f = rw n (in_right z (fault rule (Some pid) x.packet ∷ []) (map (fault rule (Some pid)) (late_of pid lates)) f)
     by pid false n f = rw n f
 
@@ -135,7 +140,8 @@ late_on_each rule lates places pids same_places covers = alike_from (map (late_f
     there : (z : StreamFault) → has z (map (late_fault rule) lates) ≡ true → has z (on_each rule places pids) ≡ true
     there z e =
         let k = late_out rule z lates e in
-        let f : has z (map (fault rule (Some k.0)) (places k.0)) ≡ true = subst (λ (xs : List ℕ). has z (map (fault rule (Some k.0)) xs) ≡ true) (same_places k.0) k.1 in
+        let f : has z (map (fault rule (Some k.0)) (places k.0)) ≡ true =
+        subst (λ (xs : List ℕ). has z (map (fault rule (Some k.0)) xs) ≡ true) (same_places k.0) k.1 in
         let p = place rule z k.0 (places k.0) f in
         each_in z (λ pid. map (fault rule (Some pid)) (places pid)) pids k.0 (covers k.0 p.0 p.1) f
 

@@ -1,5 +1,6 @@
 -- Program maps that are late, to the end of the stream, on each PID that is named.
-use Rattle.std.proofs.Common.{arith, inl, inr, ◌≡◌, ℕ, ◌-◌, ◌*◌, ◌==◌, Bool, true, false, cond, nat_eq, List, [], ◌∷◌, ◌++◌, map, Option, Some, None, refl, sym, ap, ap₂, subst, ◌∙◌}
+use Rattle.std.proofs.Common.{arith, inl, inr, ◌≡◌, ℕ, ◌-◌, ◌*◌, ◌==◌, Bool, true, false, cond, nat_eq, List, [], ◌∷◌, ◌++◌, map, Option, Some, None, refl, sym}
+use Rattle.std.proofs.Common.{ap, ap₂, subst, ◌∙◌}
 use Rattle.std.specs.List.{flat_map, filter_map, cons_option}
 use Rattle.std.specs.Map.{lookup}
 use Rattle.std.proofs.lemmas.List.{append-nil, map-append}
@@ -33,15 +34,19 @@ ended_one limit_times_rate count entry = map (λ x. record { pid = entry.0; pack
 abbrev pub ended_lates : ℕ → ℕ → List (ℕ × NamedMap) → List LatePacket
 ended_lates limit_times_rate count named = flat_map (ended_one limit_times_rate count) named
 
-one_is : (limit_times_rate count : ℕ) (entry : ℕ × NamedMap) → ended_map limit_times_rate count entry ≡ map (late_fault rules.Pmt) (ended_one limit_times_rate count entry)
+one_is : (limit_times_rate count : ℕ) (entry : ℕ × NamedMap) →
+    ended_map limit_times_rate count entry ≡ map (late_fault rules.Pmt) (ended_one limit_times_rate count entry)
 unfolding ended_map
 one_is limit_times_rate count entry = by (is_long limit_times_rate (count - entry.1.last))
   where
-    by : (t : Bool) → cond t ((record { packet = count; rule = rules.Pmt; pid = Some entry.0 }) ∷ []) [] ≡ map (late_fault rules.Pmt) (map (λ x. record { pid = entry.0; packet = x }) (cond t (count ∷ []) []))
+    by : (t : Bool) →
+        cond t ((record { packet = count; rule = rules.Pmt; pid = Some entry.0 }) ∷ []) [] ≡ map (late_fault rules.Pmt)
+        (map (λ x. record { pid = entry.0; packet = x }) (cond t (count ∷ []) []))
     by true = refl
     by false = refl
 
-ended_is : (limit_times_rate count : ℕ) (named : List (ℕ × NamedMap)) → flat_map (ended_map limit_times_rate count) named ≡ map (late_fault rules.Pmt) (ended_lates limit_times_rate count named)
+ended_is : (limit_times_rate count : ℕ) (named : List (ℕ × NamedMap)) →
+    flat_map (ended_map limit_times_rate count) named ≡ map (late_fault rules.Pmt) (ended_lates limit_times_rate count named)
 ended_is limit_times_rate count [] = refl
 ended_is limit_times_rate count (entry ∷ named) =
     ap₂ (λ (xs ys : List StreamFault). xs ++ ys) (one_is limit_times_rate count entry) (ended_is limit_times_rate count named)
@@ -53,15 +58,18 @@ own_lates pid q [] false e = refl
 own_lates pid q (x ∷ xs) true e = rw e (ap (λ (l : List ℕ). x ∷ l) (own_lates pid q xs true e))
 own_lates pid q (x ∷ xs) false e = rw e (own_lates pid q xs false e)
 
-ended_of : (pid limit_times_rate count : ℕ) (named : List (ℕ × NamedMap)) → unique named → late_of pid (ended_lates limit_times_rate count named) ≡ ended_then limit_times_rate count (lookup (nat_eq pid) named)
+ended_of : (pid limit_times_rate count : ℕ) (named : List (ℕ × NamedMap)) → unique named →
+    late_of pid (ended_lates limit_times_rate count named) ≡ ended_then limit_times_rate count (lookup (nat_eq pid) named)
 ended_of pid limit_times_rate count [] h = refl
 ended_of pid limit_times_rate count (entry ∷ named) h = by (entry.0 == pid) refl (ended_of pid limit_times_rate count named h.1)
   where
     new : List ℕ
     new = step limit_times_rate (Some entry.1.last) count
 
-    by : (t : Bool) → (entry.0 == pid) ≡ t → late_of pid (ended_lates limit_times_rate count named) ≡ ended_then limit_times_rate count (lookup (nat_eq pid) named) →
-        late_of pid (ended_one limit_times_rate count entry ++ ended_lates limit_times_rate count named) ≡ ended_then limit_times_rate count (cond (nat_eq pid entry.0) (Some entry.1) (lookup (nat_eq pid) named))
+    by : (t : Bool) → (entry.0 == pid) ≡ t →
+        late_of pid (ended_lates limit_times_rate count named) ≡ ended_then limit_times_rate count (lookup (nat_eq pid) named) →
+        late_of pid (ended_one limit_times_rate count entry ++ ended_lates limit_times_rate count named) ≡ ended_then limit_times_rate count
+        (cond (nat_eq pid entry.0) (Some entry.1) (lookup (nat_eq pid) named))
     by true e k =
         let f : (pid == entry.0) ≡ true = turned_test pid entry.0 ∙ e in
         let none : lookup (nat_eq pid) named ≡ None = lookup_absent pid named (subst (λ (n : ℕ). absent n named) (same_number entry.0 pid e) h.0) in
@@ -82,12 +90,14 @@ begins_of pid [] = refl
 begins_of pid (f ∷ found) = by f.pid (begins_of pid found)
   where
     inner : (t : Bool) → begins_all pid found ≡ filter_map (λ f. table_begin 0x02 f.begun) (found_of pid found) →
-        cons_option (cond t (table_begin 0x02 f.begun) None) (begins_all pid found) ≡ filter_map (λ f. table_begin 0x02 f.begun) (cond t (f ∷ found_of pid found) (found_of pid found))
+        cons_option (cond t (table_begin 0x02 f.begun) None) (begins_all pid found) ≡ filter_map (λ f. table_begin 0x02 f.begun)
+        (cond t (f ∷ found_of pid found) (found_of pid found))
     inner true h = ap (cons_option (table_begin 0x02 f.begun)) h
     inner false h = h
 
     by : (q : Option ℕ) → begins_all pid found ≡ filter_map (λ f. table_begin 0x02 f.begun) (found_of pid found) →
-        cons_option (begin_on pid q f.begun) (begins_all pid found) ≡ filter_map (λ f. table_begin 0x02 f.begun) (cond (has_pid pid q) (f ∷ found_of pid found) (found_of pid found))
+        cons_option (begin_on pid q f.begun) (begins_all pid found) ≡ filter_map (λ f. table_begin 0x02 f.begun)
+        (cond (has_pid pid q) (f ∷ found_of pid found) (found_of pid found))
     by None h = h
     by (Some q) h = inner (q == pid) h
 
@@ -111,7 +121,8 @@ since_is pid (f ∷ found) = by f.pid (since_is pid found)
     inner : (t : Bool) → since_of pid found ≡ lookup (nat_eq pid) (namings_told (found_of 0 found)) →
         or_since (lookup (nat_eq pid) (at_packet f.packet (cond t (pids_named_in f.what) []))) (since_of pid found)
         ≡ lookup (nat_eq pid) (namings_told (cond t (f ∷ found_of 0 found) (found_of 0 found)))
-    inner true h = ap (or_since (lookup (nat_eq pid) (at_packet f.packet (pids_named_in f.what)))) h ∙ sym (lookup_append pid (at_packet f.packet (pids_named_in f.what)) (namings_told (found_of 0 found)))
+    inner true h = ap (or_since (lookup (nat_eq pid) (at_packet f.packet (pids_named_in f.what)))) h
+        ∙ sym (lookup_append pid (at_packet f.packet (pids_named_in f.what)) (namings_told (found_of 0 found)))
     inner false h = h
 
     by : (q : Option ℕ) → since_of pid found ≡ lookup (nat_eq pid) (namings_told (found_of 0 found)) →
@@ -133,11 +144,13 @@ looked_within pid z [] e = absurd (none_some z e)
     none_some x k = grind arith
 looked_within pid z (x ∷ xs) e = by (nat_eq pid x.0) refl (looked_within pid z xs) e
   where
-    by : (t : Bool) → nat_eq pid x.0 ≡ t → (lookup (nat_eq pid) xs ≡ Some z → within pid (map (λ y. y.0) xs)) → cond t (Some x.1) (lookup (nat_eq pid) xs) ≡ Some z → within pid (map (λ y. y.0) (x ∷ xs))
+    by : (t : Bool) → nat_eq pid x.0 ≡ t → (lookup (nat_eq pid) xs ≡ Some z → within pid (map (λ y. y.0) xs)) →
+        cond t (Some x.1) (lookup (nat_eq pid) xs) ≡ Some z → within pid (map (λ y. y.0) (x ∷ xs))
     by true f h k = inl (same_number pid x.0 f)
     by false f h k = inr (h k)
 
-named_within : (rate count pid x : ℕ) (begins : List ℕ) (xs : List (ℕ × ℕ)) (o : Option ℕ) → lookup (nat_eq pid) xs ≡ o → within x (map_late_since rate count begins o) → within pid (map (λ y. y.0) xs)
+named_within : (rate count pid x : ℕ) (begins : List ℕ) (xs : List (ℕ × ℕ)) (o : Option ℕ) → lookup (nat_eq pid) xs ≡ o →
+    within x (map_late_since rate count begins o) → within pid (map (λ y. y.0) xs)
 unfolding map_late_since
 named_within rate count pid x begins xs None e h = absurd h
 named_within rate count pid x begins xs (Some since) e h = looked_within pid since xs e
@@ -146,7 +159,8 @@ pub maps_alike : (rate count : ℕ) (found : List FindingView) (on : ℕ → Lis
     rising_from 0 found → all_begun_by_then found →
     alike (map (late_fault rules.Pmt) (maps_of_all (no_maps (500 * rate)) found).late
     ++ flat_map (ended_map (maps_of_all (no_maps (500 * rate)) found).limit_times_rate count) (maps_of_all (no_maps (500 * rate)) found).named)
-    (on_each rules.Pmt (λ pid. map_late_since rate count (table_begins 0x02 (on pid)) (lookup (nat_eq pid) (namings (on 0)))) (map (λ naming. naming.0) (namings (on 0))))
+    (on_each rules.Pmt (λ pid. map_late_since rate count (table_begins 0x02 (on pid)) (lookup (nat_eq pid) (namings (on 0))))
+    (map (λ naming. naming.0) (namings (on 0))))
 maps_alike rate count found on same_found rises begun =
     subst (λ (xs : List StreamFault). alike xs (on_each rules.Pmt places pids)) (sym all)
     (late_on_each rules.Pmt (s.late ++ ended_lates s.limit_times_rate count s.named) places pids lates
@@ -164,11 +178,14 @@ maps_alike rate count found on same_found rises begun =
     kept : (pid : ℕ) → KeptOf pid (no_maps (500 * rate)) s found
     kept pid = maps_kept pid (no_maps (500 * rate)) found begun
 
-    all : map (late_fault rules.Pmt) s.late ++ flat_map (ended_map s.limit_times_rate count) s.named ≡ map (late_fault rules.Pmt) (s.late ++ ended_lates s.limit_times_rate count s.named)
-    all = ap (λ (xs : List StreamFault). map (late_fault rules.Pmt) s.late ++ xs) (ended_is s.limit_times_rate count s.named) ∙ sym (map-append (late_fault rules.Pmt) s.late (ended_lates s.limit_times_rate count s.named))
+    all : map (late_fault rules.Pmt) s.late ++ flat_map (ended_map s.limit_times_rate count) s.named ≡ map (late_fault rules.Pmt)
+        (s.late ++ ended_lates s.limit_times_rate count s.named)
+    all = ap (λ (xs : List StreamFault). map (late_fault rules.Pmt) s.late ++ xs) (ended_is s.limit_times_rate count s.named)
+        ∙ sym (map-append (late_fault rules.Pmt) s.late (ended_lates s.limit_times_rate count s.named))
 
     since : (pid : ℕ) → since_of pid found ≡ lookup (nat_eq pid) (namings (on 0))
-    since pid = since_is pid found ∙ ap (λ (xs : List FindingView). lookup (nat_eq pid) (namings_told xs)) (same_found 0) ∙ ap (lookup (nat_eq pid)) (told_namings 0 (on 0))
+    since pid = since_is pid found ∙ ap (λ (xs : List FindingView). lookup (nat_eq pid) (namings_told xs)) (same_found 0)
+        ∙ ap (lookup (nat_eq pid)) (told_namings 0 (on 0))
 
     begins : (pid : ℕ) → begins_all pid found ≡ table_begins 0x02 (on pid)
     begins pid = begins_of pid found ∙ ap (filter_map (λ f. table_begin 0x02 f.begun)) (same_found pid) ∙ begins_told 0x02 pid (on pid)
@@ -179,6 +196,7 @@ maps_alike rate count found on same_found rises begun =
         late_append pid s.late (ended_lates s.limit_times_rate count s.named)
         ∙ ap₂ (λ (xs ys : List ℕ). xs ++ ys)
         (k.late ∙ late_new pid (500 * rate) 0 found rises begun)
-        (ended_of pid s.limit_times_rate count s.named (k.own tt) ∙ ap₂ (λ (m : ℕ) (o : Option NamedMap). ended_then m count o) k.limit_times_rate (k.state ∙ state_new pid 0 found rises begun))
+        (ended_of pid s.limit_times_rate count s.named (k.own tt) ∙ ap₂ (λ (m : ℕ) (o : Option NamedMap). ended_then m count o) k.limit_times_rate
+        (k.state ∙ state_new pid 0 found rises begun))
         ∙ sym (map_late_is rate count (begins_all pid found) (since_of pid found))
         ∙ ap₂ (map_late_since rate count) (begins pid) (since pid)

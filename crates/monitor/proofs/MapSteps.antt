@@ -1,5 +1,6 @@
 -- Program maps of one PID, finding by finding.
-use Rattle.std.proofs.Common.{◌≡◌, ℕ, ◌-◌, ◌≤◌, ◌==◌, Bool, true, false, cond, nat_eq, List, [], ◌∷◌, ◌++◌, Option, Some, None, refl, sym, ap, ap₂, ◌∙◌, arith, append_assoc}
+use Rattle.std.proofs.Common.{◌≡◌, ℕ, ◌-◌, ◌≤◌, ◌==◌, Bool, true, false, cond, nat_eq, List, [], ◌∷◌, ◌++◌, Option, Some, None, refl, sym, ap, ap₂, ◌∙◌, arith}
+use Rattle.std.proofs.Common.{append_assoc}
 use Rattle.std.specs.Prelude.{◌||◌, nat_le, nat_lt, not}
 use Rattle.std.specs.Map.{lookup}
 use Rattle.std.proofs.lemmas.List.{append-nil}
@@ -8,7 +9,8 @@ use Rattle.std.proofs.lemmas.Bool.Decides.{nat_tests}
 use Rattle.psi_tables.specs.Reading.{section_at}
 use Rattle.demux.specs.declared.finding.Kind.{Kind}
 use Rattle.demux.specs.declared.finding.Kind.TheVariants.{Table, Pes}
-use Rattle.demux.specs.Views.{WhatView, IsDuplicate, BreaksCounter, IsScrambled, IsTruncated, IsSection, IsBadSection, IsPes, IsBadPes, IsBadPacket, IsErrored, FindingView}
+use Rattle.demux.specs.Views.{WhatView, IsDuplicate, BreaksCounter, IsScrambled, IsTruncated, IsSection, IsBadSection, IsPes, IsBadPes, IsBadPacket, IsErrored}
+use Rattle.demux.specs.Views.{FindingView}
 use Rattle.monitor.specs.declared.program_maps.NamedMap.{NamedMap}
 use Rattle.monitor.specs.Gaps.{is_long}
 use Rattle.monitor.specs.Laws.{late_of}
@@ -44,7 +46,8 @@ to_state : (pid : ℕ) (s t : ProgramMapState) (o p : Option NamedMap) (new : Li
 to_state pid s t o p new e k = record { state = k.state ∙ e; late = k.late; limit_times_rate = k.limit_times_rate; own = k.own }
 
 unnamed : (pid packet : ℕ) (s : ProgramMapState) → Kept pid s s (or_named (lookup (nat_eq pid) s.named) None) []
-unnamed pid packet s = to_state pid s s (lookup (nat_eq pid) s.named) (or_named (lookup (nat_eq pid) s.named) None) [] (or_none (lookup (nat_eq pid) s.named)) (no_change pid s)
+unnamed pid packet s = to_state pid s s (lookup (nat_eq pid) s.named) (or_named (lookup (nat_eq pid) s.named) None) [] (or_none (lookup (nat_eq pid) s.named))
+    (no_change pid s)
 
 section_names : (pid q packet : ℕ) (s : ProgramMapState) (bytes : List ℕ) (t : Bool) →
     Kept pid s (cond t (named_by s bytes packet) s)
@@ -119,7 +122,8 @@ skipped found since x h = by (nat_le found since) (nat_le x since) (nat_lt since
     by false false true e f g = refl
     by false false false e f g = absurd (grind (arith, nat_tests))
 
-late_map_here : (pid q limit_times_rate last x : ℕ) (t : Bool) → (q == pid) ≡ t → late_of pid (late_map limit_times_rate q last x) ≡ cond t (step limit_times_rate (Some last) x) []
+late_map_here : (pid q limit_times_rate last x : ℕ) (t : Bool) → (q == pid) ≡ t →
+    late_of pid (late_map limit_times_rate q last x) ≡ cond t (step limit_times_rate (Some last) x) []
 unfolding late_map
 late_map_here pid q limit_times_rate last x t e = by t e (is_long limit_times_rate (x - last))
   where
@@ -130,7 +134,8 @@ late_map_here pid q limit_times_rate last x t e = by t e (is_long limit_times_ra
     by false e false = refl
 
 -- where nothing begins on it, a PID stays as it is
-no_begin : (pid : ℕ) (s : ProgramMapState) → Kept pid s s (after_begin (lookup (nat_eq pid) s.named) None) (late_after s.limit_times_rate (lookup (nat_eq pid) s.named) None)
+no_begin : (pid : ℕ) (s : ProgramMapState) →
+    Kept pid s s (after_begin (lookup (nat_eq pid) s.named) None) (late_after s.limit_times_rate (lookup (nat_eq pid) s.named) None)
 no_begin pid s = record {
   state = after_none (lookup (nat_eq pid) s.named);
   late = sym (append-nil (late_of pid s.late)) ∙ ap (λ (xs : List ℕ). late_of pid s.late ++ xs) (late_none s.limit_times_rate (lookup (nat_eq pid) s.named));
@@ -138,7 +143,8 @@ no_begin pid s = record {
   own = λ h. h;
 }
 
-begins_next : (pid q found x : ℕ) (s : ProgramMapState) (n : NamedMap) → x ≤ found → lookup (nat_eq q) s.named ≡ Some n → (t u : Bool) → (q == pid) ≡ t → nat_lt n.since x ≡ u →
+begins_next : (pid q found x : ℕ) (s : ProgramMapState) (n : NamedMap) → x ≤ found → lookup (nat_eq q) s.named ≡ Some n → (t u : Bool) → (q == pid) ≡ t →
+    nat_lt n.since x ≡ u →
     Kept pid s (cond (not u) s (record {
       limit_times_rate = s.limit_times_rate;
       named = insert_entry nat_eq s.named q (record { since = n.since; last = x });
@@ -147,7 +153,8 @@ begins_next : (pid q found x : ℕ) (s : ProgramMapState) (n : NamedMap) → x �
 begins_next pid q found x s n h e true true f g =
     let here : lookup (nat_eq pid) s.named ≡ Some n = ap (λ (k : ℕ). lookup (nat_eq k) s.named) (sym (same_number q pid f)) ∙ e in record {
       state = inserted pid q (record { since = n.since; last = x }) s.named true f ∙ sym (rw (here, g) refl);
-      late = late_append pid s.late (late_map s.limit_times_rate q n.last x) ∙ ap (λ (xs : List ℕ). late_of pid s.late ++ xs) (late_map_here pid q s.limit_times_rate n.last x true f ∙ sym (rw (here, g) refl));
+      late = late_append pid s.late (late_map s.limit_times_rate q n.last x)
+          ∙ ap (λ (xs : List ℕ). late_of pid s.late ++ xs) (late_map_here pid q s.limit_times_rate n.last x true f ∙ sym (rw (here, g) refl));
       limit_times_rate = refl;
       own = unique_insert q (record { since = n.since; last = x }) s.named;
     }
@@ -160,14 +167,17 @@ begins_next pid q found x s n h e true false f g =
     }
 begins_next pid q found x s n h e false true f g = record {
   state = inserted pid q (record { since = n.since; last = x }) s.named false f ∙ after_none (lookup (nat_eq pid) s.named);
-  late = late_append pid s.late (late_map s.limit_times_rate q n.last x) ∙ ap (λ (xs : List ℕ). late_of pid s.late ++ xs) (late_map_here pid q s.limit_times_rate n.last x false f ∙ late_none s.limit_times_rate (lookup (nat_eq pid) s.named));
+  late = late_append pid s.late (late_map s.limit_times_rate q n.last x)
+      ∙ ap (λ (xs : List ℕ). late_of pid s.late ++ xs)
+      (late_map_here pid q s.limit_times_rate n.last x false f ∙ late_none s.limit_times_rate (lookup (nat_eq pid) s.named));
   limit_times_rate = refl;
   own = unique_insert q (record { since = n.since; last = x }) s.named;
 }
 begins_next pid q found x s n h e false false f g = no_begin pid s
 
 begins_at : (pid q found x : ℕ) (s : ProgramMapState) (o : Option NamedMap) → x ≤ found → lookup (nat_eq q) s.named ≡ o → (t : Bool) → (q == pid) ≡ t →
-    Kept pid s (map_begins_at s q found x o) (after_begin (lookup (nat_eq pid) s.named) (cond t (Some x) None)) (late_after s.limit_times_rate (lookup (nat_eq pid) s.named) (cond t (Some x) None))
+    Kept pid s (map_begins_at s q found x o) (after_begin (lookup (nat_eq pid) s.named) (cond t (Some x) None))
+    (late_after s.limit_times_rate (lookup (nat_eq pid) s.named) (cond t (Some x) None))
 unfolding map_begins_at
 begins_at pid q found x s None h e true f =
     let here : lookup (nat_eq pid) s.named ≡ None = ap (λ (k : ℕ). lookup (nat_eq k) s.named) (sym (same_number q pid f)) ∙ e in record {
@@ -180,22 +190,28 @@ begins_at pid q found x s None h e false f = no_begin pid s
 begins_at pid q found x s (Some n) h e t f = rw (skipped found n.since x h) (begins_next pid q found x s n h e t (nat_lt n.since x) f refl)
 
 begins : (pid q found : ℕ) (s : ProgramMapState) (begun : Option (ℕ × Kind)) → begun_by_then found begun →
-    Kept pid s (map_begun s q found begun) (after_begin (lookup (nat_eq pid) s.named) (begin_on pid (Some q) begun)) (late_after s.limit_times_rate (lookup (nat_eq pid) s.named) (begin_on pid (Some q) begun))
+    Kept pid s (map_begun s q found begun) (after_begin (lookup (nat_eq pid) s.named) (begin_on pid (Some q) begun))
+    (late_after s.limit_times_rate (lookup (nat_eq pid) s.named) (begin_on pid (Some q) begun))
 unfolding map_begun table_begin
 begins pid q found s None h = by (q == pid)
   where
-    by : (t : Bool) → Kept pid s s (after_begin (lookup (nat_eq pid) s.named) (cond t None None)) (late_after s.limit_times_rate (lookup (nat_eq pid) s.named) (cond t None None))
+    by : (t : Bool) →
+        Kept pid s s (after_begin (lookup (nat_eq pid) s.named) (cond t None None))
+        (late_after s.limit_times_rate (lookup (nat_eq pid) s.named) (cond t None None))
     by true = no_begin pid s
     by false = no_begin pid s
 begins pid q found s (Some (x, Pes stamped access)) h = by (q == pid)
   where
-    by : (t : Bool) → Kept pid s s (after_begin (lookup (nat_eq pid) s.named) (cond t None None)) (late_after s.limit_times_rate (lookup (nat_eq pid) s.named) (cond t None None))
+    by : (t : Bool) →
+        Kept pid s s (after_begin (lookup (nat_eq pid) s.named) (cond t None None))
+        (late_after s.limit_times_rate (lookup (nat_eq pid) s.named) (cond t None None))
     by true = no_begin pid s
     by false = no_begin pid s
 begins pid q found s (Some (x, Table table_id)) h = by (table_id == 0x02) (q == pid) refl
   where
     by : (u t : Bool) → (q == pid) ≡ t → Kept pid s (cond u (map_begins s q found x) s)
-        (after_begin (lookup (nat_eq pid) s.named) (cond t (cond u (Some x) None) None)) (late_after s.limit_times_rate (lookup (nat_eq pid) s.named) (cond t (cond u (Some x) None) None))
+        (after_begin (lookup (nat_eq pid) s.named) (cond t (cond u (Some x) None) None))
+        (late_after s.limit_times_rate (lookup (nat_eq pid) s.named) (cond t (cond u (Some x) None) None))
     by true t f = begins_at pid q found x s (lookup (nat_eq q) s.named) h refl t f
     by false true f = no_begin pid s
     by false false f = no_begin pid s
@@ -225,8 +241,10 @@ one pid packet s (Some q) begun what h =
     let t = map_begun s q packet begun in
     let z = lookup (nat_eq pid) (at_packet packet (pids_on (Some q) what)) in
     both pid s t (map_named t q packet what) (after_begin (lookup (nat_eq pid) s.named) (begin_on pid (Some q) begun))
-    (next_named (lookup (nat_eq pid) s.named) (begin_on pid (Some q) begun) z) (late_after s.limit_times_rate (lookup (nat_eq pid) s.named) (begin_on pid (Some q) begun)) k
-    (to_state pid t (map_named t q packet what) (or_named (lookup (nat_eq pid) t.named) z) (next_named (lookup (nat_eq pid) s.named) (begin_on pid (Some q) begun) z) []
+    (next_named (lookup (nat_eq pid) s.named) (begin_on pid (Some q) begun) z)
+    (late_after s.limit_times_rate (lookup (nat_eq pid) s.named) (begin_on pid (Some q) begun)) k
+    (to_state pid t (map_named t q packet what) (or_named (lookup (nat_eq pid) t.named) z)
+    (next_named (lookup (nat_eq pid) s.named) (begin_on pid (Some q) begun) z) []
     (ap (λ (o : Option NamedMap). or_named o z) k.state) (names pid q packet t what))
 
 abbrev pub begin_in : ℕ → FindingView → Option ℕ
@@ -241,7 +259,8 @@ state_after pid o (f ∷ found) = state_after pid (next_named o (begin_in pid f)
 
 unfoldable pub lates_after : ℕ → ℕ → Option NamedMap → List FindingView → List ℕ
 lates_after pid limit_times_rate o [] = []
-lates_after pid limit_times_rate o (f ∷ found) = late_after limit_times_rate o (begin_in pid f) ++ lates_after pid limit_times_rate (next_named o (begin_in pid f) (naming_in pid f)) found
+lates_after pid limit_times_rate o (f ∷ found) = late_after limit_times_rate o (begin_in pid f)
+    ++ lates_after pid limit_times_rate (next_named o (begin_in pid f) (naming_in pid f)) found
 
 abbrev pub all_begun_by_then : List FindingView → Type 0
 all_begun_by_then [] = Unit {0}

@@ -1,5 +1,6 @@
 -- Program maps of one PID: from the packet on in which it is first named.
-use Rattle.std.proofs.Common.{◌≡◌, ℕ, ◌*◌, ◌≤◌, ◌==◌, Bool, true, false, cond, nat_eq, List, [], ◌∷◌, ◌++◌, filter, Option, Some, None, refl, sym, ap, subst, ◌∙◌, arith, append_assoc}
+use Rattle.std.proofs.Common.{◌≡◌, ℕ, ◌*◌, ◌≤◌, ◌==◌, Bool, true, false, cond, nat_eq, List, [], ◌∷◌, ◌++◌, filter, Option, Some, None, refl, sym, ap, subst}
+use Rattle.std.proofs.Common.{◌∙◌, arith, append_assoc}
 use Rattle.std.specs.Prelude.{nat_lt}
 use Rattle.std.specs.List.{filter_map, cons_option}
 use Rattle.std.specs.Map.{lookup}
@@ -28,18 +29,23 @@ begins_all pid found = filter_map (λ f. begin_in pid f) found
 -- 1. Once it is named
 
 state_known : (pid since last : ℕ) (found : List FindingView) →
-    state_after pid (Some (record { since = since; last = last })) found ≡ Some (record { since = since; last = last_of last (later since (begins_all pid found)) })
+    state_after pid (Some (record { since = since; last = last })) found ≡ Some
+    (record { since = since; last = last_of last (later since (begins_all pid found)) })
 unfolding state_after
 state_known pid since last [] = refl
 state_known pid since last (f ∷ found) = by (begin_in pid f) (λ l. state_known pid since l found)
   where
-    inner : (x : ℕ) → ((l : ℕ) → state_after pid (Some (record { since = since; last = l })) found ≡ Some (record { since = since; last = last_of l (later since (begins_all pid found)) })) →
-        (u : Bool) → state_after pid (next_named (cond u (Some (record { since = since; last = x })) (Some (record { since = since; last = last }))) None (naming_in pid f)) found
+    inner : (x : ℕ) →
+        ((l : ℕ) → state_after pid (Some (record { since = since; last = l })) found ≡ Some
+        (record { since = since; last = last_of l (later since (begins_all pid found)) })) →
+        (u : Bool) → state_after pid
+        (next_named (cond u (Some (record { since = since; last = x })) (Some (record { since = since; last = last }))) None (naming_in pid f)) found
         ≡ Some (record { since = since; last = last_of last (cond u (x ∷ later since (begins_all pid found)) (later since (begins_all pid found))) })
     inner x h true = h x
     inner x h false = h last
 
-    turn : (u : Bool) (x : ℕ) → next_named (cond u (Some (record { since = since; last = x })) (Some (record { since = since; last = last }))) None (naming_in pid f)
+    turn : (u : Bool) (x : ℕ) →
+        next_named (cond u (Some (record { since = since; last = x })) (Some (record { since = since; last = last }))) None (naming_in pid f)
         ≡ cond u (Some (record { since = since; last = x })) (Some (record { since = since; last = last }))
     turn true x = refl
     turn false x = refl
@@ -49,7 +55,9 @@ state_known pid since last (f ∷ found) = by (begin_in pid f) (λ l. state_know
     named_out true x z e = rw e refl
     named_out false x z e = rw e refl
 
-    by : (b : Option ℕ) → ((l : ℕ) → state_after pid (Some (record { since = since; last = l })) found ≡ Some (record { since = since; last = last_of l (later since (begins_all pid found)) })) →
+    by : (b : Option ℕ) →
+        ((l : ℕ) → state_after pid (Some (record { since = since; last = l })) found ≡ Some
+        (record { since = since; last = last_of l (later since (begins_all pid found)) })) →
         state_after pid (next_named (Some (record { since = since; last = last })) b (naming_in pid f)) found
         ≡ Some (record { since = since; last = last_of last (later since (cons_option b (begins_all pid found))) })
     by None h = h last
@@ -58,19 +66,26 @@ state_known pid since last (f ∷ found) = by (begin_in pid f) (λ l. state_know
         ∙ inner x h (nat_lt since x)
 
 late_known : (pid limit_times_rate since last : ℕ) (found : List FindingView) →
-    lates_after pid limit_times_rate (Some (record { since = since; last = last })) found ≡ after limit_times_rate (Some last) (later since (begins_all pid found))
+    lates_after pid limit_times_rate (Some (record { since = since; last = last })) found ≡ after limit_times_rate (Some last)
+    (later since (begins_all pid found))
 unfolding lates_after
 late_known pid limit_times_rate since last [] = refl
 late_known pid limit_times_rate since last (f ∷ found) = by (begin_in pid f) (λ l. late_known pid limit_times_rate since l found)
   where
-    inner : (x : ℕ) → ((l : ℕ) → lates_after pid limit_times_rate (Some (record { since = since; last = l })) found ≡ after limit_times_rate (Some l) (later since (begins_all pid found))) →
-        (u : Bool) → nat_lt since x ≡ u → late_after limit_times_rate (Some (record { since = since; last = last })) (Some x) ++ lates_after pid limit_times_rate (next_named (Some (record { since = since; last = last })) (Some x) (naming_in pid f)) found
+    inner : (x : ℕ) →
+        ((l : ℕ) → lates_after pid limit_times_rate (Some (record { since = since; last = l })) found ≡ after limit_times_rate (Some l)
+        (later since (begins_all pid found))) →
+        (u : Bool) → nat_lt since x ≡ u → late_after limit_times_rate (Some (record { since = since; last = last })) (Some x)
+        ++ lates_after pid limit_times_rate (next_named (Some (record { since = since; last = last })) (Some x) (naming_in pid f)) found
         ≡ after limit_times_rate (Some last) (cond (nat_lt since x) (x ∷ later since (begins_all pid found)) (later since (begins_all pid found)))
     inner x h true e = rw e (ap (λ (xs : List ℕ). step limit_times_rate (Some last) x ++ xs) (h x))
     inner x h false e = rw e (h last)
 
-    by : (b : Option ℕ) → ((l : ℕ) → lates_after pid limit_times_rate (Some (record { since = since; last = l })) found ≡ after limit_times_rate (Some l) (later since (begins_all pid found))) →
-        late_after limit_times_rate (Some (record { since = since; last = last })) b ++ lates_after pid limit_times_rate (next_named (Some (record { since = since; last = last })) b (naming_in pid f)) found
+    by : (b : Option ℕ) →
+        ((l : ℕ) → lates_after pid limit_times_rate (Some (record { since = since; last = l })) found ≡ after limit_times_rate (Some l)
+        (later since (begins_all pid found))) →
+        late_after limit_times_rate (Some (record { since = since; last = last })) b
+        ++ lates_after pid limit_times_rate (next_named (Some (record { since = since; last = last })) b (naming_in pid f)) found
         ≡ after limit_times_rate (Some last) (later since (cons_option b (begins_all pid found)))
     by None h = h last
     by (Some x) h = inner x h (nat_lt since x) refl
@@ -100,7 +115,8 @@ naming_is : (pid packet z : ℕ) (pids : List ℕ) → lookup (nat_eq pid) (at_p
 naming_is pid packet z [] e = absurd (none_some z e)
 naming_is pid packet z (q ∷ pids) e = by (nat_eq pid q) (naming_is pid packet z pids) e
   where
-    by : (t : Bool) → (lookup (nat_eq pid) (at_packet packet pids) ≡ Some z → packet ≡ z) → cond t (Some packet) (lookup (nat_eq pid) (at_packet packet pids)) ≡ Some z → packet ≡ z
+    by : (t : Bool) → (lookup (nat_eq pid) (at_packet packet pids) ≡ Some z → packet ≡ z) →
+        cond t (Some packet) (lookup (nat_eq pid) (at_packet packet pids)) ≡ Some z → packet ≡ z
     by true h k = some_some packet z k
     by false h k = h k
 
@@ -159,7 +175,8 @@ state_new pid low (f ∷ found) h b = by (naming_in pid f) refl (state_new pid f
         (sym (dropped since (begin_in pid f) (begins_all pid found) (λ x k. let m : x ≤ f.packet = begin_le pid f.packet x f.pid f.begun b.0 k in omega arith)))
 
     by : (z : Option ℕ) → naming_in pid f ≡ z → state_after pid None found ≡ named_then (since_of pid found) (begins_all pid found) →
-        state_after pid (next_named None (begin_in pid f) z) found ≡ named_then (or_since z (since_of pid found)) (cons_option (begin_in pid f) (begins_all pid found))
+        state_after pid (next_named None (begin_in pid f) z) found ≡ named_then (or_since z (since_of pid found))
+        (cons_option (begin_in pid f) (begins_all pid found))
     by None e k = k ∙ same (since_of pid found) refl
     by (Some w) e k =
         let n : f.packet ≡ w = naming_is pid f.packet w _ e in
@@ -173,15 +190,18 @@ unfolding lates_after since_of
 late_new pid limit_times_rate low [] h b = refl
 late_new pid limit_times_rate low (f ∷ found) h b = by (naming_in pid f) refl (late_new pid limit_times_rate f.packet found h.1 b.1)
   where
-    same : (o : Option ℕ) → since_of pid found ≡ o → late_then limit_times_rate o (begins_all pid found) ≡ late_then limit_times_rate o (cons_option (begin_in pid f) (begins_all pid found))
+    same : (o : Option ℕ) → since_of pid found ≡ o →
+        late_then limit_times_rate o (begins_all pid found) ≡ late_then limit_times_rate o (cons_option (begin_in pid f) (begins_all pid found))
     same None e = refl
     same (Some since) e =
         let n : f.packet ≤ since = since_from pid f.packet since found h.1 e in
         ap (λ (xs : List ℕ). after limit_times_rate (Some since) xs)
         (sym (dropped since (begin_in pid f) (begins_all pid found) (λ x k. let m : x ≤ f.packet = begin_le pid f.packet x f.pid f.begun b.0 k in omega arith)))
 
-    by : (z : Option ℕ) → naming_in pid f ≡ z → lates_after pid limit_times_rate None found ≡ late_then limit_times_rate (since_of pid found) (begins_all pid found) →
-        lates_after pid limit_times_rate (next_named None (begin_in pid f) z) found ≡ late_then limit_times_rate (or_since z (since_of pid found)) (cons_option (begin_in pid f) (begins_all pid found))
+    by : (z : Option ℕ) → naming_in pid f ≡ z →
+        lates_after pid limit_times_rate None found ≡ late_then limit_times_rate (since_of pid found) (begins_all pid found) →
+        lates_after pid limit_times_rate (next_named None (begin_in pid f) z) found ≡ late_then limit_times_rate (or_since z (since_of pid found))
+        (cons_option (begin_in pid f) (begins_all pid found))
     by None e k = k ∙ same (since_of pid found) refl
     by (Some w) e k =
         let n : f.packet ≡ w = naming_is pid f.packet w _ e in
@@ -195,7 +215,8 @@ abbrev pub ended_then : ℕ → ℕ → Option NamedMap → List ℕ
 ended_then limit_times_rate count None = []
 ended_then limit_times_rate count (Some n) = step limit_times_rate (Some n.last) count
 
-after_last : (limit_times_rate b y : ℕ) (xs : List ℕ) → after limit_times_rate (Some b) (xs ++ y ∷ []) ≡ after limit_times_rate (Some b) xs ++ step limit_times_rate (Some (last_of b xs)) y
+after_last : (limit_times_rate b y : ℕ) (xs : List ℕ) → after limit_times_rate (Some b) (xs ++ y ∷ []) ≡ after limit_times_rate (Some b) xs
+    ++ step limit_times_rate (Some (last_of b xs)) y
 after_last limit_times_rate b y [] = append-nil (step limit_times_rate (Some b) y)
 after_last limit_times_rate b y (x ∷ xs) = ap (λ (l : List ℕ). step limit_times_rate (Some b) x ++ l) (after_last limit_times_rate x y xs)
     ∙ sym (append_assoc (step limit_times_rate (Some b) x) (after limit_times_rate (Some x) xs) (step limit_times_rate (Some (last_of x xs)) y))

@@ -1,5 +1,6 @@
 -- A stream packet by packet, and what is seen of its packets as a whole.
-use Rattle.std.proofs.Common.{◌≡◌, ℕ, ◌+◌, ◌^◌, ◌<◌, ◌==◌, Bool, true, false, cond, List, [], ◌∷◌, ◌++◌, length, filter, None, Result, Ok, Err, refl, sym, ap, ◌∙◌, arith, append_assoc}
+use Rattle.std.proofs.Common.{◌≡◌, ℕ, ◌+◌, ◌^◌, ◌<◌, ◌==◌, Bool, true, false, cond, List, [], ◌∷◌, ◌++◌, length, filter, None, Result, Ok, Err, refl, sym, ap}
+use Rattle.std.proofs.Common.{◌∙◌, arith, append_assoc}
 use Rattle.std.specs.List.{enumerate_from, filter_map, flat_map, cons_option}
 use Rattle.std.proofs.lemmas.List.{append-nil}
 use Rattle.ts_packet.specs.declared.packet.PacketError.{PacketError}
@@ -59,7 +60,8 @@ unfolding packets_taken taken_all
 taken_demux s t [] e = e
 taken_demux s t (bytes ∷ packets) e = taken_demux (packet_taken s bytes) (stream.taken t bytes) packets (next_besides s.demux t bytes e)
 
-pub taken_count : (s : MonitorState) (packets : List (List ℕ)) → s.packets + length packets < 2 ^ 64 → (packets_taken s packets).packets ≡ s.packets + length packets
+pub taken_count : (s : MonitorState) (packets : List (List ℕ)) → s.packets + length packets < 2 ^ 64 → (packets_taken s packets).packets ≡ s.packets
+    + length packets
 unfolding packets_taken
 taken_count s [] h = omega arith
 taken_count s (bytes ∷ packets) h =
@@ -90,7 +92,8 @@ fault_of_packet s index (Err refusals.FieldTooLong) = refl
 fault_of_packet s index (Err refusals.PartTooLong) = refl
 fault_of_packet s index (Ok packet) = by packet.header.transport_error_indicator refl
   where
-    by : (e : Bool) → packet.header.transport_error_indicator ≡ e → (packet_watched_by s index (Ok packet)).faults ≡ s.faults ++ failing None index (packet_rule (Ok packet))
+    by : (e : Bool) → packet.header.transport_error_indicator ≡ e → (packet_watched_by s index (Ok packet)).faults ≡ s.faults
+        ++ failing None index (packet_rule (Ok packet))
     by true e = rw e refl
     by false e = rw e (sym (append-nil s.faults))
 
@@ -121,7 +124,8 @@ unfolding packet_watched_by packet_counted_by pcr_pair marked_all
 pcr_of_packet s index (Err error) = refl
 pcr_of_packet s index (Ok packet) = by packet.header.transport_error_indicator refl (has_pcr packet.adaptation) refl
   where
-    by : (e : Bool) → packet.header.transport_error_indicator ≡ e → (t : Bool) → has_pcr packet.adaptation ≡ t → (packet_watched_by s index (Ok packet)).pcr ≡ marked_all s.pcr (pcr_pair index (Ok packet))
+    by : (e : Bool) → packet.header.transport_error_indicator ≡ e → (t : Bool) → has_pcr packet.adaptation ≡ t →
+        (packet_watched_by s index (Ok packet)).pcr ≡ marked_all s.pcr (pcr_pair index (Ok packet))
     by true e t h = rw e refl
     by false e true h = rw (e, h) refl
     by false e false h = rw (e, h) refl
@@ -148,7 +152,8 @@ pcr_places_of pid (p ∷ packets) = by (packet_at p.1) (pcr_places_of pid packet
 
     on : (packet : PacketView) (e h t : Bool) → packet.header.transport_error_indicator ≡ e → has_pcr packet.adaptation ≡ h → (packet.header.pid == pid) ≡ t →
         places_of pid (pcr_pairs packets) ≡ pcr_places (listed pid packets) →
-        places_of pid (pcr_pair p.0 (Ok packet) ++ pcr_pairs packets) ≡ pcr_places (filter (λ entry. is_of_pid pid entry.packet) (record { index = p.0; bytes = p.1; packet = packet } ∷ rest))
+        places_of pid (pcr_pair p.0 (Ok packet) ++ pcr_pairs packets) ≡ pcr_places
+        (filter (λ entry. is_of_pid pid entry.packet) (record { index = p.0; bytes = p.1; packet = packet } ∷ rest))
     on packet true h true e f g k = rw (e, g) k
     on packet true h false e f g k = rw (e, g) k
     on packet false true true e f g k = rw (e, g, f, g) (ap (λ (xs : List ℕ). p.0 ∷ xs) k)
@@ -179,16 +184,19 @@ unfolding carried_all
 carried_append entries [] ys = refl
 carried_append entries (x ∷ xs) ys = carried_append (packet_counted entries x.0 x.1) xs ys
 
-carried_of_packet : (s : PacketState) (index : ℕ) (r : Result PacketView PacketError) → (packet_watched_by s index r).packet_counts ≡ carried_all s.packet_counts (start_of r)
+carried_of_packet : (s : PacketState) (index : ℕ) (r : Result PacketView PacketError) →
+    (packet_watched_by s index r).packet_counts ≡ carried_all s.packet_counts (start_of r)
 unfolding packet_watched_by packet_counted_by start_of carried_all
 carried_of_packet s index (Err error) = refl
 carried_of_packet s index (Ok packet) = by packet.header.transport_error_indicator refl
   where
-    by : (e : Bool) → packet.header.transport_error_indicator ≡ e → (packet_watched_by s index (Ok packet)).packet_counts ≡ carried_all s.packet_counts (start_of (Ok packet))
+    by : (e : Bool) → packet.header.transport_error_indicator ≡ e →
+        (packet_watched_by s index (Ok packet)).packet_counts ≡ carried_all s.packet_counts (start_of (Ok packet))
     by true e = rw e refl
     by false e = rw e refl
 
-pub seen_carried : (seen : PacketState) (packets : List (ℕ × List ℕ)) → (seen_all seen packets).packet_counts ≡ carried_all seen.packet_counts (starts_of packets)
+pub seen_carried : (seen : PacketState) (packets : List (ℕ × List ℕ)) →
+    (seen_all seen packets).packet_counts ≡ carried_all seen.packet_counts (starts_of packets)
 unfolding seen_all carried_all
 seen_carried seen [] = refl
 seen_carried seen (p ∷ packets) =

@@ -9,8 +9,10 @@ pub inserted : {V : Type 0} (pid q : ℕ) (x : V) (es : List (ℕ × V)) (t : Bo
 inserted pid q x [] t e = rw (turned_test pid q ∙ e) refl
 inserted {V} pid q x (y ∷ es) t e = by t e (q == y.0) refl (inserted pid q x es t e)
   where
-    by : (t : Bool) → (q == pid) ≡ t → (u : Bool) → (q == y.0) ≡ u → lookup (nat_eq pid) (insert_entry nat_eq es q x) ≡ cond t (Some x) (lookup (nat_eq pid) es) →
-        lookup (nat_eq pid) (cond u ((y.0, x) ∷ es) (y ∷ insert_entry nat_eq es q x)) ≡ cond t (Some x) (cond (nat_eq pid y.0) (Some y.1) (lookup (nat_eq pid) es))
+    by : (t : Bool) → (q == pid) ≡ t → (u : Bool) → (q == y.0) ≡ u →
+        lookup (nat_eq pid) (insert_entry nat_eq es q x) ≡ cond t (Some x) (lookup (nat_eq pid) es) →
+        lookup (nat_eq pid) (cond u ((y.0, x) ∷ es) (y ∷ insert_entry nat_eq es q x)) ≡ cond t (Some x)
+        (cond (nat_eq pid y.0) (Some y.1) (lookup (nat_eq pid) es))
     by true e true f h = let g : (pid == y.0) ≡ true = subst (λ (k : ℕ). (k == y.0) ≡ true) (same_number q pid e) f in rw g refl
     by false e true f h = let g : (pid == y.0) ≡ false = subst (λ (k : ℕ). (pid == k) ≡ false) (same_number q y.0 f) (turned_test pid q ∙ e) in rw g refl
     by true e false f h = let g : (pid == y.0) ≡ false = subst (λ (k : ℕ). (k == y.0) ≡ false) (same_number q pid e) f in rw g h

@@ -15,6 +15,7 @@ unfolding packet_counted_by packet_watched_by
 plain_watched s index bytes plain = rw plain refl
 
 pub plain_taken : (s : MonitorState) (bytes : List ℕ) → stream.found_in s.demux bytes ≡ [] →
-    record s { demux = headers_taken s.demux bytes; packets = stream.next_packet s.packets; seen = packet_watched s.seen s.packets bytes } ≡ packet_taken s bytes
+    record s { demux = headers_taken s.demux bytes; packets = stream.next_packet s.packets; seen = packet_watched s.seen s.packets bytes } ≡ packet_taken s
+    bytes
 unfolding all_noted
 plain_taken s bytes none = rw none refl

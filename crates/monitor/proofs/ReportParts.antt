@@ -12,8 +12,10 @@ use Rattle.monitor.specs.PacketStates.{PacketState}
 use Rattle.monitor.specs.Reports.{ReportView, all_counts, all_faults, grouped_faults, pid_counts, report_of}
 
 -- the counts of the PIDs and the faults in order are a report
-pub reported : (s : MonitorState) (demux : StreamState) (packets : ℕ) (seen : PacketState) (found : FindingState) (pids : List PidCounts) (faults : List StreamFault)
-    (finding_counts : List (ℕ × FindingCounts)) (packet_counts : List (ℕ × PacketCounts)) → record { demux = demux; packets = packets; seen = seen; found = found } ≡ s →
+pub reported : (s : MonitorState) (demux : StreamState) (packets : ℕ) (seen : PacketState) (found : FindingState) (pids : List PidCounts)
+    (faults : List StreamFault)
+    (finding_counts : List (ℕ × FindingCounts)) (packet_counts : List (ℕ × PacketCounts)) →
+    record { demux = demux; packets = packets; seen = seen; found = found } ≡ s →
     pids ≡ map (pid_counts finding_counts) packet_counts → finding_counts ≡ found.finding_counts → packet_counts ≡ seen.packet_counts →
     faults ≡ in_order (grouped_faults packets seen found) → record { packets = packets; pids = pids; faults = faults } ≡ report_of s
 unfolding report_of all_counts all_faults

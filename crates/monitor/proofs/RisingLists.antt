@@ -34,7 +34,8 @@ contains_from_has z (x ∷ xs) e =
     (either (same z x) (has z xs) e)
 
 -- two lists that contain the same have the same
-pub has_same : (xs ys : List StreamFault) → ((z : StreamFault) → Contains xs z → Contains ys z) → ((z : StreamFault) → Contains ys z → Contains xs z) → (z : StreamFault) → has z xs ≡ has z ys
+pub has_same : (xs ys : List StreamFault) → ((z : StreamFault) → Contains xs z → Contains ys z) → ((z : StreamFault) → Contains ys z → Contains xs z) →
+    (z : StreamFault) → has z xs ≡ has z ys
 has_same xs ys f g z = by (has z xs) (has z ys) refl refl
   where
     by : (a b : Bool) → has z xs ≡ a → has z ys ≡ b → a ≡ b
@@ -59,7 +60,8 @@ rising_sorted (x ∷ xs) h = (λ z e. below xs z h.0 e, rising_sorted xs h.1)
 
 -- so it is the list in order, where each contains what the other has
 pub sorted_is_in_order : (xs ys : List StreamFault) → IsStrictlySortedBy faults_ord.cmp-value.it ys →
-    ((z : StreamFault) → Contains xs z → Any (λ y. faults_ord.cmp-value.it z y ≡ Equal) ys) → ((z : StreamFault) → Contains ys z → Contains xs z) → ys ≡ in_order xs
+    ((z : StreamFault) → Contains xs z → Any (λ y. faults_ord.cmp-value.it z y ≡ Equal) ys) → ((z : StreamFault) → Contains ys z → Contains xs z) →
+    ys ≡ in_order xs
 sorted_is_in_order xs ys s kept only =
     settled ys (in_order xs) (rising_sorted ys s) (rising_in_order xs)
     (λ z. has_same ys xs only (λ z h. let a = kept z h in subst (Contains ys) (sym (same_from_equal z a.1 a.4)) (a.0, a.2, a.3)) z ∙ sym (has_in_order z xs))

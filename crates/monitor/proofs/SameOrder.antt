@@ -81,12 +81,15 @@ rising_placed f [] h = (λ x e. absurd (no_false (sym e)), tt)
 rising_placed f (g ∷ faults) h = by (is_before f g) (is_before g f) refl refl (rising_placed f faults h.1)
   where
     first : (x : StreamFault) → is_before f g ≡ true → (same x g || has x faults) ≡ true → is_before f x ≡ true
-    first x p e = ⊎_elim (λ s. subst (λ (y : StreamFault). is_before f y ≡ true) (sym (same_is x g s)) p) (λ s. before_trans f g x p (h.0 x s)) (either (same x g) (has x faults) e)
+    first x p e = ⊎_elim (λ s. subst (λ (y : StreamFault). is_before f y ≡ true) (sym (same_is x g s)) p) (λ s. before_trans f g x p (h.0 x s))
+        (either (same x g) (has x faults) e)
 
     next : (x : StreamFault) → is_before g f ≡ true → has x (placed f faults) ≡ true → is_before g x ≡ true
-    next x q e = ⊎_elim (λ s. subst (λ (y : StreamFault). is_before g y ≡ true) (sym (same_is x f s)) q) (λ s. h.0 x s) (either (same x f) (has x faults) (sym (has_placed x f faults) ∙ e))
+    next x q e = ⊎_elim (λ s. subst (λ (y : StreamFault). is_before g y ≡ true) (sym (same_is x f s)) q) (λ s. h.0 x s)
+        (either (same x f) (has x faults) (sym (has_placed x f faults) ∙ e))
 
-    by : (a b : Bool) → is_before f g ≡ a → is_before g f ≡ b → rising (placed f faults) → rising (cond a (f ∷ g ∷ faults) (cond b (g ∷ placed f faults) (g ∷ faults)))
+    by : (a b : Bool) → is_before f g ≡ a → is_before g f ≡ b → rising (placed f faults) →
+        rising (cond a (f ∷ g ∷ faults) (cond b (g ∷ placed f faults) (g ∷ faults)))
     by true b p q k = (λ x e. first x p e, h)
     by false true p q k = (λ x e. next x q e, k)
     by false false p q k = h
@@ -102,7 +105,9 @@ unfolding has
 heads x y xs ys h k e =
     let in_y : (same x y || has x ys) ≡ true = sym (e x) ∙ ap (λ (b : Bool). b || has x xs) (same_itself x) in
     let in_x : (same y x || has y xs) ≡ true = e y ∙ ap (λ (b : Bool). b || has y ys) (same_itself y) in
-    ⊎_elim (λ s. same_is x y s) (λ s. ⊎_elim (λ t. sym (same_is y x t)) (λ t. absurd (before_apart x y (h.0 y t) (k.0 x s))) (either (same y x) (has y xs) in_x)) (either (same x y) (has x ys) in_y)
+    ⊎_elim (λ s. same_is x y s)
+    (λ s. ⊎_elim (λ t. sym (same_is y x t)) (λ t. absurd (before_apart x y (h.0 y t) (k.0 x s))) (either (same y x) (has y xs) in_x))
+    (either (same x y) (has x ys) in_y)
 
 not_above : (x z : StreamFault) (xs : List StreamFault) → above x xs → same z x ≡ true → has z xs ≡ false
 not_above x z xs h s = by (has z xs) refl
@@ -111,7 +116,8 @@ not_above x z xs h s = by (has z xs) refl
     by true e = absurd (no_false (sym (subst (λ (y : StreamFault). is_before x y ≡ true) (same_is z x s) (h z e)) ∙ before_itself x))
     by false e = refl
 
-tails : (x : StreamFault) (xs ys : List StreamFault) → above x xs → above x ys → ((z : StreamFault) → has z (x ∷ xs) ≡ has z (x ∷ ys)) → (z : StreamFault) → has z xs ≡ has z ys
+tails : (x : StreamFault) (xs ys : List StreamFault) → above x xs → above x ys → ((z : StreamFault) → has z (x ∷ xs) ≡ has z (x ∷ ys)) → (z : StreamFault) →
+    has z xs ≡ has z ys
 unfolding has
 tails x xs ys h k e z = by (same z x) refl (e z)
   where

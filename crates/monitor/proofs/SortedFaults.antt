@@ -15,7 +15,8 @@ lex x y rest = cond (x == y) rest (nat_lt x y)
 lex_trans : (x y z : ℕ) (r s t : Bool) → (r ≡ true → s ≡ true → t ≡ true) → lex x y r ≡ true → lex y z s ≡ true → lex x z t ≡ true
 lex_trans x y z r s t k = by (x == y) (y == z) (x == z) refl refl refl
   where
-    by : (a b c : Bool) → (x == y) ≡ a → (y == z) ≡ b → (x == z) ≡ c → cond a r (nat_lt x y) ≡ true → cond b s (nat_lt y z) ≡ true → cond c t (nat_lt x z) ≡ true
+    by : (a b c : Bool) → (x == y) ≡ a → (y == z) ≡ b → (x == z) ≡ c → cond a r (nat_lt x y) ≡ true → cond b s (nat_lt y z) ≡ true →
+        cond c t (nat_lt x z) ≡ true
     by true true true e f g p q = k p q
     by true true false e f g p q = absurd (grind (arith, nat_tests))
     by true false true e f g p q = absurd (grind (arith, nat_tests))
@@ -94,14 +95,16 @@ rule_back rules.Cut = refl
 
 pub before_trans : (f g h : StreamFault) → is_before f g ≡ true → is_before g h ≡ true → is_before f h ≡ true
 unfolding is_before
-before_trans f g h = lex_trans f.packet g.packet h.packet _ _ _ (lex_trans (rule_number f.rule) (rule_number g.rule) (rule_number h.rule) _ _ _ (pid_trans f.pid g.pid h.pid))
+before_trans f g h =
+    lex_trans f.packet g.packet h.packet _ _ _ (lex_trans (rule_number f.rule) (rule_number g.rule) (rule_number h.rule) _ _ _ (pid_trans f.pid g.pid h.pid))
 
 pub before_apart : (f g : StreamFault) → is_before f g ≡ true → is_before g f ≡ true → ⊥
 unfolding is_before
 before_apart f g = lex_apart f.packet g.packet _ _ (lex_apart (rule_number f.rule) (rule_number g.rule) _ _ (pid_apart f.pid g.pid))
 
 same_fault : (f g : StreamFault) → f.packet ≡ g.packet → f.rule ≡ g.rule → f.pid ≡ g.pid → f ≡ g
-same_fault f g p r q = ap (λ (k : ℕ). record f { packet = k }) p ∙ ap (λ (k : Rule). record f { packet = g.packet; rule = k }) r ∙ ap (λ (k : Option ℕ). record g { pid = k }) q
+same_fault f g p r q = ap (λ (k : ℕ). record f { packet = k }) p ∙ ap (λ (k : Rule). record f { packet = g.packet; rule = k }) r
+    ∙ ap (λ (k : Option ℕ). record g { pid = k }) q
 
 pub before_none : (f g : StreamFault) → is_before f g ≡ false → is_before g f ≡ false → f ≡ g
 unfolding is_before

@@ -1,5 +1,6 @@
 -- The report by what is kept of a stream is the report by its packets and findings.
-use Rattle.std.proofs.Common.{◌≡◌, ℕ, zero-add, ◌+◌, ◌-◌, ◌*◌, ◌/◌, ◌%◌, ◌^◌, ◌<◌, ◌==◌, Bool, true, false, cond, nat_eq, List, [], ◌∷◌, ◌++◌, length, map, Option, None, refl, sym, ap, ap₂, subst, ◌∙◌, arith, append_assoc}
+use Rattle.std.proofs.Common.{◌≡◌, ℕ, zero-add, ◌+◌, ◌-◌, ◌*◌, ◌/◌, ◌%◌, ◌^◌, ◌<◌, ◌==◌, Bool, true, false, cond, nat_eq, List, [], ◌∷◌, ◌++◌, length, map}
+use Rattle.std.proofs.Common.{Option, None, refl, sym, ap, ap₂, subst, ◌∙◌, arith, append_assoc}
 use Rattle.std.specs.Prelude.{not}
 use Rattle.std.specs.List.{enumerate_from, flat_map}
 use Rattle.std.specs.Map.{lookup}
@@ -21,7 +22,8 @@ use Rattle.monitor.specs.TableStates.{new_watch, table_marked}
 use Rattle.monitor.specs.PacketStates.{PacketState, no_packets, packet_failed}
 use Rattle.monitor.specs.FindingStates.{FindingState, all_noted, none_noted}
 use Rattle.monitor.specs.MonitorStates.{MonitorState, found_to_end, none_taken, packet_taken, packets_taken, pat_marked, seen_to_end, stream_ended}
-use Rattle.monitor.specs.Reports.{ended_after, ReportView, all_counts, all_faults, ended_map, grouped_faults, is_cut, late_fault, found_faults, pid_counts, report_of, watched}
+use Rattle.monitor.specs.Reports.{ended_after, ReportView, all_counts, all_faults, ended_map, grouped_faults, is_cut, late_fault, found_faults, pid_counts}
+use Rattle.monitor.specs.Reports.{report_of, watched}
 use Rattle.monitor.specs.Rules.{fault}
 use Rattle.monitor.specs.InOrder.{in_order}
 use Rattle.monitor.specs.CountsOfPids.{counts_of, counts_of_all, first_seen}
@@ -31,7 +33,8 @@ use Rattle.monitor.specs.ReportOf.{stream_report}
 use Rattle.monitor.specs.Laws.{PacketByPacket, ReportWithoutState}
 use Rattle.monitor.proofs.SameOrder.{in_order_same}
 use Rattle.monitor.proofs.LateFaults.{alike, alike_append, alike_is}
-use Rattle.monitor.proofs.PacketSteps.{carried_all, noted_append, seen_all, seen_carried, seen_faults, seen_pcr, starts_of, taken_count, taken_demux, taken_found, taken_seen}
+use Rattle.monitor.proofs.PacketSteps.{carried_all, noted_append, seen_all, seen_carried, seen_faults, seen_pcr, starts_of, taken_count, taken_demux}
+use Rattle.monitor.proofs.PacketSteps.{taken_found, taken_seen}
 use Rattle.monitor.proofs.FindingSteps.{all_is, counts_of_found, faults_of_all, maps_of_all, table_of_all}
 use Rattle.monitor.proofs.Tallies.{carried_is, noted_is}
 use Rattle.monitor.proofs.FirstSeen.{by_keys, carried_unique, keys_first_seen, pids_are}
@@ -66,7 +69,8 @@ parts rate limit bytes n =
     let found : s.found ≡ all_noted (none_noted rate) (found_in_all start packets) = taken_found none start packets refl in
     let all : all_noted s.found (ended_found s.demux.packets s.demux.states) ≡ all_noted (none_noted rate) (found_whole bytes) =
     ap₂ (λ (m : FindingState) (d : StreamState). all_noted m (ended_found d.packets d.states)) found (taken_demux none start packets refl)
-    ∙ all_alike (all_noted (none_noted rate) (found_in_all start packets)) (ended_found t.packets (states_without_bodies t.states)) (ended_found t.packets t.states) (flat_same t.packets t.states)
+    ∙ all_alike (all_noted (none_noted rate) (found_in_all start packets)) (ended_found t.packets (states_without_bodies t.states))
+    (ended_found t.packets t.states) (flat_same t.packets t.states)
     ∙ ap (all_noted (all_noted (none_noted rate) (found_in_all start packets))) (sym (ended_whole bytes))
     ∙ sym (noted_append (none_noted rate) (found_in_all start packets) (finished t).found) in record {
       packets = count;
@@ -80,11 +84,13 @@ cut_is : (seen : PacketState) (bytes : List ℕ) → (seen_to_end seen (length b
 unfolding seen_to_end
 cut_is seen bytes = by (length bytes % 188 == 0)
   where
-    by : (t : Bool) → (cond (not t) (packet_failed seen (length bytes / 188) rules.Cut) seen).faults ≡ seen.faults ++ cond t [] (fault rules.Cut None (length bytes / 188) ∷ [])
+    by : (t : Bool) → (cond (not t) (packet_failed seen (length bytes / 188) rules.Cut) seen).faults ≡ seen.faults
+        ++ cond t [] (fault rules.Cut None (length bytes / 188) ∷ [])
     by true = sym (append-nil seen.faults)
     by false = refl
 
-cut_keeps : (seen : PacketState) (count : ℕ) (cut : Bool) → ((seen_to_end seen count cut).pcr ≡ seen.pcr) × ((seen_to_end seen count cut).packet_counts ≡ seen.packet_counts)
+cut_keeps : (seen : PacketState) (count : ℕ) (cut : Bool) →
+    ((seen_to_end seen count cut).pcr ≡ seen.pcr) × ((seen_to_end seen count cut).packet_counts ≡ seen.packet_counts)
 unfolding seen_to_end
 cut_keeps seen count true = (refl, refl)
 cut_keeps seen count false = (refl, refl)
@@ -95,7 +101,8 @@ unfolding whole_seen
 packets_alike rate limit bytes =
     let ps = enumerate_from 0 (cut_packets bytes) in
     let seen = seen_all (no_packets (limit * rate)) ps in
-    let pcr : (seen_to_end seen (length bytes / 188) (is_cut bytes)).pcr ≡ _ = (cut_keeps seen (length bytes / 188) (is_cut bytes)).0 ∙ seen_pcr (no_packets (limit * rate)) ps in
+    let pcr : (seen_to_end seen (length bytes / 188) (is_cut bytes)).pcr ≡ _ = (cut_keeps seen (length bytes / 188) (is_cut bytes)).0
+    ∙ seen_pcr (no_packets (limit * rate)) ps in
     alike_append _ _ _ _
     (alike_is _ _ (cut_is seen bytes ∙ ap (λ (xs : List StreamFault). xs ++ cut_faults bytes) (seen_faults (no_packets (limit * rate)) ps)))
     (λ z. alike_is _ _ (ap (λ (m : RecurrenceState). map (late_fault rules.Pcr) m.late) pcr) z ∙ pcr_alike rate limit bytes z)
@@ -114,7 +121,9 @@ findings_part rate bytes n =
     (alike_append _ _ _ _
     (alike_append _ _ _ _
     (alike_append _ _ _ _
-    (λ z. alike_is _ _ (append_assoc (faults_of_all found ++ map (late_fault rules.Pat) (table_marked (table_of_all (table_marked (new_watch 0 0 (500 * rate)) 0) found) count).marks.late)
+    (λ z. alike_is _ _
+    (append_assoc
+    (faults_of_all found ++ map (late_fault rules.Pat) (table_marked (table_of_all (table_marked (new_watch 0 0 (500 * rate)) 0) found) count).marks.late)
     (map (late_fault rules.Pmt) maps.late) (flat_map (ended_map maps.limit_times_rate count) maps.named)) z
     ∙ alike_append _ _ _ _ (alike_append _ _ _ _ (findings_alike bytes n) (alike_is _ _ (pat_group rate count bytes n refl)))
     (maps_alike rate count found (λ pid. found_on pid bytes) (of_each bytes n) (rises bytes n) (begun_whole bytes n)) z)
@@ -148,13 +157,22 @@ counts_are rate limit bytes n =
     let finding_counts = counts_of_found [] found in
     let packet_counts = carried_all [] (starts_of ps) in
     let seen = seen_all (no_packets (limit * rate)) ps in
-    let a : (seen_to_end seen (length bytes / 188) (is_cut bytes)).packet_counts ≡ packet_counts = (cut_keeps seen (length bytes / 188) (is_cut bytes)).1 ∙ seen_carried (no_packets (limit * rate)) ps in
-    let b : (all_noted (none_noted rate) found).finding_counts ≡ finding_counts = ap (λ (m : FindingState). m.finding_counts) (all_is (none_noted rate) found) in
+    let a : (seen_to_end seen (length bytes / 188) (is_cut bytes)).packet_counts ≡ packet_counts = (cut_keeps seen (length bytes / 188) (is_cut bytes)).1
+    ∙ seen_carried (no_packets (limit * rate)) ps in
+    let b : (all_noted (none_noted rate) found).finding_counts ≡ finding_counts =
+    ap (λ (m : FindingState). m.finding_counts) (all_is (none_noted rate) found) in
     ap₂ (λ (x : List (ℕ × FindingCounts)) (y : List (ℕ × PacketCounts)). map (pid_counts x) y) b a
     ∙ by_keys (counts_by finding_counts) packet_counts (carried_unique [] (starts_of ps) tt)
     ∙ ap (map (λ k. counts_by finding_counts (lookup (nat_eq k) packet_counts) k)) (keys_first_seen (starts_of ps) ∙ ap first_seen (pids_are ps))
     ∙ map_same (λ k. counts_by finding_counts (lookup (nat_eq k) packet_counts) k) (counts_of bytes) (first_seen (packet_pids bytes))
-    (λ k. ap₂ (λ (c : PacketCounts) (d : FindingCounts). record { pid = k; packets = c.packets; starts = c.starts; duplicates = d.duplicates; scrambled = d.scrambled })
+    (λ k. ap₂ (λ (c : PacketCounts) (d : FindingCounts). record {
+      pid = k;
+      packets = c.packets;
+      starts = c.starts;
+      duplicates = d.duplicates;
+      scrambled =
+          d.scrambled;
+    })
     (carried_is k ps) (noted_is k found (found_on k bytes) (of_each bytes n k)))
 
 -- 4. The report
@@ -171,11 +189,13 @@ report_without_state rate limit bytes n =
     } in
     ap₂ (λ (count : ℕ) (seen : PacketState). of count seen w.found) p.packets p.seen
     ∙ ap (of (length bytes / 188) (whole_seen rate limit bytes)) p.found
-    ∙ ap₂ (λ (pids : List PidCounts) (faults : List StreamFault). record { packets = length bytes / 188; pids = pids; faults = faults }) (counts_are rate limit bytes n) (faults_are rate limit bytes n)
+    ∙ ap₂ (λ (pids : List PidCounts) (faults : List StreamFault). record { packets = length bytes / 188; pids = pids; faults = faults })
+    (counts_are rate limit bytes n) (faults_are rate limit bytes n)
 
 -- 5. Packet by packet
 
-taken_more : (s : MonitorState) (packets : List (List ℕ)) (packet : List ℕ) → packet_taken (packets_taken s packets) packet ≡ packets_taken s (packets ++ packet ∷ [])
+taken_more : (s : MonitorState) (packets : List (List ℕ)) (packet : List ℕ) →
+    packet_taken (packets_taken s packets) packet ≡ packets_taken s (packets ++ packet ∷ [])
 unfolding packets_taken
 taken_more s [] packet = refl
 taken_more s (first ∷ packets) packet = taken_more (packet_taken s first) packets packet

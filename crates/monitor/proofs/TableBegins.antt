@@ -1,5 +1,6 @@
 -- Sections of one table, and PES packets with a PTS: what is kept of where they begin, from what is found as a whole.
-use Rattle.std.proofs.Common.{◌≡◌, ℕ, ◌-◌, ◌*◌, ◌==◌, Bool, true, false, cond, nat_eq, List, [], ◌∷◌, ◌++◌, map, Option, Some, None, refl, sym, ap, ap₂, ◌∙◌, append_assoc}
+use Rattle.std.proofs.Common.{◌≡◌, ℕ, ◌-◌, ◌*◌, ◌==◌, Bool, true, false, cond, nat_eq, List, [], ◌∷◌, ◌++◌, map, Option, Some, None, refl, sym, ap, ap₂, ◌∙◌}
+use Rattle.std.proofs.Common.{append_assoc}
 use Rattle.std.specs.Prelude.{◌&&◌}
 use Rattle.std.specs.List.{filter_map, cons_option, flat_map}
 use Rattle.std.specs.Map.{lookup}
@@ -26,7 +27,8 @@ use Rattle.monitor.proofs.FindingSteps.{table_begun, table_on, table_of_all, pts
 abbrev pub on_pid : ℕ → List ℕ → List (ℕ × ℕ)
 on_pid pid xs = map (λ x. (pid, x)) xs
 
-late_step : (rule : Rule) (limit_times_rate pid : ℕ) (o : Option ℕ) (x : ℕ) → map (late_fault rule) (late_at limit_times_rate pid o x) ≡ map (fault rule (Some pid)) (step limit_times_rate o x)
+late_step : (rule : Rule) (limit_times_rate pid : ℕ) (o : Option ℕ) (x : ℕ) →
+    map (late_fault rule) (late_at limit_times_rate pid o x) ≡ map (fault rule (Some pid)) (step limit_times_rate o x)
 unfolding late_at
 late_step rule limit_times_rate pid None x = refl
 late_step rule limit_times_rate pid (Some before) x = by (is_long limit_times_rate (x - before))
@@ -36,7 +38,8 @@ late_step rule limit_times_rate pid (Some before) x = by (is_long limit_times_ra
     by false = refl
 
 pub late_alone : (rule : Rule) (pid : ℕ) (s : RecurrenceState) (xs : List ℕ) → (pid == pid) ≡ true →
-    map (late_fault rule) (marked_all s (on_pid pid xs)).late ≡ map (late_fault rule) s.late ++ map (fault rule (Some pid)) (after s.limit_times_rate (lookup (nat_eq pid) s.last) xs)
+    map (late_fault rule) (marked_all s (on_pid pid xs)).late ≡ map (late_fault rule) s.late
+    ++ map (fault rule (Some pid)) (after s.limit_times_rate (lookup (nat_eq pid) s.last) xs)
 unfolding marked_all
 late_alone rule pid s [] e = sym (append-nil (map (late_fault rule) s.late))
 late_alone rule pid s (x ∷ xs) e =
@@ -45,7 +48,8 @@ late_alone rule pid s (x ∷ xs) e =
     (map-append (late_fault rule) s.late (late_at s.limit_times_rate pid (lookup (nat_eq pid) s.last) x)
     ∙ ap (λ (l : List StreamFault). map (late_fault rule) s.late ++ l) (late_step rule s.limit_times_rate pid (lookup (nat_eq pid) s.last) x))
     (found_if pid pid x s.last true e)
-    ∙ append_assoc (map (late_fault rule) s.late) (map (fault rule (Some pid)) (step s.limit_times_rate (lookup (nat_eq pid) s.last) x)) (map (fault rule (Some pid)) (after s.limit_times_rate (Some x) xs))
+    ∙ append_assoc (map (late_fault rule) s.late) (map (fault rule (Some pid)) (step s.limit_times_rate (lookup (nat_eq pid) s.last) x))
+    (map (fault rule (Some pid)) (after s.limit_times_rate (Some x) xs))
     ∙ ap (λ (l : List StreamFault). map (late_fault rule) s.late ++ l)
     (sym (map-append (fault rule (Some pid)) (step s.limit_times_rate (lookup (nat_eq pid) s.last) x) (after s.limit_times_rate (Some x) xs)))
 
@@ -94,11 +98,14 @@ table_next s packet None begun what = refl
 table_next s packet (Some pid) begun what =
     table_step s pid begun [] ∙ ap (λ (xs : List ℕ). record s { marks = marked_all s.marks (on_pid s.pid xs) }) (inner (pid == s.pid))
   where
-    inner : (t : Bool) → cond t (cons_option (table_begin s.table_id begun) []) [] ≡ filter_map (λ g. table_begin s.table_id g.begun) (cond t (finding packet (Some pid) begun what ∷ []) [])
+    inner : (t : Bool) →
+        cond t (cons_option (table_begin s.table_id begun) []) [] ≡ filter_map (λ g. table_begin s.table_id g.begun)
+        (cond t (finding packet (Some pid) begun what ∷ []) [])
     inner true = refl
     inner false = refl
 
-begins_more : (pid table_id : ℕ) (f : FindingView) (found : List FindingView) → begins_in pid table_id (f ∷ found) ≡ begins_in pid table_id (f ∷ []) ++ begins_in pid table_id found
+begins_more : (pid table_id : ℕ) (f : FindingView) (found : List FindingView) → begins_in pid table_id (f ∷ found) ≡ begins_in pid table_id (f ∷ [])
+    ++ begins_in pid table_id found
 begins_more pid table_id f found = by (has_pid pid f.pid)
   where
     step_in : (o : Option ℕ) (xs : List ℕ) → cons_option o xs ≡ cons_option o [] ++ xs
@@ -110,7 +117,8 @@ begins_more pid table_id f found = by (has_pid pid f.pid)
     by true = step_in (table_begin table_id f.begun) (begins_in pid table_id found)
     by false = refl
 
-pub table_is : (s : TableState) (found : List FindingView) → table_of_all s found ≡ record s { marks = marked_all s.marks (on_pid s.pid (begins_in s.pid s.table_id found)) }
+pub table_is : (s : TableState) (found : List FindingView) →
+    table_of_all s found ≡ record s { marks = marked_all s.marks (on_pid s.pid (begins_in s.pid s.table_id found)) }
 unfolding table_of_all marked_all
 table_is s [] = refl
 table_is s (f ∷ found) =
@@ -123,7 +131,8 @@ table_is s (f ∷ found) =
     ∙ ap (marked_all s.marks) (sym (map-append (λ x. (s.pid, x)) new rest) ∙ ap (on_pid s.pid) (sym (begins_more s.pid s.table_id f found))))
 
 -- what is found on a PID, told of the stream
-pub begins_told : (table_id pid : ℕ) (found : List PidFinding) → filter_map (λ f. table_begin table_id f.begun) (map (with_pid_at pid) found) ≡ table_begins table_id found
+pub begins_told : (table_id pid : ℕ) (found : List PidFinding) →
+    filter_map (λ f. table_begin table_id f.begun) (map (with_pid_at pid) found) ≡ table_begins table_id found
 begins_told table_id pid [] = refl
 begins_told table_id pid (x ∷ found) = ap (λ (xs : List ℕ). cons_option (table_begin table_id x.found.begun) xs) (begins_told table_id pid found)
 
@@ -162,7 +171,9 @@ pts_place : (pid packet : ℕ) (q : Option ℕ) (begun : Option (ℕ × Kind)) (
 pts_place pid packet None begun what rest found h = h
 pts_place pid packet (Some q) begun what rest found h = by (pts_begin begun) refl (q == pid) refl
   where
-    by : (o : Option ℕ) → pts_begin begun ≡ o → (t : Bool) → (q == pid) ≡ t → places_of pid (pts_pair q (pts_begin begun) ++ rest) ≡ filter_map (λ f. pts_begin f.begun) (cond (q == pid) (finding packet (Some q) begun what ∷ found) found)
+    by : (o : Option ℕ) → pts_begin begun ≡ o → (t : Bool) → (q == pid) ≡ t →
+        places_of pid (pts_pair q (pts_begin begun) ++ rest) ≡ filter_map (λ f. pts_begin f.begun)
+        (cond (q == pid) (finding packet (Some q) begun what ∷ found) found)
     by None f true e = rw (f, e, f) h
     by None f false e = rw (f, e) h
     by (Some x) f true e = rw (f, e, f) (ap (λ (xs : List ℕ). x ∷ xs) h)

@@ -17,7 +17,8 @@ pub takes_these : (more : List (List ℕ)) (before after : MonitorState) → aft
 takes_these more before after e = λ rate limit packets t.
     e ∙ ap (λ (s : MonitorState). packets_taken s more) t ∙ taken_both packets more (none_taken rate limit)
 
-pub takes_one : {V E : Type 0} (r : Result V E) (packet : List ℕ) (before after : MonitorState) → OnOk r (after ≡ packet_taken before packet) → OnOk r (Takes (packet ∷ []) before after)
+pub takes_one : {V E : Type 0} (r : Result V E) (packet : List ℕ) (before after : MonitorState) → OnOk r (after ≡ packet_taken before packet) →
+    OnOk r (Takes (packet ∷ []) before after)
 unfolding packets_taken
 takes_one (Ok v) packet before after e = takes_these (packet ∷ []) before after e
 takes_one (Err v) packet before after e = tt
@@ -34,7 +35,8 @@ reports_if view (Ok report) monitor cut e = reports_taken monitor cut (view repo
 reports_if view (Err v) monitor cut e = tt
 
 -- what a monitor that took the whole packets of these bytes reports is the report of a stream of these bytes
-pub whole_report : {V E : Type 0} (view : V → ReportView) (rate limit : ℕ) (bytes : List ℕ) (packets : List (List ℕ)) (cut : Bool) (before after : MonitorState) (r : Result V E) →
+pub whole_report : {V E : Type 0} (view : V → ReportView) (rate limit : ℕ) (bytes : List ℕ) (packets : List (List ℕ)) (cut : Bool) (before after : MonitorState)
+    (r : Result V E) →
     HasTaken rate limit [] before → Takes packets before after → packets ≡ cut_packets bytes → cut ≡ is_cut bytes →
     IfOk r (λ report. ReportsTaken after cut (view report)) → IfOk r (λ report. length bytes < 2 ^ 64 → view report ≡ stream_report rate limit bytes)
 whole_report view rate limit bytes packets cut before after (Ok report) none takes are is said =

@@ -1,16 +1,19 @@
 -- Counts of one PID, one by one and as a whole.
-use Rattle.std.proofs.Common.{◌≡◌, ℕ, ◌+◌, ◌-◌, ◌^◌, ◌≤◌, ◌==◌, Bool, true, false, cond, List, [], ◌∷◌, ◌++◌, length, map, filter, Option, Some, None, Result, Ok, Err, refl, sym, ap, ap₂, ◌∙◌, arith}
+use Rattle.std.proofs.Common.{◌≡◌, ℕ, ◌+◌, ◌-◌, ◌^◌, ◌≤◌, ◌==◌, Bool, true, false, cond, List, [], ◌∷◌, ◌++◌, length, map, filter, Option, Some, None, Result}
+use Rattle.std.proofs.Common.{Ok, Err, refl, sym, ap, ap₂, ◌∙◌, arith}
 use Rattle.std.specs.Prelude.{◌&&◌, not}
 use Rattle.std.specs.List.{filter_map, cons_option}
 use Rattle.ts_packet.specs.declared.packet.PacketError.{PacketError}
 use Rattle.ts_packet.specs.Views.{PacketView}
 use Rattle.ts_packet.specs.Reading.{packet_at}
 use Rattle.ts_packet.specs.PidList.{Entry, entry_of, is_of_pid}
-use Rattle.demux.specs.Views.{PidFinding, FindingView, WhatView, IsDuplicate, BreaksCounter, IsScrambled, IsTruncated, IsSection, IsBadSection, IsPes, IsBadPes, IsBadPacket, IsErrored}
+use Rattle.demux.specs.Views.{PidFinding, FindingView, WhatView, IsDuplicate, BreaksCounter, IsScrambled, IsTruncated, IsSection, IsBadSection, IsPes, IsBadPes}
+use Rattle.demux.specs.Views.{IsBadPacket, IsErrored}
 use Rattle.demux.specs.Laws.{found_of, has_pid, with_pid_at}
 use Rattle.monitor.specs.declared.counts.PacketCounts.{PacketCounts}
 use Rattle.monitor.specs.declared.counts.FindingCounts.{FindingCounts}
-use Rattle.monitor.specs.Counts.{one_more, packet_counts_or_zero, packet_counts_of, one_more_packet, packet_counted, finding_counts_or_zero, finding_counts_of, duplicate_counted, scrambled_counted}
+use Rattle.monitor.specs.Counts.{one_more, packet_counts_or_zero, packet_counts_of, one_more_packet, packet_counted, finding_counts_or_zero, finding_counts_of}
+use Rattle.monitor.specs.Counts.{duplicate_counted, scrambled_counted}
 use Rattle.monitor.specs.CountsOfPids.{counted, is_duplicate, is_scrambled}
 use Rattle.monitor.proofs.LatePlaces.{same_number}
 use Rattle.monitor.proofs.PidEntries.{inserted}
@@ -31,7 +34,8 @@ packet_of pid q start entries true e =
     ∙ ap (λ (k : ℕ). one_more_packet (packet_counts_of k entries) start) (same_number q pid e)
 packet_of pid q start entries false e = ap packet_counts_or_zero (inserted pid q (one_more_packet (packet_counts_of q entries) start) entries false e)
 
-carried_tally : (pid : ℕ) (entries : List (ℕ × PacketCounts)) (starts : List (ℕ × Bool)) → packet_counts_of pid (carried_all entries starts) ≡ tally pid (packet_counts_of pid entries) starts
+carried_tally : (pid : ℕ) (entries : List (ℕ × PacketCounts)) (starts : List (ℕ × Bool)) →
+    packet_counts_of pid (carried_all entries starts) ≡ tally pid (packet_counts_of pid entries) starts
 unfolding carried_all
 carried_tally pid entries [] = refl
 carried_tally pid entries (x ∷ starts) =
@@ -58,7 +62,8 @@ none_yet c h k =
     let b : c.starts ≡ counted (c.starts + 0) = omega arith in
     ap₂ (λ (x y : ℕ). record { packets = x; starts = y }) a b
 
-small : (c : PacketCounts) (start : Bool) → c.starts ≤ 2 ^ 64 - 1 → ((one_more_packet c start).packets ≤ 2 ^ 64 - 1) × ((one_more_packet c start).starts ≤ 2 ^ 64 - 1)
+small : (c : PacketCounts) (start : Bool) → c.starts ≤ 2 ^ 64 - 1 →
+    ((one_more_packet c start).packets ≤ 2 ^ 64 - 1) × ((one_more_packet c start).starts ≤ 2 ^ 64 - 1)
 unfolding one_more_packet one_more
 small c true h = (omega arith, omega arith)
 small c false h = (omega arith, h)
@@ -76,7 +81,8 @@ starts_among entries = length (filter (λ entry. entry.packet.header.payload_uni
 abbrev counts_among : PacketCounts → List Entry → PacketCounts
 counts_among c entries = more_packets c (length entries) (starts_among entries)
 
-packet_among : (c : PacketCounts) (entry : Entry) (entries : List Entry) → counts_among (one_more_packet c entry.packet.header.payload_unit_start_indicator) entries ≡ counts_among c (entry ∷ entries)
+packet_among : (c : PacketCounts) (entry : Entry) (entries : List Entry) →
+    counts_among (one_more_packet c entry.packet.header.payload_unit_start_indicator) entries ≡ counts_among c (entry ∷ entries)
 packet_among c entry entries =
     let n : length entries + 1 ≡ length (entry ∷ entries) = omega arith in
     one_packet c entry.packet.header.payload_unit_start_indicator (length entries) (starts_among entries)
@@ -91,10 +97,12 @@ tally_is pid c (p ∷ packets) h k = by (packet_at p.1) (λ d. tally_is pid d pa
     rest : List Entry
     rest = filter_map (λ p. entry_of p.0 p.1 (packet_at p.1)) packets
 
-    first : (q : ℕ) (start : Bool) (t : Bool) → (q == pid) ≡ t → tally pid c ((q, start) ∷ starts_of packets) ≡ tally pid (cond t (one_more_packet c start) c) (starts_of packets)
+    first : (q : ℕ) (start : Bool) (t : Bool) → (q == pid) ≡ t →
+        tally pid c ((q, start) ∷ starts_of packets) ≡ tally pid (cond t (one_more_packet c start) c) (starts_of packets)
     first q start t f = ap (λ (u : Bool). tally pid (cond u (one_more_packet c start) c) (starts_of packets)) f
 
-    on : (packet : PacketView) → ((d : PacketCounts) → d.packets ≤ 2 ^ 64 - 1 → d.starts ≤ 2 ^ 64 - 1 → tally pid d (starts_of packets) ≡ counts_among d (listed pid packets)) →
+    on : (packet : PacketView) →
+        ((d : PacketCounts) → d.packets ≤ 2 ^ 64 - 1 → d.starts ≤ 2 ^ 64 - 1 → tally pid d (starts_of packets) ≡ counts_among d (listed pid packets)) →
         (e t : Bool) → (packet.header.pid == pid) ≡ t →
         tally pid c (cond e [] ((packet.header.pid, packet.header.payload_unit_start_indicator) ∷ []) ++ starts_of packets)
         ≡ counts_among c (cond (t && not e) ((record { index = p.0; bytes = p.1; packet = packet }) ∷ listed pid packets) (listed pid packets))
@@ -106,13 +114,15 @@ tally_is pid c (p ∷ packets) h k = by (packet_at p.1) (λ d. tally_is pid d pa
         ∙ packet_among c (record { index = p.0; bytes = p.1; packet = packet }) (listed pid packets)
     on packet i false false f = first packet.header.pid packet.header.payload_unit_start_indicator false f ∙ i c h k
 
-    by : (r : Result PacketView PacketError) → ((d : PacketCounts) → d.packets ≤ 2 ^ 64 - 1 → d.starts ≤ 2 ^ 64 - 1 → tally pid d (starts_of packets) ≡ counts_among d (listed pid packets)) →
+    by : (r : Result PacketView PacketError) →
+        ((d : PacketCounts) → d.packets ≤ 2 ^ 64 - 1 → d.starts ≤ 2 ^ 64 - 1 → tally pid d (starts_of packets) ≡ counts_among d (listed pid packets)) →
         tally pid c (start_of r ++ starts_of packets) ≡ counts_among c (filter (λ entry. is_of_pid pid entry.packet) (cons_option (entry_of p.0 p.1 r) rest))
     by (Err error) i = i c h k
     by (Ok packet) i = on packet i packet.header.transport_error_indicator (packet.header.pid == pid) refl
 
 pub carried_is : (pid : ℕ) (packets : List (ℕ × List ℕ)) →
-    packet_counts_of pid (carried_all [] (starts_of packets)) ≡ record { packets = counted (length (listed pid packets)); starts = counted (starts_among (listed pid packets)) }
+    packet_counts_of pid (carried_all [] (starts_of packets)) ≡ record
+    { packets = counted (length (listed pid packets)); starts = counted (starts_among (listed pid packets)) }
 unfolding packet_counts_or_zero
 carried_is pid packets =
     let zero_packets : PacketCounts = record { packets = 0; starts = 0 } in
@@ -133,7 +143,8 @@ note_tally n [] = n
 note_tally n (f ∷ found) = note_tally (one_noted n f.what) found
 
 duplicate_of : (pid q : ℕ) (finding_counts : List (ℕ × FindingCounts)) (t : Bool) → (q == pid) ≡ t →
-    finding_counts_of pid (duplicate_counted q finding_counts) ≡ cond t (one_noted (finding_counts_of pid finding_counts) IsDuplicate) (finding_counts_of pid finding_counts)
+    finding_counts_of pid (duplicate_counted q finding_counts) ≡ cond t (one_noted (finding_counts_of pid finding_counts) IsDuplicate)
+    (finding_counts_of pid finding_counts)
 unfolding finding_counts_or_zero one_noted
 duplicate_of pid q finding_counts true e =
     let n = finding_counts_of q finding_counts in
@@ -144,7 +155,8 @@ duplicate_of pid q finding_counts false e =
     ap finding_counts_or_zero (inserted pid q (record { duplicates = one_more n.duplicates; scrambled = n.scrambled }) finding_counts false e)
 
 scrambled_of : (pid q : ℕ) (finding_counts : List (ℕ × FindingCounts)) (t : Bool) → (q == pid) ≡ t →
-    finding_counts_of pid (scrambled_counted q finding_counts) ≡ cond t (one_noted (finding_counts_of pid finding_counts) IsScrambled) (finding_counts_of pid finding_counts)
+    finding_counts_of pid (scrambled_counted q finding_counts) ≡ cond t (one_noted (finding_counts_of pid finding_counts) IsScrambled)
+    (finding_counts_of pid finding_counts)
 unfolding finding_counts_or_zero one_noted
 scrambled_of pid q finding_counts true e =
     let n = finding_counts_of q finding_counts in
@@ -159,7 +171,8 @@ noted_plain n true = refl
 noted_plain n false = refl
 
 noted_one : (pid : ℕ) (finding_counts : List (ℕ × FindingCounts)) (q : Option ℕ) (what : WhatView) →
-    finding_counts_of pid (counts_on finding_counts q what) ≡ cond (has_pid pid q) (one_noted (finding_counts_of pid finding_counts) what) (finding_counts_of pid finding_counts)
+    finding_counts_of pid (counts_on finding_counts q what) ≡ cond (has_pid pid q) (one_noted (finding_counts_of pid finding_counts) what)
+    (finding_counts_of pid finding_counts)
 unfolding counts_on one_noted
 noted_one pid finding_counts None what = refl
 noted_one pid finding_counts (Some q) IsDuplicate = duplicate_of pid q finding_counts (q == pid) refl
@@ -173,7 +186,8 @@ noted_one pid finding_counts (Some q) (IsBadPes error) = noted_plain (finding_co
 noted_one pid finding_counts (Some q) (IsBadPacket error) = noted_plain (finding_counts_of pid finding_counts) (q == pid)
 noted_one pid finding_counts (Some q) IsErrored = noted_plain (finding_counts_of pid finding_counts) (q == pid)
 
-noted_tally : (pid : ℕ) (finding_counts : List (ℕ × FindingCounts)) (found : List FindingView) → finding_counts_of pid (counts_of_found finding_counts found) ≡ note_tally (finding_counts_of pid finding_counts) (found_of pid found)
+noted_tally : (pid : ℕ) (finding_counts : List (ℕ × FindingCounts)) (found : List FindingView) →
+    finding_counts_of pid (counts_of_found finding_counts found) ≡ note_tally (finding_counts_of pid finding_counts) (found_of pid found)
 unfolding counts_of_found
 noted_tally pid finding_counts [] = refl
 noted_tally pid finding_counts (f ∷ found) =
@@ -201,14 +215,16 @@ same n d s =
     let b : counted (n.scrambled + s) ≡ counted (n.scrambled + (0 + s)) = omega arith in
     ap₂ (λ (x y : ℕ). record { duplicates = x; scrambled = y }) a b
 
-one_noted_more : (n : FindingCounts) (what : WhatView) (d s : ℕ) → more_noted (one_noted n what) d s ≡ more_noted n (cond (is_duplicate what) 1 0 + d) (cond (is_scrambled what) 1 0 + s)
+one_noted_more : (n : FindingCounts) (what : WhatView) (d s : ℕ) →
+    more_noted (one_noted n what) d s ≡ more_noted n (cond (is_duplicate what) 1 0 + d) (cond (is_scrambled what) 1 0 + s)
 unfolding one_noted one_more is_duplicate is_scrambled
 one_noted_more n IsDuplicate d s =
     let a : counted (counted (n.duplicates + 1) + d) ≡ counted (n.duplicates + (1 + d)) = omega arith in
     let b : counted (n.scrambled + s) ≡ counted (n.scrambled + (0 + s)) = omega arith in ap₂ (λ (x y : ℕ). record { duplicates = x; scrambled = y }) a b
 one_noted_more n IsScrambled d s =
     let a : counted (n.duplicates + d) ≡ counted (n.duplicates + (0 + d)) = omega arith in
-    let b : counted (counted (n.scrambled + 1) + s) ≡ counted (n.scrambled + (1 + s)) = omega arith in ap₂ (λ (x y : ℕ). record { duplicates = x; scrambled = y }) a b
+    let b : counted (counted (n.scrambled + 1) + s) ≡ counted (n.scrambled + (1 + s)) =
+    omega arith in ap₂ (λ (x y : ℕ). record { duplicates = x; scrambled = y }) a b
 one_noted_more n (BreaksCounter expected found) d s = same n d s
 one_noted_more n (IsTruncated bytes) d s = same n d s
 one_noted_more n (IsSection bytes) d s = same n d s
@@ -218,7 +234,8 @@ one_noted_more n (IsBadPes error) d s = same n d s
 one_noted_more n (IsBadPacket error) d s = same n d s
 one_noted_more n IsErrored d s = same n d s
 
-one_noted_small : (n : FindingCounts) (what : WhatView) → n.duplicates ≤ 2 ^ 64 - 1 → n.scrambled ≤ 2 ^ 64 - 1 → ((one_noted n what).duplicates ≤ 2 ^ 64 - 1) × ((one_noted n what).scrambled ≤ 2 ^ 64 - 1)
+one_noted_small : (n : FindingCounts) (what : WhatView) → n.duplicates ≤ 2 ^ 64 - 1 → n.scrambled ≤ 2 ^ 64 - 1 →
+    ((one_noted n what).duplicates ≤ 2 ^ 64 - 1) × ((one_noted n what).scrambled ≤ 2 ^ 64 - 1)
 unfolding one_noted one_more
 one_noted_small n IsDuplicate h k = (omega arith, k)
 one_noted_small n IsScrambled h k = (h, omega arith)

@@ -6,5 +6,6 @@ use Rattle.std.specs.Ordering.{eq_by_cmp}
 use Rattle.std.specs.declared.cmp.Ordering.{Ordering}
 use Rattle.std.specs.declared.cmp.Ordering.TheVariants.{Equal}
 
-pub tied : {X : Type 0} (E : X → X → Bool) (R : X → X → Ordering) → ((x y : X) → E x y ≡ eq_by_cmp R x y) → (xs : List X) (x : X) → Any (λ y. E x y ≡ true) xs → Any (λ y. R x y ≡ Equal) xs
+pub tied : {X : Type 0} (E : X → X → Bool) (R : X → X → Ordering) → ((x y : X) → E x y ≡ eq_by_cmp R x y) → (xs : List X) (x : X) → Any (λ y. E x y ≡ true) xs →
+    Any (λ y. R x y ≡ Equal) xs
 tied E R ties xs x (k, y, n, at, e) = (k, y, n, at, (Equal-is (R x y)).0 (sym (ties x y) ∙ e))

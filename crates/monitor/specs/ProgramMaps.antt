@@ -29,7 +29,8 @@ abbrev pub no_maps : ℕ → ProgramMapState
 no_maps limit_times_rate = record { limit_times_rate = limit_times_rate; named = []; late = [] }
 
 unfoldable pub named_from : ProgramMapState → ℕ → ℕ → Option NamedMap → ProgramMapState
-named_from s pid packet None = record { limit_times_rate = s.limit_times_rate; named = insert_entry nat_eq s.named pid (record { since = packet; last = packet }); late = s.late }
+named_from s pid packet None =
+    record { limit_times_rate = s.limit_times_rate; named = insert_entry nat_eq s.named pid (record { since = packet; last = packet }); late = s.late }
 named_from s pid packet (Some n) = s
 
 abbrev pub named : ProgramMapState → ℕ → ℕ → ProgramMapState

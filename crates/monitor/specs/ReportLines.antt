@@ -35,7 +35,8 @@ number_text name number = name ++ decimal number
 
 -- `pid P packets N starts N`
 abbrev pub packet_counts_text : PidCounts → List ℕ
-packet_counts_text counts = number_text (codes "pid ") counts.pid ++ number_text (codes " packets ") counts.packets ++ number_text (codes " starts ") counts.starts
+packet_counts_text counts = number_text (codes "pid ") counts.pid ++ number_text (codes " packets ") counts.packets
+    ++ number_text (codes " starts ") counts.starts
 
 -- ` duplicates N scrambled N`
 abbrev pub finding_counts_text : PidCounts → List ℕ
@@ -61,4 +62,5 @@ fault_lines faults = flat_map fault_line faults
 
 -- the number of packets, a line for each PID, one for each fault, and the number of faults
 unfoldable pub report_text : ReportView → List ℕ
-report_text report = total_line (codes "packets") report.packets ++ pid_lines report.pids ++ fault_lines report.faults ++ total_line (codes "faults") (length report.faults)
+report_text report = total_line (codes "packets") report.packets ++ pid_lines report.pids ++ fault_lines report.faults
+    ++ total_line (codes "faults") (length report.faults)

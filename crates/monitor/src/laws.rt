@@ -1,8 +1,8 @@
 //! Laws of the definitions. Each function does nothing: its contract is the law.
 ghost use Rattle.monitor.specs.Laws.{GapsOfEachPid, PacketByPacket, ReportWithoutState};
 
-/// States that the late places that a state finds (it keeps the last place of each PID) are the places that a filter over
-/// the successive places of the PID gives.
+/// States that the late places that a state finds (it keeps the last place of each PID) are the places that a filter
+/// over the successive places of the PID gives.
 pub fn gaps_of_each_pid()
     ensures { GapsOfEachPid }
 {}

@@ -19,8 +19,8 @@ use std::alloc::{AllocError, Allocator, Global};
 use std::marker::Model;
 use ts_packet::read_packet;
 
-/// A monitor that takes a stream packet by packet: a state for each PID, and the faults so far. Of a PID its last packet is
-/// kept, of its open section at most 4,098 bytes, and of its open PES packet the header.
+/// A monitor that takes a stream packet by packet: a state for each PID, and the faults so far. Of a PID its last
+/// packet is kept, of its open section at most 4,098 bytes, and of its open PES packet the header.
 ///
 /// After an `AllocError` its state describes no stream: drop it.
 #[derive(Drop)]
@@ -114,8 +114,8 @@ fn counts_of<A: Allocator + Copy>(
 }
 
 impl<A: Allocator + Copy> Monitor<A> {
-    /// Returns the state before the first packet, at a rate in bits a second. The greatest gap of program clock references
-    /// is in milliseconds.
+    /// Returns the state before the first packet, at a rate in bits a second. The greatest gap of program clock
+    /// references is in milliseconds.
     #[tactic(auto, unfolding(crate::specs::MonitorStates::packets_taken))]
     pub fn new(alloc: A, rate: Rate, pcr_limit: u32) -> Result<Monitor<A>, AllocError>
         ensures { IfOk result (λ monitor. HasTaken rate pcr_limit [] monitor) }
@@ -145,8 +145,8 @@ impl<A: Allocator + Copy> Monitor<A> {
         Ok(true)
     }
 
-    // The next packet, which is read. What is found in it goes to the room of what was found in others. It stays a call of
-    // its own: few packets come to it, and what is read would else be made ready for each.
+    // The next packet, which is read. What is found in it goes to the room of what was found in others. It stays a call
+    // of its own: few packets come to it, and what is read would else be made ready for each.
     #[inline(never)]
     #[tactic(auto, using(crate::proofs::HeaderFindings::noted_in))]
     fn read_next<'a>(

@@ -10,14 +10,16 @@ use Rattle.mux_core.specs.Headline.{UnitsKept, StandingLaw}
 use Rattle.mux_core.proofs.KnownRanges.{parameters_known}
 use Rattle.mux_core.proofs.Whole.{headline}
 
-kept_in : (d : Scheduled) (h : History) (capacity k : ℕ) (q : Option Queue) (s : DescribedStream) → QueueStands d h capacity k q (Some s) → Kept (owned_stream d k s) (h.units k)
+kept_in : (d : Scheduled) (h : History) (capacity k : ℕ) (q : Option Queue) (s : DescribedStream) → QueueStands d h capacity k q (Some s) →
+    Kept (owned_stream d k s) (h.units k)
 kept_in d h capacity k (Some q) s st = st.kept
 kept_in d h capacity k None s st = absurd st
 
 pub units_kept : (h : History) (m : MuxState) → IsInRange m.schedule.description → Stands h m → UnitsKept m.schedule h.units
 units_kept h m r st = record {
   parameters = parameters_known m.schedule r;
-  kept = λ k s is. kept_in m.schedule h m.capacity k (slice_get m.queues k) s (subst (λ (o : Option DescribedStream). QueueStands m.schedule h m.capacity k (slice_get m.queues k) o) is (st.streams k));
+  kept = λ k s is. kept_in m.schedule h m.capacity k (slice_get m.queues k) s
+      (subst (λ (o : Option DescribedStream). QueueStands m.schedule h m.capacity k (slice_get m.queues k) o) is (st.streams k));
 }
 
 pub standing : StandingLaw

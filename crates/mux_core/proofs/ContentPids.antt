@@ -1,5 +1,6 @@
 -- The PID that each slot's packet is on.
-use Rattle.std.proofs.Common.{◌≡◌, ◌⊎◌, ℕ, ◌+◌, ◌*◌, ◌/◌, ◌<◌, ◌==◌, ◌&&◌, true, false, List, Option, Some, None, slice_get, option_map, refl, ap, sym, ◌∙◌, arith, inl, inr}
+use Rattle.std.proofs.Common.{◌≡◌, ◌⊎◌, ℕ, ◌+◌, ◌*◌, ◌/◌, ◌<◌, ◌==◌, ◌&&◌, true, false, List, Option, Some, None, slice_get, option_map, refl, ap, sym, ◌∙◌}
+use Rattle.std.proofs.Common.{arith, inl, inr}
 use Rattle.std.proofs.lemmas.Bool.{cases_Bool, eqb-true, ne_eqb}
 use Rattle.own_slots.specs.Slots.{own_before}
 use Rattle.clock27.specs.Reference.{pcr_at}
@@ -60,7 +61,8 @@ null_pid : (c : Content) → c ≡ NullContent → content_pid c ≡ 8191
 unfolding content_pid
 null_pid c e = ap content_pid e
 
-stream_speaks : (d : Scheduled) (units : ℕ → List AccessUnit) (s k : ℕ) (o : Option DescribedStream) → Speaks (option_map (λ x. x.pid) o) (stream_in d units s k o)
+stream_speaks : (d : Scheduled) (units : ℕ → List AccessUnit) (s k : ℕ) (o : Option DescribedStream) →
+    Speaks (option_map (λ x. x.pid) o) (stream_in d units s k o)
 unfolding stream_in content_pid
 stream_speaks d units s k None = inl refl
 stream_speaks d units s k (Some x) = by (place_at (owned_stream d k x) 0 0 (units k) (own_before (owned_stream d k x).own s))
@@ -91,10 +93,12 @@ speaks d units s (Table t) = table_speaks d s t (slice_get (table_kinds d.descri
 speaks d units s Null = inl refl
 
 -- a slot whose packet is on this PID, not that of null packets, names what has it
-pub names : (d : Scheduled) (units : ℕ → List AccessUnit) (s pid : ℕ) → pid < 8191 → is_of_pid pid (view_of (content_at d units s)) ≡ true → slot_pid d.description (slot_of d.schedule s) ≡ Some pid
+pub names : (d : Scheduled) (units : ℕ → List AccessUnit) (s pid : ℕ) → pid < 8191 → is_of_pid pid (view_of (content_at d units s)) ≡ true →
+    slot_pid d.description (slot_of d.schedule s) ≡ Some pid
 unfolding content_at
 names d units s pid below e =
-    let same : content_pid (content_at d units s) ≡ pid = eqb-true (content_pid (content_at d units s)) pid (sym (is_content_pid pid (content_at d units s)) ∙ e) in
+    let same : content_pid (content_at d units s) ≡ pid =
+    eqb-true (content_pid (content_at d units s)) pid (sym (is_content_pid pid (content_at d units s)) ∙ e) in
     elim (speaks d units s (slot_of d.schedule s)) [
       | inl null ↦ absurd (omega (arith, null_pid (content_at d units s) null, same, below))
       | inr named ↦ named ∙ ap Some same
@@ -118,12 +122,15 @@ reference_fits rate base0 i =
     let n = 216000000 * i / rate + 300 * base0 in
     record { base = omega arith; extension = omega arith }
 
-table_fits : (d : Scheduled) (s t : ℕ) (o : Option TableKind) → IsInRange d.description → slot_pid d.description (Table t) ≡ option_map (λ k. table_pid d.description t) o → ContentFits (table_in d s t o)
+table_fits : (d : Scheduled) (s t : ℕ) (o : Option TableKind) → IsInRange d.description →
+    slot_pid d.description (Table t) ≡ option_map (λ k. table_pid d.description t) o → ContentFits (table_in d s t o)
 unfolding table_in
 table_fits d s t None r e = tt
-table_fits d s t (Some kind) r e = let below = slots_below d.description (Table t) (table_pid d.description t) r e in part_fits (table_of d t) s (omega (arith, below))
+table_fits d s t (Some kind) r e = let below = slots_below d.description (Table t) (table_pid d.description t) r e in
+    part_fits (table_of d t) s (omega (arith, below))
 
-clock_fits : (d : Scheduled) (s i : ℕ) (o : Option DescribedProgram) → IsInRange d.description → slot_pid d.description (Pcr i) ≡ option_map (λ p. p.pcr_pid) o → ContentFits (pcr_content d.description s o)
+clock_fits : (d : Scheduled) (s i : ℕ) (o : Option DescribedProgram) → IsInRange d.description →
+    slot_pid d.description (Pcr i) ≡ option_map (λ p. p.pcr_pid) o → ContentFits (pcr_content d.description s o)
 unfolding pcr_content
 clock_fits d s i None r e = tt
 clock_fits d s i (Some p) r e =
@@ -132,14 +139,17 @@ clock_fits d s i (Some p) r e =
 
 -- streams' contents fit by themselves
 abbrev pub StreamsFit : Scheduled → (ℕ → List AccessUnit) → Type 0
-StreamsFit d units = (k s : ℕ) (x : DescribedStream) → slice_get d.description.streams k ≡ Some x → ContentFits (stream_content (owned_stream d k x) (units k) s)
+StreamsFit d units = (k s : ℕ) (x : DescribedStream) → slice_get d.description.streams k ≡ Some x →
+    ContentFits (stream_content (owned_stream d k x) (units k) s)
 
-stream_fits : (d : Scheduled) (units : ℕ → List AccessUnit) (s k : ℕ) (o : Option DescribedStream) → StreamsFit d units → slice_get d.description.streams k ≡ o → ContentFits (stream_in d units s k o)
+stream_fits : (d : Scheduled) (units : ℕ → List AccessUnit) (s k : ℕ) (o : Option DescribedStream) → StreamsFit d units →
+    slice_get d.description.streams k ≡ o → ContentFits (stream_in d units s k o)
 unfolding stream_in
 stream_fits d units s k None fits e = tt
 stream_fits d units s k (Some x) fits e = fits k s x e
 
-slot_fits : (d : Scheduled) (units : ℕ → List AccessUnit) (s : ℕ) (slot : Slot) → IsInRange d.description → StreamsFit d units → ContentFits (content_in d units s slot)
+slot_fits : (d : Scheduled) (units : ℕ → List AccessUnit) (s : ℕ) (slot : Slot) → IsInRange d.description → StreamsFit d units →
+    ContentFits (content_in d units s slot)
 unfolding content_in slot_pid
 slot_fits d units s (Stream k) r fits = stream_fits d units s k (slice_get d.description.streams k) fits refl
 slot_fits d units s (Pcr i) r fits = clock_fits d s i (slice_get d.description.programs i) r refl

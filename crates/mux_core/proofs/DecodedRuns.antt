@@ -1,5 +1,6 @@
 -- What a decoder gets from bytes that keep what they promise.
-use Rattle.std.proofs.Common.{◌≡◌, ◌⊎◌, ◌≤◌, ◌<◌, ℕ, zero, suc, ◌+◌, ◌*◌, ◌/◌, ◌%◌, ◌==◌, Bool, true, false, List, [], ◌∷◌, ◌++◌, length, map, filter, take, drop, slice_get, option_map, Some, None, Ok, All, refl, sym, ap, subst, ◌∙◌, inl, inr, arith}
+use Rattle.std.proofs.Common.{◌≡◌, ◌⊎◌, ◌≤◌, ◌<◌, ℕ, zero, suc, ◌+◌, ◌*◌, ◌/◌, ◌%◌, ◌==◌, Bool, true, false, List, [], ◌∷◌, ◌++◌, length, map, filter, take}
+use Rattle.std.proofs.Common.{drop, slice_get, option_map, Some, None, Ok, All, refl, sym, ap, subst, ◌∙◌, inl, inr, arith}
 use Rattle.std.specs.Prelude.{◌&&◌, not}
 use Rattle.std.specs.List.{concat, enumerate_from, filter_map}
 use Rattle.std.specs.Simd.{first_chunks}
@@ -92,7 +93,8 @@ of_its_pid pid e y = eqb-true e.packet.header.pid pid (first_true (e.packet.head
     first_true true b y = refl
     first_true false b y = absurd (false≢true y)
 
-one_silent : (d : Described) (pid : ℕ) (e : Entry) → (pid == 8191) ≡ false → ((slot : Slot) → slot_pid d slot ≡ Some pid → ⊥) → IsKnown d e → is_of_pid pid e.packet ≡ true → ⊥
+one_silent : (d : Described) (pid : ℕ) (e : Entry) → (pid == 8191) ≡ false → ((slot : Slot) → slot_pid d slot ≡ Some pid → ⊥) → IsKnown d e →
+    is_of_pid pid e.packet ≡ true → ⊥
 one_silent d pid e other none (inl null) y =
     let here : 8191 ≡ pid = sym (ap (λ p. p.header.pid) null) ∙ of_its_pid pid e y in
     false≢true (sym other ∙ eq-eqb pid 8191 (sym here))
@@ -148,7 +150,8 @@ bytes_sent l (u ∷ us) (suc k) = ap (λ (ps : List (List ℕ)). pes_bytes l u �
 
 with_next : (pes : List (List ℕ)) (p : List ℕ) (i : ℕ) → slice_get pes i ≡ Some p → length (concat (take (suc i) pes)) ≡ length (concat (take i pes)) + length p
 with_next [] p i is = absurd (let no : ⊥ = cc in no)
-with_next (x ∷ pes) p zero is = let same : x ≡ p = cc in length-append x [] ∙ ap (λ (z : List ℕ). length z + 0) same ∙ (let swap : length p + 0 ≡ 0 + length p = omega arith in swap)
+with_next (x ∷ pes) p zero is = let same : x ≡ p = cc in length-append x [] ∙ ap (λ (z : List ℕ). length z + 0) same
+    ∙ (let swap : length p + 0 ≡ 0 + length p = omega arith in swap)
 with_next (x ∷ pes) p (suc i) is =
     omega (arith, with_next pes p i is, length-append x (concat (take (suc i) pes)), length-append x (concat (take i pes)))
 
@@ -161,15 +164,18 @@ record Came (d : Scheduled) (k : ℕ) (s : DescribedStream) (units : List Access
   in_time : All (λ t. t * 720000 ≤ u.dts * d.description.rate * s.rx) (take (length (pes_bytes (owned_stream d k s) u))
       (drop (length (concat (take i (map (pes_bytes (owned_stream d k s)) units)))) (pes_left d.description.rate s.rx 0 (packets_on s.pid bytes))))
 
-came : (d : Scheduled) (k : ℕ) (s : DescribedStream) (units : List AccessUnit) (slots : ℕ) (bytes : List ℕ) (i : ℕ) (u : AccessUnit) → StreamKept d k s units slots bytes →
+came : (d : Scheduled) (k : ℕ) (s : DescribedStream) (units : List AccessUnit) (slots : ℕ) (bytes : List ℕ) (i : ℕ) (u : AccessUnit) →
+    StreamKept d k s units slots bytes →
     slice_get units i ≡ Some u → IsDue d.description slots u → Came d k s units i u bytes
 came d k s units slots bytes i u kept is due =
     let l = owned_stream d k s in
     let rate = d.description.rate in
     let left : List ℕ = pes_left d.description.rate s.rx 0 (packets_on s.pid bytes) in
-    let all : AllLeft d.description.rate s.rx slots (timed_pes_packets s.stream_id d.description.base0 units) (pes_left d.description.rate s.rx 0 (packets_on s.pid bytes)) =
+    let all : AllLeft d.description.rate s.rx slots (timed_pes_packets s.stream_id d.description.base0 units)
+    (pes_left d.description.rate s.rx 0 (packets_on s.pid bytes)) =
     late_law.all_left rate s.rx slots 0 (timed_pes_packets s.stream_id d.description.base0 units) left kept.arrived in
-    let mine = unit_left (λ (x : AccessUnit). x.dts) (pes_bytes l) (λ (x : AccessUnit). field_size x.marks.random_access) rate s.rx slots units u i left all is due in
+    let mine = unit_left (λ (x : AccessUnit). x.dts) (pes_bytes l) (λ (x : AccessUnit). field_size x.marks.random_access) rate s.rx slots units u i left all is
+    due in
     let some = text_some l u in
     let enough : length (concat (take i (map (pes_bytes (owned_stream d k s)) units))) + length (pes_bytes (owned_stream d k s) u)
     ≤ length (pes_left d.description.rate s.rx 0 (packets_on s.pid bytes)) =

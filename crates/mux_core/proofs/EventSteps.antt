@@ -1,5 +1,6 @@
 -- Units fed and slots written in any order.
-use Rattle.std.proofs.Common.{◌≡◌, ℕ, suc, ◌+◌, ◌<◌, ◌≤◌, ◌^◌, Bool, false, cond, List, [], ◌∷◌, ◌++◌, Option, Some, None, Result, Ok, Err, refl, sym, ap, ◌∙◌, subst, arith, append_assoc, append-nil, inl, inr}
+use Rattle.std.proofs.Common.{◌≡◌, ℕ, suc, ◌+◌, ◌<◌, ◌≤◌, ◌^◌, Bool, false, cond, List, [], ◌∷◌, ◌++◌, Option, Some, None, Result, Ok, Err, refl, sym, ap, ◌∙◌}
+use Rattle.std.proofs.Common.{subst, arith, append_assoc, append-nil, inl, inr}
 use Rattle.std.specs.Prelude.{slice_get, IfErr}
 use Rattle.std.proofs.Math.Path.{fun_ext}
 use Rattle.std.proofs.lemmas.Bool.{lt-ltb, le-ltb, cases_lt}
@@ -50,7 +51,8 @@ slot_past : (d : Scheduled) (capacity : ℕ) (h : History) → 2 ^ 40 ≤ h.slot
 unfolding step_history
 slot_past d capacity h le = ap (λ (b : Bool). cond b (next_slot h) h) (le-ltb h.slots (2 ^ 40) le)
 
-pub slot_given : (h : History) (old new : MuxState) (packet : List ℕ) → Gives h old (Ok packet) new → StandsOn (step_history old.schedule old.capacity h SlotStep) old new
+pub slot_given : (h : History) (old new : MuxState) (packet : List ℕ) → Gives h old (Ok packet) new →
+    StandsOn (step_history old.schedule old.capacity h SlotStep) old new
 slot_given h old new packet g = record {
   stands = subst (λ (x : History). Stands x new) (sym (slot_there old.schedule old.capacity h g.0)) g.3;
   same_schedule = g.2;
@@ -63,13 +65,20 @@ slot_added h old new packet out g =
     subst (λ (x : History). Adds old.schedule h x out (out ++ packet)) (sym (slot_there old.schedule old.capacity h g.0))
     (record { added = packet; bytes = bytes_more old.schedule h ∙ ap (λ (l : List ℕ). bytes_of old.schedule h ++ l) (sym g.1); output = refl })
 
-pub done_stands : (h : History) (old new : MuxState) (e : Done) → Stands h old → Gives h old (Err e) new → StandsOn (step_history old.schedule old.capacity h SlotStep) old new
+pub done_stands : (h : History) (old new : MuxState) (e : Done) → Stands h old → Gives h old (Err e) new →
+    StandsOn (step_history old.schedule old.capacity h SlotStep) old new
 done_stands h old new e st g = subst (λ (x : History). StandsOn x old new) (sym (slot_past old.schedule old.capacity h g.0))
-    (record { stands = subst (λ (m : MuxState). Stands h m) (sym g.1) st; same_schedule = ap (λ (m : MuxState). m.schedule) g.1; same_capacity = ap (λ (m : MuxState). m.capacity) g.1 })
+    (record {
+      stands = subst (λ (m : MuxState). Stands h m) (sym g.1) st;
+      same_schedule = ap (λ (m : MuxState). m.schedule) g.1;
+      same_capacity =
+          ap (λ (m : MuxState). m.capacity) g.1;
+    })
 
 pub done_added : (h : History) (old new : MuxState) (e : Done) (out : List ℕ) → Gives h old (Err e) new →
     Adds old.schedule h (step_history old.schedule old.capacity h SlotStep) out out
-done_added h old new e out g = subst (λ (x : History). Adds old.schedule h x out out) (sym (slot_past old.schedule old.capacity h g.0)) (adds_none old.schedule h out)
+done_added h old new e out g =
+    subst (λ (x : History). Adds old.schedule h x out out) (sym (slot_past old.schedule old.capacity h g.0)) (adds_none old.schedule h out)
 
 -- ---- one unit
 
@@ -94,7 +103,8 @@ unfolding step_history
 unit_kept d capacity h k u = unit_kept_in d capacity h k u (feed_cause d capacity h k u (slice_get d.description.streams k)) refl
 
 pub unit_taken : {V : Type 0} (h : History) (old new : MuxState) (k : ℕ) (u : AccessUnit) (result : Result V (FeedError × AccessUnit)) → Stands h old →
-    Takes h old k u (refusal result) new → IfErr result (λ e. (e.1 ≡ u) × (new ≡ old)) → StandsOn (step_history old.schedule old.capacity h (FeedStep k u)) old new
+    Takes h old k u (refusal result) new → IfErr result (λ e. (e.1 ≡ u) × (new ≡ old)) →
+    StandsOn (step_history old.schedule old.capacity h (FeedStep k u)) old new
 unfolding step_history
 unit_taken h old new k u result st t same =
     subst (λ (x : Option FeedError). StandsOn (fed_history h k u x) old new) t.first (unit_stands h old new k u result st t same)
@@ -108,20 +118,28 @@ pub record Driven (h : History) (old new : MuxState) (steps left : List Step) (o
   pub adds : Adds old.schedule h so_far out now
 
 pub driven_none : (h : History) (m : MuxState) (steps : List Step) (out : List ℕ) → Stands h m → Driven h m m steps steps out out
-driven_none h m steps out st = record { so_far = h; is = refl; stands = record { stands = st; same_schedule = refl; same_capacity = refl }; adds = adds_none m.schedule h out }
+driven_none h m steps out st =
+    record { so_far = h; is = refl; stands = record { stands = st; same_schedule = refl; same_capacity = refl }; adds = adds_none m.schedule h out }
 
-pub driven_more : (h : History) (old mid new : MuxState) (steps left : List Step) (step : Step) (out now later : List ℕ) (w : Driven h old mid steps (step ∷ left) out now) →
+pub driven_more : (h : History) (old mid new : MuxState) (steps left : List Step) (step : Step) (out now later : List ℕ)
+    (w : Driven h old mid steps (step ∷ left) out now) →
     StandsOn (step_history mid.schedule mid.capacity w.so_far step) mid new →
     Adds mid.schedule w.so_far (step_history mid.schedule mid.capacity w.so_far step) now later → Driven h old new steps left out later
 unfolding history_after
 driven_more h old mid new steps left step out now later w on adds =
     let same : step_history mid.schedule mid.capacity w.so_far step ≡ step_history old.schedule old.capacity w.so_far step =
-    ap (λ (d : Scheduled). step_history d mid.capacity w.so_far step) w.stands.same_schedule ∙ ap (λ (n : ℕ). step_history old.schedule n w.so_far step) w.stands.same_capacity in
+    ap (λ (d : Scheduled). step_history d mid.capacity w.so_far step) w.stands.same_schedule
+    ∙ ap (λ (n : ℕ). step_history old.schedule n w.so_far step) w.stands.same_capacity in
     let there = subst (λ (x : History). StandsOn x mid new) same on in
     record {
       so_far = step_history old.schedule old.capacity w.so_far step;
       is = w.is;
-      stands = record { stands = there.stands; same_schedule = there.same_schedule ∙ w.stands.same_schedule; same_capacity = there.same_capacity ∙ w.stands.same_capacity };
+      stands = record {
+        stands = there.stands;
+        same_schedule = there.same_schedule ∙ w.stands.same_schedule;
+        same_capacity =
+            there.same_capacity ∙ w.stands.same_capacity;
+      };
       adds = adds_more old.schedule h w.so_far (step_history old.schedule old.capacity w.so_far step) out now later w.adds
           (subst (λ (x : History). Adds old.schedule w.so_far x now later) same
           (subst (λ (d : Scheduled). Adds d w.so_far (step_history mid.schedule mid.capacity w.so_far step) now later) w.stands.same_schedule adds));
@@ -131,7 +149,8 @@ pub driven_unit : (d : Scheduled) (h later : History) (out : List ℕ) → bytes
 driven_unit d h later out e = record { added = []; bytes = e ∙ sym (append-nil (bytes_of d h)); output = sym (append-nil out) }
 
 -- all are done
-driven_to : (h : History) (old new : MuxState) (steps left : List Step) (out now : List ℕ) (w : Driven h old new steps left out now) → left ≡ [] → w.so_far ≡ history_after old.schedule old.capacity h steps
+driven_to : (h : History) (old new : MuxState) (steps left : List Step) (out now : List ℕ) (w : Driven h old new steps left out now) → left ≡ [] →
+    w.so_far ≡ history_after old.schedule old.capacity h steps
 unfolding history_after
 driven_to h old new steps left out now w none = sym (w.is ∙ ap (λ (l : List Step). history_after old.schedule old.capacity w.so_far l) none)
 
@@ -156,7 +175,8 @@ driven_headline h old new steps left out now ranges promised w none =
 
 -- ---- laws
 
-step_stays : (d : Scheduled) (capacity : ℕ) (h : History) (step : Step) → (added : List ℕ) × (bytes_of d (step_history d capacity h step) ≡ bytes_of d h ++ added)
+step_stays : (d : Scheduled) (capacity : ℕ) (h : History) (step : Step) →
+    (added : List ℕ) × (bytes_of d (step_history d capacity h step) ≡ bytes_of d h ++ added)
 step_stays d capacity h (FeedStep k u) = ([], unit_kept d capacity h k u ∙ sym (append-nil (bytes_of d h)))
 step_stays d capacity h SlotStep = elim (cases_lt h.slots (2 ^ 40)) [
   | inl lt ↦ (packet_of (content_at d h.units h.slots), ap (bytes_of d) (slot_there d capacity h lt) ∙ bytes_more d h)

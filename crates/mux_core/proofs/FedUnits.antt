@@ -78,7 +78,8 @@ streams_fed : FedLaw → (d : Scheduled) (h : History) (capacity k : ℕ) (u : A
     ((j : ℕ) → QueueStands d h capacity j (slice_get queues j) (slice_get d.description.streams j)) → (j : ℕ) →
     QueueStands d (with_unit h k u) capacity j (slice_get (queues_with queues k u (slice_get queues k)) j) (slice_get d.description.streams j)
 streams_fed law d h capacity k u queues rules none st j = elim (cases_eq j k) [
-  | inl e ↦ subst (λ (n : ℕ). QueueStands d (with_unit h k u) capacity n (slice_get (queues_with queues k u (slice_get queues k)) n) (slice_get d.description.streams n))
+  | inl e ↦ subst
+      (λ (n : ℕ). QueueStands d (with_unit h k u) capacity n (slice_get (queues_with queues k u (slice_get queues k)) n) (slice_get d.description.streams n))
       (sym e) (subst (λ (o : Option Queue). QueueStands d (with_unit h k u) capacity k o (slice_get d.description.streams k))
       (sym (fed_same k u queues (slice_get queues k) refl))
       (stream_fed law d h capacity k u (slice_get queues k) (slice_get d.description.streams k) rules refl none (st k)))
@@ -110,7 +111,8 @@ content_kept : LaterUnitLaw → (d : Scheduled) (h : History) (capacity k t : �
     content_in d (with_unit h k u).units t slot ≡ content_in d h.units t slot
 unfolding content_in
 content_kept law d h capacity k t u (Stream j) is none lt = elim (cases_eq j k) [
-  | inl e ↦ subst (λ (n : ℕ). stream_in d (with_unit h k u).units t n (slice_get d.description.streams n) ≡ stream_in d h.units t n (slice_get d.description.streams n))
+  | inl e ↦ subst
+      (λ (n : ℕ). stream_in d (with_unit h k u).units t n (slice_get d.description.streams n) ≡ stream_in d h.units t n (slice_get d.description.streams n))
       (sym e) (own_kept law d h capacity k t u (slice_get d.description.streams k) none (ap (is_own (StreamItem k)) is ∙ eq-eqb k j (sym e)) lt)
   | inr ne ↦ other_kept d h j k t u (slice_get d.description.streams j) ne
 ]

@@ -31,7 +31,8 @@ next_queue d capacity i queues s at lt is =
     ∙ sym (ap (map (first_queue d capacity)) (take-suc d.streams i s lt))
     ∙ ap (λ (n : ℕ). map (first_queue d capacity) (take n d.streams)) {x = suc i} {y = i + 1} (omega arith)
 
-pub parameters_here : (d : Described) (i : ℕ) (s : DescribedStream) → IsInRange d → s ≡ get_or d.streams i s → i < length d.streams → ParametersInRange (parameters_of d s)
+pub parameters_here : (d : Described) (i : ℕ) (s : DescribedStream) → IsInRange d → s ≡ get_or d.streams i s → i < length d.streams →
+    ParametersInRange (parameters_of d s)
 parameters_here d i s ranges at lt = parameters_fit d s ranges (subst IsStream (sym at) (All-get_or IsStream d.streams i s lt ranges.streams))
 
 pub next_carousel : (d : Described) (t n : ℕ) → first_carousels d t n ++ (first_carousel d (t + n) ∷ []) ≡ first_carousels d t (suc n)
@@ -40,7 +41,8 @@ next_carousel d t zero = ap (λ (x : ℕ). first_carousel d x ∷ []) (omega ari
 next_carousel d t (suc n) = ap (λ (l : List Carousel). first_carousel d t ∷ l)
     (ap (λ (x : ℕ). first_carousels d (suc t) n ++ (first_carousel d x ∷ [])) (omega arith) ∙ next_carousel d (suc t) n)
 
-pub carousels_more : (d : Described) (n : ℕ) (carousels : List Carousel) (carousel : Carousel) → carousels ≡ first_carousels d 0 n → carousel ≡ first_carousel d n →
+pub carousels_more : (d : Described) (n : ℕ) (carousels : List Carousel) (carousel : Carousel) → carousels ≡ first_carousels d 0 n →
+    carousel ≡ first_carousel d n →
     carousels ++ (carousel ∷ []) ≡ first_carousels d 0 (n + 1)
 carousels_more d n carousels carousel are is =
     ap (λ (ts : List Carousel). ts ++ (carousel ∷ [])) are
@@ -61,17 +63,20 @@ queues_at d capacity k [] = refl
 queues_at d capacity zero (s ∷ streams) = refl
 queues_at d capacity (suc k) (s ∷ streams) = queues_at d capacity k streams
 
-queue_stands : (d : Scheduled) (capacity k : ℕ) (s : Option DescribedStream) → QueueStands d empty_history capacity k (option_map (first_queue d.description capacity) s) s
+queue_stands : (d : Scheduled) (capacity k : ℕ) (s : Option DescribedStream) →
+    QueueStands d empty_history capacity k (option_map (first_queue d.description capacity) s) s
 queue_stands d capacity k (Some s) = first_law (owned_stream d k s) capacity
 queue_stands d capacity k None = tt
 
-carousels_at : (d : Described) (t k : ℕ) (kinds : List TableKind) → slice_get (first_carousels d t (length kinds)) k ≡ option_map (λ x. first_carousel d (t + k)) (slice_get kinds k)
+carousels_at : (d : Described) (t k : ℕ) (kinds : List TableKind) →
+    slice_get (first_carousels d t (length kinds)) k ≡ option_map (λ x. first_carousel d (t + k)) (slice_get kinds k)
 unfolding first_carousels
 carousels_at d t k [] = refl
 carousels_at d t zero (x ∷ kinds) = ap (λ (n : ℕ). Some (first_carousel d n)) (omega arith)
 carousels_at d t (suc k) (x ∷ kinds) = carousels_at d (suc t) k kinds ∙ ap (λ (n : ℕ). option_map (λ y. first_carousel d n) (slice_get kinds k)) (omega arith)
 
-carousels_here : (d : Described) (k : ℕ) (kinds : List TableKind) → slice_get (first_carousels d 0 (length kinds)) k ≡ option_map (λ x. first_carousel d k) (slice_get kinds k)
+carousels_here : (d : Described) (k : ℕ) (kinds : List TableKind) →
+    slice_get (first_carousels d 0 (length kinds)) k ≡ option_map (λ x. first_carousel d k) (slice_get kinds k)
 carousels_here d k kinds = carousels_at d 0 k kinds ∙ ap (λ (n : ℕ). option_map (λ x. first_carousel d n) (slice_get kinds k)) (omega arith)
 
 carousel_stands : (d : Scheduled) (t : ℕ) (kind : Option TableKind) → IsInRange d.description → slice_get (table_kinds d.description) t ≡ kind →
@@ -100,5 +105,6 @@ pub begins : (d : Scheduled) (queues : List Queue) (carousels : List Carousel) (
     Stands empty_history (record { schedule = d; queues = queues; carousels = carousels; capacity = capacity; slots = 0 })
 begins d queues carousels capacity ranges are are_carousels =
     subst (λ (qs : List Queue). Stands empty_history (record { schedule = d; queues = qs; carousels = carousels; capacity = capacity; slots = 0 })) (sym are)
-    (subst (λ (ts : List Carousel). Stands empty_history (record { schedule = d; queues = map (first_queue d.description capacity) d.description.streams; carousels = ts; capacity = capacity; slots = 0 }))
+    (subst (λ (ts : List Carousel). Stands empty_history
+    (record { schedule = d; queues = map (first_queue d.description capacity) d.description.streams; carousels = ts; capacity = capacity; slots = 0 }))
     (sym are_carousels) (stands_first d capacity ranges))

@@ -1,5 +1,6 @@
 -- A job from its units to the last byte.
-use Rattle.std.proofs.Common.{◌≡◌, ℕ, zero, suc, ◌+◌, ◌*◌, ◌<◌, ◌≤◌, ◌^◌, Bool, true, false, List, [], ◌∷◌, length, take, Option, Some, None, Result, Ok, Err, sym, ap, ◌∙◌, subst, arith}
+use Rattle.std.proofs.Common.{◌≡◌, ℕ, zero, suc, ◌+◌, ◌*◌, ◌<◌, ◌≤◌, ◌^◌, Bool, true, false, List, [], ◌∷◌, length, take, Option, Some, None, Result, Ok, Err}
+use Rattle.std.proofs.Common.{sym, ap, ◌∙◌, subst, arith}
 use Rattle.std.specs.Prelude.{IfOk, if◌then◌else◌}
 use Rattle.std.proofs.KnownBytes.{Appends-nil}
 use Rattle.std.proofs.lemmas.Bool.{lt-ltb, le-ltb}
@@ -22,7 +23,8 @@ use Rattle.mux_core.specs.MeasuredRuns.{MeasuresWell}
 use Rattle.packet_output.specs.Formats.{formatted}
 use Rattle.packet_output.specs.Buffer.{Buffered, IsOutput}
 use Rattle.mux_core.specs.NewMux.{is_periods}
-use Rattle.mux_core.specs.WholeJobs.{job_history, capacity_for, or_cause, first_refused, job_cause, Refuses, run_output, output_of, slot_size, WritesAll, Writes, OnWriting, AllFed, slots_cause, periods_cause}
+use Rattle.mux_core.specs.WholeJobs.{job_history, capacity_for, or_cause, first_refused, job_cause, Refuses, run_output, output_of, slot_size, WritesAll}
+use Rattle.mux_core.specs.WholeJobs.{Writes, OnWriting, AllFed, slots_cause, periods_cause}
 use Rattle.mux_core.specs.declared.multiplexing.MuxError.{MuxError}
 use Rattle.mux_core.specs.declared.multiplexing.MuxError.TheVariants.{TooManySlots, Periods, Feed, Device, Memory}
 use Rattle.mux_core.proofs.Whole.{contents_fit}
@@ -40,7 +42,8 @@ pub output_size : (hex : Bool) (content : ℕ → Content) (s n : ℕ) → Fits 
 unfolding run_output
 output_size hex content s zero fits = omega arith
 output_size hex content s (suc n) fits =
-    let one : length (formatted hex (packet_of (content s))) ≡ slot_size hex = leaving_size hex (packet_of (content s)) (content_again (content s) (fits s)).size in
+    let one : length (formatted hex (packet_of (content s))) ≡ slot_size hex =
+    leaving_size hex (packet_of (content s)) (content_again (content s) (fits s)).size in
     let rest : length (run_output hex content (suc s) n) ≡ slot_size hex * n = output_size hex content (suc s) n fits in
     let step : slot_size hex * suc n ≡ slot_size hex + slot_size hex * n = omega arith in
     length-append (formatted hex (packet_of (content s))) (run_output hex content (suc s) n)
@@ -90,7 +93,8 @@ refuses_as early line d units result none same r =
     (subst (λ (x : Scheduled). Refuses None (job_cause None x units) result) same r)
 
 -- where no cause holds
-pub answers : (cause : Option MuxError) (out : List ℕ) (old new : Option (List ℕ)) (result : Result ℕ MuxError) → cause ≡ None → WritesAll out old new result → Refuses None cause result
+pub answers : (cause : Option MuxError) (out : List ℕ) (old new : Option (List ℕ)) (result : Result ℕ MuxError) → cause ≡ None → WritesAll out old new result →
+    Refuses None cause result
 answers cause out old new (Ok sent) none w = none
 answers cause out old new (Err TooManySlots) none w = absurd w
 answers cause out old new (Err Periods) none w = absurd w
@@ -98,7 +102,8 @@ answers cause out old new (Err (Feed index refused)) none w = absurd w
 answers cause out old new (Err (Device sent)) none w = none
 answers cause out old new (Err Memory) none w = absurd w
 
-pub writes : (out : List ℕ) (old new : Option (List ℕ)) (result : Result ℕ MuxError) → length out < 2 ^ 64 → WritesAll out old new result → Writes out old new result
+pub writes : (out : List ℕ) (old new : Option (List ℕ)) (result : Result ℕ MuxError) → length out < 2 ^ 64 → WritesAll out old new result →
+    Writes out old new result
 writes out old new (Ok sent) short w = w.1
 writes out old new (Err TooManySlots) short w = absurd w
 writes out old new (Err Periods) short w = absurd w
@@ -108,7 +113,8 @@ writes out old new (Err (Device sent)) short w =
     (omega (arith, exact, w.within), subst (λ (n : ℕ). Appends old new (take n out)) (sym exact) w.taken)
 writes out old new (Err Memory) short w = absurd w
 
-pub sends : (out : List ℕ) (size : ℕ) (old new : Option (List ℕ)) (result : Result ℕ MuxError) → length out ≡ size → size < 2 ^ 64 → WritesAll out old new result →
+pub sends : (out : List ℕ) (size : ℕ) (old new : Option (List ℕ)) (result : Result ℕ MuxError) → length out ≡ size → size < 2 ^ 64 →
+    WritesAll out old new result →
     IfOk result (λ sent. sent ≡ size)
 sends out size old new (Ok sent) is short w = omega (arith, w.0, is, short)
 sends out size old new (Err e) is short w = tt
@@ -132,12 +138,15 @@ fed_size old new units hex slots ranges fed =
     (contents_fit new.schedule (λ k. units_of k units) (subst (λ (d : Scheduled). IsInRange d.description) (sym fed.same_schedule) ranges)
     (units_kept (job_history units 0) new (subst (λ (d : Scheduled). IsInRange d.description) (sym fed.same_schedule) ranges) fed.stands)))
 
-pub fed_short : (old new : MuxState) (units : List (ℕ × AccessUnit)) (hex : Bool) (slots : ℕ) → IsInRange old.schedule.description → slots ≤ 2 ^ 40 → AllFed old units new →
+pub fed_short : (old new : MuxState) (units : List (ℕ × AccessUnit)) (hex : Bool) (slots : ℕ) → IsInRange old.schedule.description → slots ≤ 2 ^ 40 →
+    AllFed old units new →
     length (output_of hex old.schedule (job_history units slots)) < 2 ^ 64
-fed_short old new units hex slots ranges most fed = subst (λ (n : ℕ). n < 2 ^ 64) (sym (fed_size old new units hex slots ranges fed)) (output_short hex slots most)
+fed_short old new units hex slots ranges most fed =
+    subst (λ (n : ℕ). n < 2 ^ 64) (sym (fed_size old new units hex slots ranges fed)) (output_short hex slots most)
 
 -- and keeps every promise
-pub fed_headline : (old new : MuxState) (units : List (ℕ × AccessUnit)) (slots : ℕ) → IsInRange old.schedule.description → Promised old.schedule.description old.schedule.schedule →
+pub fed_headline : (old new : MuxState) (units : List (ℕ × AccessUnit)) (slots : ℕ) → IsInRange old.schedule.description →
+    Promised old.schedule.description old.schedule.schedule →
     AllFed old units new → Headline old.schedule (λ k. units_of k units) slots (bytes_of old.schedule (job_history units slots))
 fed_headline old new units slots ranges promised fed =
     subst (λ (d : Scheduled). Headline d (λ k. units_of k units) slots (run_bytes (content_at d (λ k. units_of k units)) 0 slots)) fed.same_schedule
@@ -145,14 +154,16 @@ fed_headline old new units slots ranges promised fed =
     (subst (λ (d : Scheduled). Promised d.description d.schedule) (sym fed.same_schedule) promised) fed.stands)
 
 -- so that it is measured, and no fault is found
-pub fed_measured : (old new : MuxState) (units : List (ℕ × AccessUnit)) (slots : ℕ) → IsInRange old.schedule.description → Promised old.schedule.description old.schedule.schedule →
+pub fed_measured : (old new : MuxState) (units : List (ℕ × AccessUnit)) (slots : ℕ) → IsInRange old.schedule.description →
+    Promised old.schedule.description old.schedule.schedule →
     AllFed old units new → MeasuresWell old.schedule units (bytes_of old.schedule (job_history units slots))
 fed_measured old new units slots ranges promised fed =
     measures_well old.schedule units slots (bytes_of old.schedule (job_history units slots)) (fed_headline old new units slots ranges promised fed)
     (accepted_declared old.schedule old.capacity [] units fed.none_refused)
 
 -- what was written of the multiplexer that was fed, as of the one before
-pub fed_writes : (old new : MuxState) (units : List (ℕ × AccessUnit)) (hex : Bool) (slots : ℕ) (before after : Option (List ℕ)) (result : Result ℕ MuxError) (kept : Bool) →
+pub fed_writes : (old new : MuxState) (units : List (ℕ × AccessUnit)) (hex : Bool) (slots : ℕ) (before after : Option (List ℕ)) (result : Result ℕ MuxError)
+    (kept : Bool) →
     AllFed old units new → kept ≡ hex → WritesAll (run_output kept (content_at new.schedule (λ k. units_of k units)) 0 slots) before after result →
     WritesAll (output_of hex old.schedule (job_history units slots)) before after result
 fed_writes old new units hex slots before after result kept fed same w =

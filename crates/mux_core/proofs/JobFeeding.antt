@@ -1,5 +1,6 @@
 -- The units of a job, fed one by one before the first slot.
-use Rattle.std.proofs.Common.{◌≡◌, ℕ, ◌+◌, Bool, cond, nat_eq, List, [], ◌∷◌, ◌++◌, length, Option, Some, None, refl, sym, ap, ◌∙◌, subst, arith, inl, inr, append-nil, append_assoc}
+use Rattle.std.proofs.Common.{◌≡◌, ℕ, ◌+◌, Bool, cond, nat_eq, List, [], ◌∷◌, ◌++◌, length, Option, Some, None, refl, sym, ap, ◌∙◌, subst, arith, inl, inr}
+use Rattle.std.proofs.Common.{append-nil, append_assoc}
 use Rattle.std.specs.Prelude.{slice_get}
 use Rattle.std.proofs.Math.Path.{fun_ext}
 use Rattle.std.proofs.lemmas.Bool.{eq-eqb, ne_eqb, cases_eq}
@@ -21,7 +22,8 @@ units_more fed entry j = elim (cases_eq j entry.0) [
   | inl e ↦ ap (λ (b : Bool). cond b (units_of j fed ++ (entry.1 ∷ [])) (units_of j fed)) (eq-eqb j entry.0 e)
       ∙ ap (λ (l : List AccessUnit). units_of j fed ++ l) (sym (own_units j entry [] (sym e))) ∙ sym (units_append j fed (entry ∷ []))
   | inr ne ↦ ap (λ (b : Bool). cond b (units_of j fed ++ (entry.1 ∷ [])) (units_of j fed)) (ne_eqb j entry.0 ne)
-      ∙ sym (append-nil (units_of j fed)) ∙ ap (λ (l : List AccessUnit). units_of j fed ++ l) (sym (other_units j entry [] (λ e. ne (sym e)))) ∙ sym (units_append j fed (entry ∷ []))
+      ∙ sym (append-nil (units_of j fed)) ∙ ap (λ (l : List AccessUnit). units_of j fed ++ l) (sym (other_units j entry [] (λ e. ne (sym e))))
+      ∙ sym (units_append j fed (entry ∷ []))
 ]
 
 pub history_more : (fed : List (ℕ × AccessUnit)) (entry : ℕ × AccessUnit) → with_unit (job_history fed 0) entry.0 entry.1 ≡ job_history (fed ++ (entry ∷ [])) 0
@@ -38,14 +40,17 @@ pub record FedSoFar (old : MuxState) (units : List (ℕ × AccessUnit)) (new : M
   pub is : first_refused old.schedule old.capacity [] units ≡ first_refused old.schedule old.capacity fed left
 
 -- the next unit is judged as the history so far says
-judged : (old mid : MuxState) (units : List (ℕ × AccessUnit)) (index : ℕ) (entry : ℕ × AccessUnit) (left : List (ℕ × AccessUnit)) (refused : Option FeedError) (new : MuxState)
+judged : (old mid : MuxState) (units : List (ℕ × AccessUnit)) (index : ℕ) (entry : ℕ × AccessUnit) (left : List (ℕ × AccessUnit)) (refused : Option FeedError)
+    (new : MuxState)
     (w : FedSoFar old units mid index (entry ∷ left)) → Takes (job_history w.fed 0) mid entry.0 entry.1 refused new →
-    first_refused old.schedule old.capacity [] units ≡ or_cause (unit_refused index refused) (first_refused old.schedule old.capacity (w.fed ++ (entry ∷ [])) left)
+    first_refused old.schedule old.capacity [] units ≡ or_cause (unit_refused index refused)
+    (first_refused old.schedule old.capacity (w.fed ++ (entry ∷ [])) left)
 unfolding first_refused
 judged old mid units index entry left refused new w takes =
     let cause : cause_after old.schedule old.capacity w.fed entry ≡ refused =
     ap (λ (d : Scheduled). feed_cause d old.capacity (job_history w.fed 0) entry.0 entry.1 (slice_get d.description.streams entry.0)) (sym w.same_schedule)
-    ∙ ap (λ (n : ℕ). feed_cause mid.schedule n (job_history w.fed 0) entry.0 entry.1 (slice_get mid.schedule.description.streams entry.0)) (sym w.same_capacity) ∙ sym takes.first in
+    ∙ ap (λ (n : ℕ). feed_cause mid.schedule n (job_history w.fed 0) entry.0 entry.1 (slice_get mid.schedule.description.streams entry.0)) (sym w.same_capacity)
+    ∙ sym takes.first in
     w.is ∙ ap (λ (x : Option FeedError). or_cause (unit_refused (length w.fed) x) (first_refused old.schedule old.capacity (w.fed ++ (entry ∷ [])) left)) cause
     ∙ ap (λ (n : ℕ). or_cause (unit_refused n refused) (first_refused old.schedule old.capacity (w.fed ++ (entry ∷ [])) left)) (sym w.index_is)
 
@@ -62,13 +67,15 @@ fed_more old mid units index entry left new w takes = record {
   is = judged old mid units index entry left None new w takes;
 }
 
-pub fed_refused : (old mid : MuxState) (units : List (ℕ × AccessUnit)) (index : ℕ) (entry : ℕ × AccessUnit) (left : List (ℕ × AccessUnit)) (cause : FeedError) (new : MuxState)
+pub fed_refused : (old mid : MuxState) (units : List (ℕ × AccessUnit)) (index : ℕ) (entry : ℕ × AccessUnit) (left : List (ℕ × AccessUnit)) (cause : FeedError)
+    (new : MuxState)
     (w : FedSoFar old units mid index (entry ∷ left)) → Takes (job_history w.fed 0) mid entry.0 entry.1 (Some cause) new →
     first_refused old.schedule old.capacity [] units ≡ Some (Feed index cause)
 unfolding or_cause unit_refused
 fed_refused old mid units index entry left cause new w takes = judged old mid units index entry left (Some cause) new w takes
 
-pub fed_all : (old new : MuxState) (units : List (ℕ × AccessUnit)) (index : ℕ) (left : List (ℕ × AccessUnit)) → FedSoFar old units new index left → left ≡ [] → AllFed old units new
+pub fed_all : (old new : MuxState) (units : List (ℕ × AccessUnit)) (index : ℕ) (left : List (ℕ × AccessUnit)) → FedSoFar old units new index left → left ≡ [] →
+    AllFed old units new
 unfolding first_refused
 fed_all old new units index left w none =
     let same : units ≡ w.fed = w.all ∙ ap (λ (l : List (ℕ × AccessUnit)). w.fed ++ l) none ∙ append-nil w.fed in

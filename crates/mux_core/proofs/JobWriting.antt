@@ -1,5 +1,6 @@
 -- The slots of a job, written one by one.
-use Rattle.std.proofs.Common.{◌≡◌, ℕ, zero, suc, ◌+◌, ◌-◌, ◌<◌, ◌≤◌, ◌^◌, Bool, false, List, [], ◌++◌, Option, Ok, Err, refl, sym, ap, ◌∙◌, subst, arith, append_assoc, append-nil}
+use Rattle.std.proofs.Common.{◌≡◌, ℕ, zero, suc, ◌+◌, ◌-◌, ◌<◌, ◌≤◌, ◌^◌, Bool, false, List, [], ◌++◌, Option, Ok, Err, refl, sym, ap, ◌∙◌, subst, arith}
+use Rattle.std.proofs.Common.{append_assoc, append-nil}
 use Rattle.slot_contents.specs.Contents.{Content, packet_of, run_bytes}
 use Rattle.packet_output.specs.Buffer.{Buffered, IsOutput, Took}
 use Rattle.packet_output.specs.Formats.{formatted}
@@ -17,7 +18,8 @@ output_bytes content s zero = refl
 output_bytes content s (suc n) = ap (λ (l : List ℕ). packet_of (content s) ++ l) (output_bytes content (suc s) n)
 
 -- the output of slots, and of others after them
-output_parts : (hex : Bool) (content : ℕ → Content) (s n m : ℕ) → run_output hex content s (n + m) ≡ run_output hex content s n ++ run_output hex content (s + n) m
+output_parts : (hex : Bool) (content : ℕ → Content) (s n m : ℕ) → run_output hex content s (n + m) ≡ run_output hex content s n
+    ++ run_output hex content (s + n) m
 unfolding run_output
 output_parts hex content s zero m =
     let e : 0 + m ≡ m = omega arith in let f : s + 0 ≡ s = omega arith in rw (e, f) refl
@@ -25,13 +27,15 @@ output_parts hex content s (suc n) m =
     let e : suc n + m ≡ suc (n + m) = omega arith in
     let f : suc s + n ≡ s + suc n = omega arith in
     rw (e, append_assoc (formatted hex (packet_of (content s))) (run_output hex content (suc s) n) (run_output hex content (s + suc n) m))
-    (ap (λ (l : List ℕ). formatted hex (packet_of (content s)) ++ l) (output_parts hex content (suc s) n m ∙ ap (λ (k : ℕ). run_output hex content (suc s) n ++ run_output hex content k m) f))
+    (ap (λ (l : List ℕ). formatted hex (packet_of (content s)) ++ l)
+    (output_parts hex content (suc s) n m ∙ ap (λ (k : ℕ). run_output hex content (suc s) n ++ run_output hex content k m) f))
 
 output_one : (hex : Bool) (content : ℕ → Content) (s : ℕ) → run_output hex content s 1 ≡ formatted hex (packet_of (content s))
 unfolding run_output
 output_one hex content s = append-nil (formatted hex (packet_of (content s)))
 
-pub output_more : (hex : Bool) (content : ℕ → Content) (n : ℕ) → run_output hex content 0 (n + 1) ≡ run_output hex content 0 n ++ formatted hex (packet_of (content n))
+pub output_more : (hex : Bool) (content : ℕ → Content) (n : ℕ) → run_output hex content 0 (n + 1) ≡ run_output hex content 0 n
+    ++ formatted hex (packet_of (content n))
 output_more hex content n =
     let f : 0 + n ≡ n = omega arith in
     output_parts hex content 0 n 1 ∙ ap (λ (k : ℕ). run_output hex content 0 n ++ run_output hex content k 1) f
@@ -57,7 +61,8 @@ written_none h old hex start now packets none stands holds = record {
 }
 
 -- the output with one packet more
-next_output : (h : History) (old mid new : MuxState) (hex phex : Bool) (n : ℕ) (packet : List ℕ) → mid.schedule ≡ old.schedule → phex ≡ hex → Gives (at_slot h n) mid (Ok packet) new →
+next_output : (h : History) (old mid new : MuxState) (hex phex : Bool) (n : ℕ) (packet : List ℕ) → mid.schedule ≡ old.schedule → phex ≡ hex →
+    Gives (at_slot h n) mid (Ok packet) new →
     run_output hex (content_at old.schedule h.units) 0 n ++ formatted phex packet ≡ run_output hex (content_at old.schedule h.units) 0 (n + 1)
 next_output h old mid new hex phex n packet line same gives =
     let content = content_at old.schedule h.units in
@@ -65,9 +70,11 @@ next_output h old mid new hex phex n packet line same gives =
     ∙ ap (λ (x : List ℕ). run_output hex content 0 n ++ formatted hex x) (gives.1 ∙ ap (λ (d : Scheduled). packet_of (content_at d h.units n)) line)
     ∙ sym (output_more hex content n)
 
-pub written_more : (h : History) (old mid new : MuxState) (hex phex : Bool) (n : ℕ) (start now later : Option (List ℕ)) (packets after : Buffered) (packet : List ℕ) →
+pub written_more : (h : History) (old mid new : MuxState) (hex phex : Bool) (n : ℕ) (start now later : Option (List ℕ)) (packets after : Buffered)
+    (packet : List ℕ) →
     SlotsWritten h old mid hex n start now packets → phex ≡ hex → Gives (at_slot h n) mid (Ok packet) new →
-    IsOutput start later after (run_output hex (content_at old.schedule h.units) 0 n ++ formatted phex packet) → SlotsWritten h old new hex (n + 1) start later after
+    IsOutput start later after (run_output hex (content_at old.schedule h.units) 0 n ++ formatted phex packet) →
+    SlotsWritten h old new hex (n + 1) start later after
 written_more h old mid new hex phex n start now later packets after packet w same gives holds =
     let next : suc n ≡ n + 1 = omega arith in
     record {
@@ -76,7 +83,8 @@ written_more h old mid new hex phex n start now later packets after packet w sam
       holds = subst (λ (l : List ℕ). IsOutput start later after l) (next_output h old mid new hex phex n packet w.same_schedule same gives) holds;
     }
 
-pub written_failed : (h : History) (old mid new : MuxState) (hex phex : Bool) (n slots sent : ℕ) (start now later : Option (List ℕ)) (packets : Buffered) (packet : List ℕ) →
+pub written_failed : (h : History) (old mid new : MuxState) (hex phex : Bool) (n slots sent : ℕ) (start now later : Option (List ℕ)) (packets : Buffered)
+    (packet : List ℕ) →
     SlotsWritten h old mid hex n start now packets → n < slots → phex ≡ hex → Gives (at_slot h n) mid (Ok packet) new →
     Took start later sent (run_output hex (content_at old.schedule h.units) 0 n ++ formatted phex packet) →
     Took start later sent (run_output hex (content_at old.schedule h.units) 0 slots)

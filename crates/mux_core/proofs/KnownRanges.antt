@@ -47,7 +47,8 @@ parameters_known d ranges k s is = parameters_fit d.description s ranges (stream
 
 pub sources_known : (d : Scheduled) (t : ℕ) (kind : TableKind) → slice_get (table_kinds d.description) t ≡ Some kind →
     IsSourceOf (table_of d t) (section_bytes d.description t)
-sources_known d t kind is j moment lt = rw (lt-ltb t (length (table_kinds d.description)) (slice_get_within (table_kinds d.description) t kind is), lt-ltb j _ lt) refl
+sources_known d t kind is j moment lt =
+    rw (lt-ltb t (length (table_kinds d.description)) (slice_get_within (table_kinds d.description) t kind is), lt-ltb j _ lt) refl
 
 pub tables_known : SectionsLaw → (d : Scheduled) → IsInRange d.description → TablesKnown d
 tables_known law d ranges = record {

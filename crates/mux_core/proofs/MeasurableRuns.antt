@@ -1,5 +1,6 @@
 -- What keeps its promises can be measured, where its units are declared; and units that were accepted are.
-use Rattle.std.proofs.Common.{◌≡◌, ℕ, suc, ◌+◌, ◌%◌, ◌≤◌, ◌&&◌, Bool, true, List, [], ◌∷◌, ◌++◌, length, slice_get, Option, Some, None, Ok, All, refl, subst, arith}
+use Rattle.std.proofs.Common.{◌≡◌, ℕ, suc, ◌+◌, ◌%◌, ◌≤◌, ◌&&◌, Bool, true, List, [], ◌∷◌, ◌++◌, length, slice_get, Option, Some, None, Ok, All, refl, subst}
+use Rattle.std.proofs.Common.{arith}
 use Rattle.std.specs.List.{list_all}
 use Rattle.std.proofs.lemmas.Bool.{le-leb}
 use Rattle.std.proofs.lemmas.List.Elements.{All-head, All-tail}
@@ -59,7 +60,8 @@ measurable d units slots bytes h declared =
 
 -- ---- accepted units are declared
 
-within : (d : Scheduled) (capacity : ℕ) (h : History) (k : ℕ) (u : AccessUnit) (o : Option DescribedStream) → feed_cause d capacity h k u o ≡ None → is_within (length u.bytes) o ≡ true
+within : (d : Scheduled) (capacity : ℕ) (h : History) (k : ℕ) (u : AccessUnit) (o : Option DescribedStream) → feed_cause d capacity h k u o ≡ None →
+    is_within (length u.bytes) o ≡ true
 unfolding feed_cause
 within d capacity h k u None e = absurd (let no : ⊥ = cc in no)
 within d capacity h k u (Some s) e =
@@ -80,7 +82,8 @@ unfolding unit_refused
 not_refused index None e = refl
 not_refused index (Some cause) e = absurd (let no : ⊥ = cc in no)
 
-pub accepted_declared : (d : Scheduled) (capacity : ℕ) (fed rest : List (ℕ × AccessUnit)) → first_refused d capacity fed rest ≡ None → list_all (is_declared d.description) rest ≡ true
+pub accepted_declared : (d : Scheduled) (capacity : ℕ) (fed rest : List (ℕ × AccessUnit)) → first_refused d capacity fed rest ≡ None →
+    list_all (is_declared d.description) rest ≡ true
 unfolding first_refused
 accepted_declared d capacity fed [] e = refl
 accepted_declared d capacity fed (entry ∷ rest) e =

@@ -16,7 +16,8 @@ use Rattle.mux_core.specs.MeasuredRuns.{MeasuredLaw}
 
 -- where no unit of any of these streams is late, there is no first one
 none_late : (d : Described) (units : List (ℕ × AccessUnit)) (bytes : List ℕ) (number : ℕ) (streams : List DescribedStream)
-    → ((k : ℕ) (s : DescribedStream) → slice_get streams k ≡ Some s → late_in d.rate d.base0 (length bytes / 188) s (units_of (number + k) units) (packets_on s.pid bytes) s.multiplexing ≡ None)
+    → ((k : ℕ) (s : DescribedStream) → slice_get streams k ≡ Some s →
+    late_in d.rate d.base0 (length bytes / 188) s (units_of (number + k) units) (packets_on s.pid bytes) s.multiplexing ≡ None)
     → late_from d units bytes number streams ≡ None
 unfolding late_from
 none_late d units bytes number [] none = refl
@@ -26,7 +27,8 @@ none_late d units bytes number (s ∷ streams) none =
     subst (λ (n : ℕ). late_in d.rate d.base0 (length bytes / 188) s (units_of n units) (packets_on s.pid bytes) s.multiplexing ≡ None) here (none 0 s refl) in
     let rest = none_late d units bytes (number + 1) streams (λ k t e.
     let there : number + suc k ≡ number + 1 + k = omega arith in
-    subst (λ (n : ℕ). late_in d.rate d.base0 (length bytes / 188) t (units_of n units) (packets_on t.pid bytes) t.multiplexing ≡ None) there (none (suc k) t e)) in
+    subst (λ (n : ℕ). late_in d.rate d.base0 (length bytes / 188) t (units_of n units) (packets_on t.pid bytes) t.multiplexing ≡ None) there (none (suc k) t e))
+    in
     ap (λ o. late_or number o (late_from d units bytes (number + 1) streams)) first ∙ rest
 
 -- a stream of which every promise is kept has no late unit, in its transport buffer or, of video, in its elementary stream buffer
@@ -55,11 +57,14 @@ measured d units slots bytes found h streams programs late = record {
       ∙ late_nowhere d k s (units_of k units) slots bytes s.multiplexing (h.streams k s e).video (h.streams k s e));
   streams = λ k s f e there.
       let kept = h.streams k s e in
-      let full = streams.each k s f e there in
-      (subst (λ (n : ℕ). n ≤ 512) full.transport.reached (kept.transport full.transport.moment), subst (λ (n : ℕ). n ≤ s.main) full.main.reached (kept.main_buffer full.main.moment));
+      let full = streams.each k s f e there in (
+        subst (λ (n : ℕ). n ≤ 512) full.transport.reached (kept.transport full.transport.moment),
+        subst (λ (n : ℕ). n ≤ s.main) full.main.reached (kept.main_buffer full.main.moment),
+      );
   videos = λ k s f b v e there has is.
       let kept = (h.streams k s e).video b has in
-      let full = two_numbers d.description.rate d.description.base0 s (units_of k units) bytes s.multiplexing f.video b v has is (streams.each k s f e there).video in (
+      let full = two_numbers d.description.rate d.description.base0 s (units_of k units) bytes s.multiplexing f.video b v has is
+      (streams.each k s f e there).video in (
         subst (λ (n : ℕ). n ≤ b.size) full.multiplexing.reached (kept.multiplexing full.multiplexing.moment),
         subst (λ (n : ℕ). n ≤ s.main) full.elementary.reached (kept.elementary full.elementary.moment),
       );

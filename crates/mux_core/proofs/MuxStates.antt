@@ -51,7 +51,8 @@ capacity_stays m Null = refl
 
 -- a slot is filled: the packet is the history's
 pub gives : (h : History) (old : MuxState) (packet : List ℕ) (new : MuxState) → IsInRange old.schedule.description → Stands h old → old.slots < 2 ^ 40 →
-    packet ≡ packet_of (sends old (slot_of old.schedule.schedule old.slots)) → new ≡ after old (slot_of old.schedule.schedule old.slots) → Gives h old (Ok packet) new
+    packet ≡ packet_of (sends old (slot_of old.schedule.schedule old.slots)) → new ≡ after old (slot_of old.schedule.schedule old.slots) →
+    Gives h old (Ok packet) new
 unfolding content_at
 gives h old packet new ranges st below is state =
     let slot = slot_of old.schedule.schedule old.slots in

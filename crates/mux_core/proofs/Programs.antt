@@ -1,5 +1,6 @@
 -- The clock references and the tables' buffers of a program in the finished bytes.
-use Rattle.std.proofs.Common.{◌≡◌, ℕ, zero, suc, ◌+◌, ◌-◌, ◌*◌, ◌<◌, ◌≤◌, ◌==◌, ◌||◌, Bool, true, List, [], ◌∷◌, length, map, Some, slice_get, refl, ap, sym, subst, ◌∙◌, arith, inl, inr, eq-eqb}
+use Rattle.std.proofs.Common.{◌≡◌, ℕ, zero, suc, ◌+◌, ◌-◌, ◌*◌, ◌<◌, ◌≤◌, ◌==◌, ◌||◌, Bool, true, List, [], ◌∷◌, length, map, Some, slice_get, refl, ap, sym}
+use Rattle.std.proofs.Common.{subst, ◌∙◌, arith, inl, inr, eq-eqb}
 use Rattle.std.proofs.lemmas.Bool.{cases_Bool, false≢true, eqb-true}
 use Rattle.std.proofs.lemmas.Option.{slice_get_within}
 use Rattle.clock27.specs.Recurrence.{Recur}
@@ -48,7 +49,8 @@ own_is i Null e = absurd (false≢true e)
 abbrev clock_of : (d : Scheduled) (p : DescribedProgram) → ℕ → Content
 clock_of d p s = PcrContent p.pcr_pid (pcr_at d.description.rate d.description.base0 (188 * s + 10))
 
-clock_at : (d : Scheduled) (units : ℕ → List AccessUnit) (s i : ℕ) (p : DescribedProgram) → slice_get d.description.programs i ≡ Some p → slot_of d.schedule s ≡ Pcr i
+clock_at : (d : Scheduled) (units : ℕ → List AccessUnit) (s i : ℕ) (p : DescribedProgram) → slice_get d.description.programs i ≡ Some p →
+    slot_of d.schedule s ≡ Pcr i
     → content_at d units s ≡ clock_of d p s
 unfolding content_at content_in pcr_content
 clock_at d units s i p is e = ap (content_in d units s) e ∙ ap (pcr_content d.description s) is
@@ -58,7 +60,8 @@ unfolding content_pid
 clock_pid d p s = is_content_pid p.pcr_pid (clock_of d p s) ∙ eq-eqb p.pcr_pid p.pcr_pid refl
 
 -- exactly its own slots are on the PID
-clock_slots : (d : Scheduled) (units : ℕ → List AccessUnit) (i : ℕ) (p : DescribedProgram) → IsInRange d.description → slice_get d.description.programs i ≡ Some p → (s : ℕ)
+clock_slots : (d : Scheduled) (units : ℕ → List AccessUnit) (i : ℕ) (p : DescribedProgram) → IsInRange d.description →
+    slice_get d.description.programs i ≡ Some p → (s : ℕ)
     → is_of_pid p.pcr_pid (view_of (content_at d units s)) ≡ owned d.schedule (PcrItem i) s
 clock_slots d units i p r is s = elim (cases_Bool (owned d.schedule (PcrItem i) s)) [
   | inl y ↦ ap (λ (c : Content). is_of_pid p.pcr_pid (view_of c)) (clock_at d units s i p is (own_is i (slot_of d.schedule s) y)) ∙ clock_pid d p s ∙ sym y
@@ -66,7 +69,8 @@ clock_slots d units i p r is s = elim (cases_Bool (owned d.schedule (PcrItem i) 
 ]
 
 -- what each says
-clock_says : (d : Scheduled) (p : DescribedProgram) (content : ℕ → Content) (s n : ℕ) → ((t : ℕ) → is_of_pid p.pcr_pid (view_of (content t)) ≡ true → content t ≡ clock_of d p t)
+clock_says : (d : Scheduled) (p : DescribedProgram) (content : ℕ → Content) (s n : ℕ) →
+    ((t : ℕ) → is_of_pid p.pcr_pid (view_of (content t)) ≡ true → content t ≡ clock_of d p t)
     → map (λ e. e.packet) (entries_in p.pcr_pid content s n)
     ≡ map (λ e. pcr_view p.pcr_pid (pcr_at d.description.rate d.description.base0 (188 * e.index + 10))) (entries_in p.pcr_pid content s n)
 unfolding entries_in view_of
@@ -90,7 +94,8 @@ pat_named : (d : Scheduled) → slot_pid d.description (Table 0) ≡ Some 0
 unfolding slot_pid
 pat_named d = refl
 
-pmt_named : (d : Scheduled) (i : ℕ) (p : DescribedProgram) → slice_get d.description.programs i ≡ Some p → slot_pid d.description (Table (i + 1)) ≡ Some p.pmt_pid
+pmt_named : (d : Scheduled) (i : ℕ) (p : DescribedProgram) → slice_get d.description.programs i ≡ Some p →
+    slot_pid d.description (Table (i + 1)) ≡ Some p.pmt_pid
 unfolding slot_pid
 pmt_named d i p is =
     let within : i < length d.description.programs = slice_get_within d.description.programs i p is in
@@ -106,14 +111,17 @@ pmt_named d i p is =
 abbrev enters : ℕ → (ℕ → Content) → ℕ → Bool
 enters pmt_pid content s = is_of_pid 0 (view_of (content s)) || is_of_pid pmt_pid (view_of (content s))
 
-system_slot : (d : Scheduled) (units : ℕ → List AccessUnit) (i : ℕ) (p : DescribedProgram) → IsInRange d.description → slice_get d.description.programs i ≡ Some p → (s : ℕ)
+system_slot : (d : Scheduled) (units : ℕ → List AccessUnit) (i : ℕ) (p : DescribedProgram) → IsInRange d.description →
+    slice_get d.description.programs i ≡ Some p → (s : ℕ)
     → enters p.pmt_pid (content_at d units) s ≡ true → owned d.schedule (System i) s ≡ true
 system_slot d units i p r is s e = elim (cases_Bool (is_of_pid 0 (view_of (content_at d units s)))) [
   | inl pat ↦
-      let same : slot_of d.schedule s ≡ Table 0 = slots_apart d.description (slot_of d.schedule s) (Table 0) 0 r (names d units s 0 (omega arith) pat) (pat_named d) in
+      let same : slot_of d.schedule s ≡ Table 0 =
+      slots_apart d.description (slot_of d.schedule s) (Table 0) 0 r (names d units s 0 (omega arith) pat) (pat_named d) in
       ap (is_own (System i)) same
   | inr no_pat ↦
-      let pmt : is_of_pid p.pmt_pid (view_of (content_at d units s)) ≡ true = sym (ap (λ (b : Bool). b || is_of_pid p.pmt_pid (view_of (content_at d units s))) no_pat) ∙ e in
+      let pmt : is_of_pid p.pmt_pid (view_of (content_at d units s)) ≡ true =
+      sym (ap (λ (b : Bool). b || is_of_pid p.pmt_pid (view_of (content_at d units s))) no_pat) ∙ e in
       let same : slot_of d.schedule s ≡ Table (i + 1) =
       slots_apart d.description (slot_of d.schedule s) (Table (i + 1)) p.pmt_pid r
       (names d units s p.pmt_pid (slots_below d.description (Table (i + 1)) p.pmt_pid r (pmt_named d i p is)) pmt) (pmt_named d i p is) in
@@ -126,14 +134,16 @@ system_slot d units i p r is s e = elim (cases_Bool (is_of_pid 0 (view_of (conte
       | inr k ↦ let same : (n == n) ≡ true = eq-eqb n n refl in rw (k, same) refl
     ]
 
-pub program_kept : (d : Scheduled) (units : ℕ → List AccessUnit) (slots i : ℕ) (p : DescribedProgram) → IsInRange d.description → Promised d.description d.schedule → Fits (content_at d units)
+pub program_kept : (d : Scheduled) (units : ℕ → List AccessUnit) (slots i : ℕ) (p : DescribedProgram) → IsInRange d.description →
+    Promised d.description d.schedule → Fits (content_at d units)
     → slice_get d.description.programs i ≡ Some p → ProgramKept d p slots (run_bytes (content_at d units) 0 slots)
 program_kept d units slots i p r promised fits is = record {
   clocks = ap (map (λ (e : Entry). e.packet)) listed
       ∙ clock_says d p content 0 slots clock
       ∙ sym (ap (map (λ (e : Entry). pcr_view p.pcr_pid (pcr_at d.description.rate d.description.base0 (188 * e.index + 10)))) listed);
   pcrs_recur = subst (λ (l : List ℕ). Recur d.description.rate p.pcr_limit 0 l (188 * slots)) (sym times) (promised.pcrs i p slots is);
-  system_transport = λ x. subst (λ (l : List ℕ). system_tb_fullness d.description.rate x l ≤ 512) (sym entering) ((promised.programs i within).transport part x rises);
+  system_transport =
+      λ x. subst (λ (l : List ℕ). system_tb_fullness d.description.rate x l ≤ 512) (sym entering) ((promised.programs i within).transport part x rises);
   system_buffer = λ x. subst (λ (l : List ℕ). bsys_fullness d.description.rate x l ≤ 1536) (sym entering) ((promised.programs i within).system part x rises);
 }
   where
@@ -149,7 +159,8 @@ program_kept d units slots i p r promised fits is = record {
     clock : (t : ℕ) → is_of_pid p.pcr_pid (view_of (content t)) ≡ true → content t ≡ clock_of d p t
     clock t y = clock_at d units t i p is (own_is i (slot_of d.schedule t) (sym (clock_slots d units i p r is t) ∙ y))
 
-    times : map (λ e. 188 * e.index + 10) (pid_list p.pcr_pid (run_bytes content 0 slots)) ≡ map (λ s. 188 * s + 10) (own_slots (owned d.schedule (PcrItem i)) 0 slots)
+    times : map (λ e. 188 * e.index + 10) (pid_list p.pcr_pid (run_bytes content 0 slots)) ≡ map (λ s. 188 * s + 10)
+        (own_slots (owned d.schedule (PcrItem i)) 0 slots)
     times = indices_at_ten (pid_list p.pcr_pid (run_bytes content 0 slots))
         ∙ ap (map (λ (s : ℕ). 188 * s + 10)) (run_indices p.pcr_pid slots content (owned d.schedule (PcrItem i)) fits (clock_slots d units i p r is))
 

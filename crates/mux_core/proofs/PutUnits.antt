@@ -1,5 +1,6 @@
 -- Where payloads have the bytes of a PES packet, it is put together whole.
-use Rattle.std.proofs.Common.{◌≡◌, ◌≤◌, ◌<◌, ℕ, zero, suc, ◌+◌, ◌-◌, Bool, true, false, List, [], ◌∷◌, ◌++◌, length, map, take, drop, slice_get, option_map, Some, All, refl, sym, ap, subst, ◌∙◌, inl, inr, arith}
+use Rattle.std.proofs.Common.{◌≡◌, ◌≤◌, ◌<◌, ℕ, zero, suc, ◌+◌, ◌-◌, Bool, true, false, List, [], ◌∷◌, ◌++◌, length, map, take, drop, slice_get, option_map}
+use Rattle.std.proofs.Common.{Some, All, refl, sym, ap, subst, ◌∙◌, inl, inr, arith}
 use Rattle.std.specs.List.{concat, flat_map}
 use Rattle.std.proofs.lemmas.Bool.{cases_lt}
 use Rattle.std.proofs.lemmas.Grind.{flat_map-append}
@@ -59,7 +60,8 @@ marked_some : (start : Start) (c : List (List ℕ)) → All SomeBytes c → All 
 unfolding marked
 marked_some start [] some = All-nil HasBytes
 marked_some start (x ∷ xs) some =
-    All-cons HasBytes (record { start = start; bytes = x }) (marked Continues xs) (All-head SomeBytes x xs some) (marked_some Continues xs (All-tail SomeBytes x xs some))
+    All-cons HasBytes (record { start = start; bytes = x }) (marked Continues xs) (All-head SomeBytes x xs some)
+    (marked_some Continues xs (All-tail SomeBytes x xs some))
 
 -- ---- of PES packets, each with whether a decoder may begin with it
 
@@ -125,7 +127,8 @@ pes_whole pes p m i ps some is cut le =
     ∙ ap (λ (cs : List (Bool × List (List ℕ))). all_marked cs ++ all_marked rest) heads in
     let size : bytes_in (cut_all front) ≡ length (concat (sent_bytes front)) = cut_bytes front in
     let bytes : bytes_in ps ≡ bytes_in (take m (cut_all front ++ all_marked rest)) = ap bytes_in cut ∙ ap (λ (x : List Piece). bytes_in (take m x)) parts in
-    let few : length (cut_all front) ≤ m = enough (cut_all front) (all_marked rest) m (cut_some front (all_take pes (suc i) some)) (omega (arith, size, bytes, le)) in
+    let few : length (cut_all front) ≤ m =
+    enough (cut_all front) (all_marked rest) m (cut_some front (all_take pes (suc i) some)) (omega (arith, size, bytes, le)) in
     let within : length (all_marked (take (suc i) (map cut_one pes))) ≤ m =
     subst (λ (cs : List (Bool × List (List ℕ))). length (all_marked cs) ≤ m) (sym heads) few in
     ap (λ (x : List Piece). slice_get (put_together x) i) cut ∙ put_law (map cut_one pes) (cut_one p) m i (some_pieces pes some) there within

@@ -1,5 +1,6 @@
 -- The room that a job takes for its units is enough: none is refused as Full except a stream's unit number 1,048,577.
-use Rattle.std.proofs.Common.{◌≡◌, ℕ, suc, ◌+◌, ◌<◌, ◌≤◌, Bool, true, false, cond, nat_lt, List, [], ◌∷◌, ◌++◌, length, Option, Some, None, refl, sym, ap, ◌∙◌, subst, arith, inl, inr, append_assoc}
+use Rattle.std.proofs.Common.{◌≡◌, ℕ, suc, ◌+◌, ◌<◌, ◌≤◌, Bool, true, false, cond, nat_lt, List, [], ◌∷◌, ◌++◌, length, Option, Some, None, refl, sym, ap, ◌∙◌}
+use Rattle.std.proofs.Common.{subst, arith, inl, inr, append_assoc}
 use Rattle.std.specs.Prelude.{slice_get}
 use Rattle.std.proofs.lemmas.Bool.{lt-leb, cases_eq, cases_lt}
 use Rattle.std.proofs.lemmas.List.{length-append}
@@ -33,7 +34,8 @@ most_bounds k (entry ∷ rest) = elim (cases_eq entry.0 k) [
 ]
 
 -- what is left is no more than all
-left_in : (left : Left) (us : List AccessUnit) (first : Left) (b : Bool) → length first.units ≤ length us → length left.units ≤ length us → length (cond b first left).units ≤ length us
+left_in : (left : Left) (us : List AccessUnit) (first : Left) (b : Bool) → length first.units ≤ length us → length left.units ≤ length us →
+    length (cond b first left).units ≤ length us
 left_in left us first true one two = one
 left_in left us first false one two = two
 
@@ -42,21 +44,24 @@ unfolding left_at
 left_few l p free number [] = omega arith
 left_few l p free number (u ∷ us) =
     let less = left_few l p (end_slot l free u) (number + packet_count l u) us in
-    left_in (left_at l p (end_slot l free u) (number + packet_count l u) us) (u ∷ us) (record { free = free; number = number; units = u ∷ us }) (nat_lt p (end_slot l free u))
+    left_in (left_at l p (end_slot l free u) (number + packet_count l u) us) (u ∷ us) (record { free = free; number = number; units = u ∷ us })
+    (nat_lt p (end_slot l free u))
     (omega arith) (omega (arith, less))
 
 not_full : (l : OwnedStream) (slots capacity : ℕ) (us : List AccessUnit) → length us < capacity → is_full l slots capacity us ≡ false
 not_full l slots capacity us lt =
     let few = left_few l (own_before l.own slots) 0 0 us in lt-leb capacity (length (left_before l slots us).units) (omega (arith, few, lt))
 
-cause_same_in : (d : Scheduled) (capacity other : ℕ) (fed : List (ℕ × AccessUnit)) (entry : ℕ × AccessUnit) (o : Option DescribedStream) → length (units_of entry.0 fed) < capacity → length (units_of entry.0 fed) < other →
+cause_same_in : (d : Scheduled) (capacity other : ℕ) (fed : List (ℕ × AccessUnit)) (entry : ℕ × AccessUnit) (o : Option DescribedStream) →
+    length (units_of entry.0 fed) < capacity → length (units_of entry.0 fed) < other →
     feed_cause d capacity (job_history fed 0) entry.0 entry.1 o ≡ feed_cause d other (job_history fed 0) entry.0 entry.1 o
 unfolding feed_cause
 cause_same_in d capacity other fed entry None one two = refl
 cause_same_in d capacity other fed entry (Some s) one two =
     let l = owned_stream d entry.0 s in
     let us = units_of entry.0 fed in
-    ap (λ (full : Bool). first_cause l.parameters.size l.parameters.pts_limit (min_next_dts_of l us) (is_late l 0 entry.1) full (over_cause l us entry.1) entry.1)
+    ap (λ (full : Bool). first_cause l.parameters.size l.parameters.pts_limit (min_next_dts_of l us) (is_late l 0 entry.1) full (over_cause l us entry.1)
+    entry.1)
     (not_full l 0 capacity us one ∙ sym (not_full l 0 other us two))
 
 refused_same : (d : Scheduled) (capacity other : ℕ) (fed rest : List (ℕ × AccessUnit)) →

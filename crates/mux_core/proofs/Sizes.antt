@@ -22,7 +22,8 @@ packets_read content s zero fits = All-nil IsTransportPacket
 packets_read content s (suc n) fits =
     let again = content_again (content s) (fits s) in
     subst (All IsTransportPacket) (sym (first_cut (packet_of (content s)) (run_bytes content (suc s) n) again.size))
-    (All-cons IsTransportPacket (packet_of (content s)) (cut_packets (run_bytes content (suc s) n)) (view_of (content s), again.says) (packets_read content (suc s) n fits))
+    (All-cons IsTransportPacket (packet_of (content s)) (cut_packets (run_bytes content (suc s) n)) (view_of (content s), again.says)
+    (packets_read content (suc s) n fits))
 
 pub all_read : (content : ℕ → Content) (n : ℕ) → Fits content → All IsTransportPacket (cut_packets (run_bytes content 0 n))
 all_read content n fits = packets_read content 0 n fits
@@ -46,7 +47,9 @@ known d units s = elim (speaks d units s (slot_of d.schedule s)) [
 all_known : (d : Scheduled) (units : ℕ → List AccessUnit) (s n : ℕ) → All (IsKnown d) (all_entries (content_at d units) s n)
 unfolding all_entries
 all_known d units s zero = All-nil (IsKnown d)
-all_known d units s (suc n) = All-cons (IsKnown d) (entry_at s (content_at d units s)) (all_entries (content_at d units) (suc s) n) (known d units s) (all_known d units (suc s) n)
+all_known d units s (suc n) = All-cons (IsKnown d) (entry_at s (content_at d units s)) (all_entries (content_at d units) (suc s) n) (known d units s)
+    (all_known d units (suc s) n)
 
-pub pids_known : (d : Scheduled) (units : ℕ → List AccessUnit) (n : ℕ) → Fits (content_at d units) → All (IsKnown d) (entries_of (run_bytes (content_at d units) 0 n))
+pub pids_known : (d : Scheduled) (units : ℕ → List AccessUnit) (n : ℕ) → Fits (content_at d units) →
+    All (IsKnown d) (entries_of (run_bytes (content_at d units) 0 n))
 pids_known d units n fits = subst (All (IsKnown d)) (sym (run_entries (content_at d units) n fits)) (all_known d units 0 n)

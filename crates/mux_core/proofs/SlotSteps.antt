@@ -68,7 +68,8 @@ streams_on : StreamSlotLaw → OtherStreamSlotLaw → (d : Scheduled) (h : Histo
     slot_of d.schedule h.slots ≡ Stream k → streams_stand d h capacity queues →
     streams_stand d (next_slot h) capacity (queues_after h.slots queues k (slice_get queues k))
 streams_on own_law other_law d h capacity k queues is st j = elim (cases_eq j k) [
-  | inl e ↦ subst (λ (n : ℕ). QueueStands d (next_slot h) capacity n (slice_get (queues_after h.slots queues k (slice_get queues k)) n) (slice_get d.description.streams n))
+  | inl e ↦ subst
+      (λ (n : ℕ). QueueStands d (next_slot h) capacity n (slice_get (queues_after h.slots queues k (slice_get queues k)) n) (slice_get d.description.streams n))
       (sym e) (subst (λ (o : Option Queue). QueueStands d (next_slot h) capacity k o (slice_get d.description.streams k))
       (sym (queue_same h.slots k queues (slice_get queues k) refl))
       (stream_own own_law d h capacity k (slice_get queues k) (slice_get d.description.streams k) (ap (is_own (StreamItem k)) is ∙ eq-eqb k k refl) (st k)))
@@ -124,7 +125,8 @@ carousel_same : (source : ℕ → ℕ → List ℕ) (slot t : ℕ) (carousels : 
     slice_get (carousels_after source slot carousels t o) t ≡ option_map (carousel_after source slot) o
 unfolding carousels_after
 carousel_same source slot t carousels None e = e
-carousel_same source slot t carousels (Some carousel) e = slice_get-set_same carousels t (carousel_after source slot carousel) (slice_get_within carousels t carousel e)
+carousel_same source slot t carousels (Some carousel) e =
+    slice_get-set_same carousels t (carousel_after source slot carousel) (slice_get_within carousels t carousel e)
 
 carousel_other : (source : ℕ → ℕ → List ℕ) (slot j t : ℕ) (carousels : List Carousel) (o : Option Carousel) → j ≢ t →
     slice_get (carousels_after source slot carousels t o) j ≡ slice_get carousels j
@@ -136,11 +138,13 @@ tables_on : TableSlotLaw → OtherTableSlotLaw → (d : Scheduled) (h : History)
     slot_of d.schedule h.slots ≡ Table t → tables_stand d h carousels →
     tables_stand d (next_slot h) (carousels_after (section_bytes d.description t) h.slots carousels t (slice_get carousels t))
 tables_on own_law other_law d h t carousels known is st j = elim (cases_eq j t) [
-  | inl e ↦ subst (λ (n : ℕ). CarouselStands d (next_slot h) n (slice_get (carousels_after (section_bytes d.description t) h.slots carousels t (slice_get carousels t)) n)
+  | inl e ↦ subst
+      (λ (n : ℕ). CarouselStands d (next_slot h) n (slice_get (carousels_after (section_bytes d.description t) h.slots carousels t (slice_get carousels t)) n)
       (slice_get (table_kinds d.description) n))
       (sym e) (subst (λ (o : Option Carousel). CarouselStands d (next_slot h) t o (slice_get (table_kinds d.description) t))
       (sym (carousel_same (section_bytes d.description t) h.slots t carousels (slice_get carousels t) refl))
-      (table_own own_law d h t (slice_get carousels t) (slice_get (table_kinds d.description) t) known refl (ap (is_own (TableItem t)) is ∙ eq-eqb t t refl) (st t)))
+      (table_own own_law d h t (slice_get carousels t) (slice_get (table_kinds d.description) t) known refl (ap (is_own (TableItem t)) is ∙ eq-eqb t t refl)
+      (st t)))
   | inr ne ↦ subst (λ (o : Option Carousel). CarouselStands d (next_slot h) j o (slice_get (table_kinds d.description) j))
       (sym (carousel_other (section_bytes d.description t) h.slots j t carousels (slice_get carousels t) ne))
       (table_other other_law d h j (slice_get carousels j) (slice_get (table_kinds d.description) j) (ap (is_own (TableItem j)) is ∙ ne_eqb j t ne) (st j))
@@ -168,10 +172,12 @@ abbrev mux_state : Scheduled → List Queue → List Carousel → ℕ → ℕ �
 mux_state d queues carousels capacity slots = record { schedule = d; queues = queues; carousels = carousels; capacity = capacity; slots = slots }
 
 slot_advances : Laws → (h : History) (d : Scheduled) (queues : List Queue) (carousels : List Carousel) (capacity : ℕ) (slot : Slot) → TablesKnown d →
-    slot_of d.schedule h.slots ≡ slot → streams_stand d h capacity queues → tables_stand d h carousels → Advances h (mux_state d queues carousels capacity h.slots) slot
+    slot_of d.schedule h.slots ≡ slot → streams_stand d h capacity queues → tables_stand d h carousels →
+    Advances h (mux_state d queues carousels capacity h.slots) slot
 unfolding sends after content_in
 slot_advances laws h d queues carousels capacity (Stream k) known is streams tables = record {
-  packet = stream_sends laws.own_stream d h capacity k (slice_get queues k) (slice_get d.description.streams k) (ap (is_own (StreamItem k)) is ∙ eq-eqb k k refl) (streams k);
+  packet = stream_sends laws.own_stream d h capacity k (slice_get queues k) (slice_get d.description.streams k)
+      (ap (is_own (StreamItem k)) is ∙ eq-eqb k k refl) (streams k);
   stands = record {
     written = refl;
     streams = streams_on laws.own_stream laws.other_stream d h capacity k queues is streams;
@@ -187,7 +193,8 @@ slot_advances laws h d queues carousels capacity (Pcr p) known is streams tables
   };
 }
 slot_advances laws h d queues carousels capacity (Table t) known is streams tables = record {
-  packet = table_sends laws.own_table d h t (slice_get carousels t) (slice_get (table_kinds d.description) t) known refl (ap (is_own (TableItem t)) is ∙ eq-eqb t t refl) (tables t);
+  packet = table_sends laws.own_table d h t (slice_get carousels t) (slice_get (table_kinds d.description) t) known refl
+      (ap (is_own (TableItem t)) is ∙ eq-eqb t t refl) (tables t);
   stands = record {
     written = refl;
     streams = streams_idle laws.other_stream d h capacity queues (λ k. ap (is_own (StreamItem k)) is) streams;
@@ -205,5 +212,6 @@ slot_advances laws h d queues carousels capacity Null known is streams tables = 
 
 -- the next slot of a multiplexer
 pub advances : Laws → (h : History) (m : MuxState) → TablesKnown m.schedule → Stands h m → Advances h m (slot_of m.schedule.schedule m.slots)
-advances laws h m known st = subst (λ (n : ℕ). Advances h (mux_state m.schedule m.queues m.carousels m.capacity n) (slot_of m.schedule.schedule n)) (sym st.written)
+advances laws h m known st =
+    subst (λ (n : ℕ). Advances h (mux_state m.schedule m.queues m.carousels m.capacity n) (slot_of m.schedule.schedule n)) (sym st.written)
     (slot_advances laws h m.schedule m.queues m.carousels m.capacity (slot_of m.schedule.schedule h.slots) known refl st.streams st.tables)

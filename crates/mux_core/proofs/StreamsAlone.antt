@@ -28,7 +28,8 @@ stream_named : (d : Scheduled) (k : ℕ) (s : DescribedStream) → slice_get d.d
 unfolding slot_pid
 stream_named d k s is = rw is refl
 
-stream_at : (d : Scheduled) (units : ℕ → List AccessUnit) (t k : ℕ) (s : DescribedStream) → slice_get d.description.streams k ≡ Some s → slot_of d.schedule t ≡ Stream k
+stream_at : (d : Scheduled) (units : ℕ → List AccessUnit) (t k : ℕ) (s : DescribedStream) → slice_get d.description.streams k ≡ Some s →
+    slot_of d.schedule t ≡ Stream k
     → content_at d units t ≡ stream_content (owned_stream d k s) (units k) t
 unfolding content_at content_in stream_in
 stream_at d units t k s is e = ap (content_in d units t) e ∙ ap (stream_in d units t k) is

@@ -33,7 +33,8 @@ use Rattle.mux_core.specs.Headline.{StreamKept}
 
 -- its main buffer never holds more than its size, whenever bytes leave the transport buffer after their packet has begun
 pub main_kept : (d : Scheduled) (k : ℕ) (s : DescribedStream) (units : List AccessUnit) (content : ℕ → Content) (n : ℕ) →
-    slice_get d.description.streams k ≡ Some s → StreamIsAlone (owned_stream d k s) units content → Kept (owned_stream d k s) units → Promised d.description d.schedule →
+    slice_get d.description.streams k ≡ Some s → StreamIsAlone (owned_stream d k s) units content → Kept (owned_stream d k s) units →
+    Promised d.description d.schedule →
     (x : ℕ) (left : List ℕ) → NoneLeavesEarly s.rx (packets_on s.pid (run_bytes content 0 n)) left →
     mb_fullness d.description.rate s.rx x (timed_pes_packets s.stream_id d.description.base0 units) left ≤ s.main
 main_kept d k s units content n is alone kept promised x left late =
@@ -45,7 +46,8 @@ main_kept d k s units content n is alone kept promised x left late =
 
 -- nor where a unit is several access units that are removed one by one
 frames_kept : (d : Scheduled) (k : ℕ) (s : DescribedStream) (units : List AccessUnit) (content : ℕ → Content) (n : ℕ) →
-    slice_get d.description.streams k ≡ Some s → StreamIsAlone (owned_stream d k s) units content → Kept (owned_stream d k s) units → Promised d.description d.schedule →
+    slice_get d.description.streams k ≡ Some s → StreamIsAlone (owned_stream d k s) units content → Kept (owned_stream d k s) units →
+    Promised d.description d.schedule →
     (f : Framing) → s.framing ≡ Some f → FramesKept d s f units (run_bytes content 0 n)
 frames_kept d k s units content n is alone kept promised f some packets x cut =
     let keeps : KeepsDeclaration (declaration s) (timed_pes_packets s.stream_id d.description.base0 units) =
@@ -56,14 +58,16 @@ frames_kept d k s units content n is alone kept promised f some packets x cut =
     let own : ℕ → Bool = owned d.schedule (StreamItem k) in
     let pes : List PesPacket = timed_pes_packets s.stream_id d.description.base0 units in
     let left : List ℕ = pes_left d.description.rate s.rx 0 (packets_on s.pid (run_bytes content 0 n)) in
-    let late = subst (λ (ps : List Packet). NoneLeavesEarly s.rx (run_packets own d.description.rate (declaration s) pes n) (pes_left d.description.rate s.rx 0 ps))
+    let late = subst
+    (λ (ps : List Packet). NoneLeavesEarly s.rx (run_packets own d.description.rate (declaration s) pes n) (pes_left d.description.rate s.rx 0 ps))
     (sym sent) (run_left own d.description.rate s.lead s.rx n pes) in
     promised.frames k s f packets is some cut.declared
     (subst (λ (us : List PesPacket). KeepsDeclaration (declaration s) us) (sym cut.same) keeps) n x left
     (subst (λ (us : List PesPacket). NoneLeavesEarly s.rx (run_packets own d.description.rate (declaration s) us n) left) (sym cut.same) late)
 
 pub stream_kept : (d : Scheduled) (k : ℕ) (s : DescribedStream) (units : List AccessUnit) (content : ℕ → Content) (n : ℕ) →
-    slice_get d.description.streams k ≡ Some s → StreamIsAlone (owned_stream d k s) units content → Kept (owned_stream d k s) units → Promised d.description d.schedule →
+    slice_get d.description.streams k ≡ Some s → StreamIsAlone (owned_stream d k s) units content → Kept (owned_stream d k s) units →
+    Promised d.description d.schedule →
     StreamKept d k s units n (run_bytes content 0 n)
 stream_kept d k s units content n is alone kept promised =
     let carried = carried_law (owned_stream d k s) units content n alone in
@@ -82,9 +86,11 @@ stream_kept d k s units content n is alone kept promised =
       waits = subst (λ (ps : List Packet). WaitsAtMost longest_wait rate s.rx pes (pes_entered s.rx ps)) packets (promised.waits k s pes n is);
       transport = λ x. subst (λ (ps : List Packet). tb_fullness rate s.rx x (slots_of ps) ≤ 512) packets (served.transport n x);
       arrived = subst (λ (ps : List Packet). late_of rate d.description.base0 n s units ps ≡ None) packets
-          (late_law.none_late rate s.rx n 0 pes (pes_left rate s.rx 0 (run_packets (owned d.schedule (StreamItem k)) rate (declaration s) pes n)) (served.arrived n));
+          (late_law.none_late rate s.rx n 0 pes (pes_left rate s.rx 0 (run_packets (owned d.schedule (StreamItem k)) rate (declaration s) pes n))
+          (served.arrived n));
       main_buffer = λ x. main_kept d k s units content n is alone kept promised x (pes_left rate s.rx 0 (packets_on s.pid (run_bytes content 0 n)))
-          (subst (λ (ps : List Packet). NoneLeavesEarly s.rx ps (pes_left rate s.rx 0 ps)) packets (run_left (owned d.schedule (StreamItem k)) rate s.lead s.rx n pes));
+          (subst (λ (ps : List Packet). NoneLeavesEarly s.rx ps (pes_left rate s.rx 0 ps)) packets
+          (run_left (owned d.schedule (StreamItem k)) rate s.lead s.rx n pes));
       video = λ b some. let video = promised.videos k s b pes is some keeps in record {
         multiplexing = λ x. subst (λ (ps : List Packet). multiplexing_fullness rate s.rx b.rbx x ps ≤ b.size) packets (video.multiplexing n x);
         elementary = λ x. subst (λ (ps : List Packet). elementary_fullness rate s.rx b.rbx x pes ps ≤ s.main) packets (video.elementary n x);

@@ -33,7 +33,8 @@ own_is t Null e = absurd (false≢true e)
 is_own_of : (t : ℕ) (slot : Slot) → slot ≡ Table t → is_own (TableItem t) slot ≡ true
 is_own_of t slot e = ap (is_own (TableItem t)) e ∙ eq-eqb t t refl
 
-table_named : (d : Scheduled) (t : ℕ) (kind : TableKind) → table_kind d.description t ≡ Some kind → slot_pid d.description (Table t) ≡ Some (table_pid d.description t)
+table_named : (d : Scheduled) (t : ℕ) (kind : TableKind) → table_kind d.description t ≡ Some kind →
+    slot_pid d.description (Table t) ≡ Some (table_pid d.description t)
 unfolding slot_pid
 table_named d t kind is = rw is refl
 
@@ -42,13 +43,15 @@ table_at : (d : Scheduled) (units : ℕ → List AccessUnit) (s t : ℕ) (kind :
 unfolding content_at content_in table_in
 table_at d units s t kind is e = ap (content_in d units s) e ∙ ap (table_in d s t) is
 
-pub table_alone : (d : Scheduled) (units : ℕ → List AccessUnit) (t : ℕ) (kind : TableKind) → IsInRange d.description → Fits (content_at d units) → table_kind d.description t ≡ Some kind
+pub table_alone : (d : Scheduled) (units : ℕ → List AccessUnit) (t : ℕ) (kind : TableKind) → IsInRange d.description → Fits (content_at d units) →
+    table_kind d.description t ≡ Some kind
     → TableIsAlone (table_of d t) (content_at d units)
 table_alone d units t kind r fits is = record {
   fits = fits;
   no_null = not_null d (table_pid d.description t) (Table t) r (table_named d t kind is);
   own = λ s y. table_at d units s t kind is (own_is t (slot_of d.schedule s) y);
-  others = λ s n. silent d units s (table_pid d.description t) (Table t) r (table_named d t kind is) (λ e. false≢true (sym n ∙ is_own_of t (slot_of d.schedule s) e));
+  others = λ s n. silent d units s (table_pid d.description t) (Table t) r (table_named d t kind is)
+      (λ e. false≢true (sym n ∙ is_own_of t (slot_of d.schedule s) e));
 }
 
 -- a table that there is has a kind
@@ -57,7 +60,8 @@ there [] t lt = absurd (omega (arith, lt))
 there (k ∷ ks) zero lt = (k, refl)
 there (k ∷ ks) (suc t) lt = there ks t (omega (arith, lt))
 
-pub table_kept : (d : Scheduled) (units : ℕ → List AccessUnit) (slots t : ℕ) → IsInRange d.description → Promised d.description d.schedule → Fits (content_at d units) → t < table_count d.description
+pub table_kept : (d : Scheduled) (units : ℕ → List AccessUnit) (slots t : ℕ) → IsInRange d.description → Promised d.description d.schedule →
+    Fits (content_at d units) → t < table_count d.description
     → TableKept d t slots (run_bytes (content_at d units) 0 slots)
 table_kept d units slots t r p fits lt =
     let k = there (table_kinds d.description) t lt in

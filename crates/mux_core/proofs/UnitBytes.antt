@@ -1,5 +1,6 @@
 -- Where the bytes of a unit stand among those of its stream, and when they leave the transport buffer.
-use Rattle.std.proofs.Common.{◌≡◌, ◌≤◌, ◌<◌, ℕ, zero, suc, ◌+◌, ◌-◌, ◌*◌, nat_eq, true, List, [], ◌∷◌, ◌++◌, length, map, take, drop, slice_get, Some, All, refl, sym, ap, subst, ◌∙◌, arith}
+use Rattle.std.proofs.Common.{◌≡◌, ◌≤◌, ◌<◌, ℕ, zero, suc, ◌+◌, ◌-◌, ◌*◌, nat_eq, true, List, [], ◌∷◌, ◌++◌, length, map, take, drop, slice_get, Some, All}
+use Rattle.std.proofs.Common.{refl, sym, ap, subst, ◌∙◌, arith}
 use Rattle.std.specs.List.{concat, starts_with}
 use Rattle.std.proofs.lemmas.Bool.Decides.{Decides-eqb}
 use Rattle.std.proofs.Math.Seq.{take-append_seam}
@@ -51,7 +52,8 @@ unit_bytes pes p payloads i carried is le =
 
 -- when the bytes of one unit leave
 pub unit_left : {X : Type 0} (dts : X → ℕ) (pes : X → List ℕ) (front : X → ℕ) (rate r n : ℕ) (us : List X) (u : X) (i : ℕ) (left : List ℕ) →
-    AllLeft rate r n (map (λ x. record { dts = dts x; size = length (pes x); front = front x }) us) left → slice_get us i ≡ Some u → dts u * rate ≤ n * 135360000 →
+    AllLeft rate r n (map (λ x. record { dts = dts x; size = length (pes x); front = front x }) us) left → slice_get us i ≡ Some u →
+    dts u * rate ≤ n * 135360000 →
     (length (pes u) ≤ length (drop (length (concat (take i (map pes us)))) left))
     × All (λ d. d * 720000 ≤ dts u * rate * r) (take (length (pes u)) (drop (length (concat (take i (map pes us)))) left))
 unfolding AllLeft
@@ -61,7 +63,8 @@ unit_left {X} dts pes front rate r n (x ∷ us) u zero left all is due =
     subst (λ (y : X). (length (pes y) ≤ length left) × All (λ d. d * 720000 ≤ dts y * rate * r) (take (length (pes y)) left)) same
     (all.0 (subst (λ (y : X). dts y * rate ≤ n * 135360000) (sym same) due))
 unit_left {X} dts pes front rate r n (x ∷ us) u (suc i) left all is due =
-    let before : length (pes x ++ concat (take i (map pes us))) ≡ length (pes x) + length (concat (take i (map pes us))) = length-append (pes x) (concat (take i (map pes us))) in
+    let before : length (pes x ++ concat (take i (map pes us))) ≡ length (pes x) + length (concat (take i (map pes us))) =
+    length-append (pes x) (concat (take i (map pes us))) in
     let there : drop (length (pes x ++ concat (take i (map pes us)))) left ≡ drop (length (concat (take i (map pes us)))) (drop (length (pes x)) left) =
     ap (λ (k : ℕ). drop k left) before ∙ sym (drop-drop (length (concat (take i (map pes us)))) (length (pes x)) left) in
     subst (λ (l : List ℕ). (length (pes u) ≤ length l) × All (λ d. d * 720000 ≤ dts u * rate * r) (take (length (pes u)) l)) (sym there)
@@ -69,7 +72,8 @@ unit_left {X} dts pes front rate r n (x ∷ us) u (suc i) left all is due =
 
 -- no more bytes leave than came
 pub left_few : (es : List Entry) (ds : List ℕ) →
-    length (of_payloads (map (λ entry. record { slot = entry.index; size = length (payload_of entry.packet) }) es) ds) ≤ length (concat (map (λ entry. payload_of entry.packet) es))
+    length (of_payloads (map (λ entry. record { slot = entry.index; size = length (payload_of entry.packet) }) es) ds) ≤ length
+    (concat (map (λ entry. payload_of entry.packet) es))
 unfolding of_payloads
 left_few [] ds = omega arith
 left_few (e ∷ es) ds =

@@ -42,7 +42,8 @@ count_own counts i j units d size within next inside counted k below =
     drop_more units j d inside ∙ ap (λ (n : ℕ). slice_index_or units j d ∷ drop n units) (sym next) in
     elim (cases_eq k (slice_index_or units j d).0) [
       | inl e ↦
-          let here : slice_index (slice_set counts (slice_index_or units j d).0 (slice_index counts (slice_index_or units j d).0 + 1)) k ≡ slice_index counts (slice_index_or units j d).0 + 1 =
+          let here : slice_index (slice_set counts (slice_index_or units j d).0 (slice_index counts (slice_index_or units j d).0 + 1)) k ≡ slice_index counts
+          (slice_index_or units j d).0 + 1 =
           ap (slice_index (slice_set counts (slice_index_or units j d).0 (slice_index counts (slice_index_or units j d).0 + 1))) e
           ∙ get_or-set_same counts (slice_index_or units j d).0 (slice_index counts (slice_index_or units j d).0 + 1) 0 (omega (arith, size, within)) in
           let known = counted (slice_index_or units j d).0 within in
@@ -51,28 +52,34 @@ count_own counts i j units d size within next inside counted k below =
           ∙ ap (λ (n : ℕ). suc (length (units_of n rest))) e in
           (omega (arith, here, known.0, more), omega (arith, here, known.1, next))
       | inr ne ↦
-          let here : slice_index (slice_set counts (slice_index_or units j d).0 (slice_index counts (slice_index_or units j d).0 + 1)) k ≡ slice_index counts k =
+          let here : slice_index (slice_set counts (slice_index_or units j d).0 (slice_index counts (slice_index_or units j d).0 + 1)) k ≡ slice_index counts
+          k =
           get_or-set_other counts (slice_index_or units j d).0 k (slice_index counts (slice_index_or units j d).0 + 1) 0 ne in
           let known = counted k below in
           let same : units_of k (drop j units) ≡ units_of k (drop i units) = ap (units_of k) parts ∙ other_units k entry rest (λ e. ne (sym e)) in
           (here ∙ known.0 ∙ ap (length {A = AccessUnit}) (sym same), omega (arith, here, known.1, next))
     ]
 
-most_cons : (entry : ℕ × AccessUnit) (rest : List (ℕ × AccessUnit)) → max (max_stream_units rest) (length (units_of entry.0 rest) + 1) ≡ max_stream_units (entry ∷ rest)
+most_cons : (entry : ℕ × AccessUnit) (rest : List (ℕ × AccessUnit)) →
+    max (max_stream_units rest) (length (units_of entry.0 rest) + 1) ≡ max_stream_units (entry ∷ rest)
 unfolding max_stream_units
 most_cons entry rest = omega arith
 
-pub most_more : (counts : List ℕ) (i j : ℕ) (units : List (ℕ × AccessUnit)) (d : ℕ × AccessUnit) (most : ℕ) → length counts ≡ 256 → (slice_index_or units j d).0 < 256 →
+pub most_more : (counts : List ℕ) (i j : ℕ) (units : List (ℕ × AccessUnit)) (d : ℕ × AccessUnit) (most : ℕ) → length counts ≡ 256 →
+    (slice_index_or units j d).0 < 256 →
     i ≡ j + 1 → j < length units → CountsFrom counts i units → most ≡ max_stream_units (drop i units) →
-    max most (slice_index (slice_set counts (slice_index_or units j d).0 (slice_index counts (slice_index_or units j d).0 + 1)) (slice_index_or units j d).0) ≡ max_stream_units (drop j units)
+    max most (slice_index (slice_set counts (slice_index_or units j d).0 (slice_index counts (slice_index_or units j d).0 + 1)) (slice_index_or units j d).0) ≡
+    max_stream_units (drop j units)
 most_more counts i j units d most size within next inside counted is =
     let parts : drop j units ≡ slice_index_or units j d ∷ drop i units =
     drop_more units j d inside ∙ ap (λ (n : ℕ). slice_index_or units j d ∷ drop n units) (sym next) in
-    let here : slice_index (slice_set counts (slice_index_or units j d).0 (slice_index counts (slice_index_or units j d).0 + 1)) (slice_index_or units j d).0 ≡ slice_index counts (slice_index_or units j d).0 + 1 =
+    let here : slice_index (slice_set counts (slice_index_or units j d).0 (slice_index counts (slice_index_or units j d).0 + 1)) (slice_index_or units j d).0 ≡
+    slice_index counts (slice_index_or units j d).0 + 1 =
     get_or-set_same counts (slice_index_or units j d).0 (slice_index counts (slice_index_or units j d).0 + 1) 0 (omega (arith, size, within)) in
     let known = counted (slice_index_or units j d).0 within in
     ap (max most) here ∙ ap (λ (n : ℕ). max n (slice_index counts (slice_index_or units j d).0 + 1)) is
-    ∙ ap (λ (n : ℕ). max (max_stream_units (drop i units)) (n + 1)) known.0 ∙ most_cons (slice_index_or units j d) (drop i units) ∙ ap max_stream_units (sym parts)
+    ∙ ap (λ (n : ℕ). max (max_stream_units (drop i units)) (n + 1)) known.0 ∙ most_cons (slice_index_or units j d) (drop i units)
+    ∙ ap max_stream_units (sym parts)
 
 -- before the first
 pub most_none : (i : ℕ) (units : List (ℕ × AccessUnit)) → i ≡ length units → 0 ≡ max_stream_units (drop i units)

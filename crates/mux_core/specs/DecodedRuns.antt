@@ -48,7 +48,8 @@ pub record StreamDecoded (d : Scheduled) (k : ℕ) (s : DescribedStream) (units 
   pub arrive : (i : ℕ) (u : AccessUnit) → slice_get units i ≡ Some u → IsDue d.description slots u →
       Arrives d.description s u.dts (length (concat (take i (pes_packets_of s.stream_id d.description.base0 units)))) (pes_bytes (owned_stream d k s) u) bytes
   -- and no packet of it begins more than a second before its DTS: the delay through the buffers is at most one second (2.4.2.6)
-  pub soon : (j : ℕ) (e : Entry) (u : AccessUnit) → slice_get (pid_list s.pid bytes) j ≡ Some e → slice_get (all_senders (owned_stream d k s) units) j ≡ Some u →
+  pub soon : (j : ℕ) (e : Entry) (u : AccessUnit) → slice_get (pid_list s.pid bytes) j ≡ Some e →
+      slice_get (all_senders (owned_stream d k s) units) j ≡ Some u →
       u.dts * d.description.rate ≤ e.index * slot_units_at_1bps + 90000 * d.description.rate
 
 -- of the whole
@@ -64,4 +65,5 @@ pub record IsDecoded (d : Scheduled) (units : ℕ → List AccessUnit) (slots : 
   pub tables : (t : ℕ) → t < table_count d.description → Follow (pid_list (table_pid d.description t) bytes)
 
 abbrev pub DecodedLaw : Type 0
-DecodedLaw = (d : Scheduled) (units : ℕ → List AccessUnit) (slots : ℕ) (bytes : List ℕ) → IsInRange d.description → Headline d units slots bytes → IsDecoded d units slots bytes
+DecodedLaw = (d : Scheduled) (units : ℕ → List AccessUnit) (slots : ℕ) (bytes : List ℕ) → IsInRange d.description → Headline d units slots bytes →
+    IsDecoded d units slots bytes

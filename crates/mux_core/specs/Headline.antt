@@ -64,7 +64,8 @@ pub record StreamKept (d : Scheduled) (k : ℕ) (s : DescribedStream) (units : L
   -- packet number j has the continuity_counter j modulo 16
   pub counters : (j : ℕ) (e : Entry) → slice_get (pid_list s.pid bytes) j ≡ Some e → e.packet.header.continuity_counter ≡ j % 16
   -- no byte of a unit is in a slot that begins earlier than the lead before its decoding time
-  pub not_early : (j : ℕ) (e : Entry) (u : AccessUnit) → slice_get (pid_list s.pid bytes) j ≡ Some e → slice_get (all_senders (owned_stream d k s) units) j ≡ Some u →
+  pub not_early : (j : ℕ) (e : Entry) (u : AccessUnit) → slice_get (pid_list s.pid bytes) j ≡ Some e →
+      slice_get (all_senders (owned_stream d k s) units) j ≡ Some u →
       IsReleased (owned_stream d k s) u e.index
   -- nor does a byte of a unit come into the decoder earlier than a second before that (ISO/IEC 13818-1, 2.4.2.6)
   pub waits : WaitsAtMost longest_wait d.description.rate s.rx (timed_pes_packets s.stream_id d.description.base0 units)
@@ -75,7 +76,8 @@ pub record StreamKept (d : Scheduled) (k : ℕ) (s : DescribedStream) (units : L
   pub arrived : late_of d.description.rate d.description.base0 slots s units (packets_on s.pid bytes) ≡ None
   -- the main buffer never holds more than its size
   pub main_buffer : (x : ℕ) →
-      mb_fullness d.description.rate s.rx x (timed_pes_packets s.stream_id d.description.base0 units) (pes_left d.description.rate s.rx 0 (packets_on s.pid bytes)) ≤ s.main
+      mb_fullness d.description.rate s.rx x (timed_pes_packets s.stream_id d.description.base0 units)
+      (pes_left d.description.rate s.rx 0 (packets_on s.pid bytes)) ≤ s.main
   -- where the main buffer is two, a multiplexing buffer and an elementary stream buffer, neither does
   pub video : (b : MultiplexingBuffer) → s.multiplexing ≡ Some b → VideoKept d s b units slots bytes
   -- if its units are several access units each: with each access unit removed at its own decoding time, the main buffer never
@@ -98,10 +100,12 @@ pub record TableKept (d : Scheduled) (t slots : ℕ) (bytes : List ℕ) : Type 0
   -- its sections, each as of the moment of its round, with counters that count on
   pub sections : TableCarried (table_of d t) slots bytes
   -- in each slot that is the first place of a section, a packet begins that section
-  pub begins : (j s : ℕ) → j < section_count d.description t → s < slots → section_starts d.description d.schedule t j s ≡ true → Begins (table_of d t) j s bytes
+  pub begins : (j s : ℕ) → j < section_count d.description t → s < slots → section_starts d.description d.schedule t j s ≡ true →
+      Begins (table_of d t) j s bytes
   -- and these slots recur within the table's limit, from the run's begin to its end
   pub sections_recur : (j : ℕ) → j < section_count d.description t →
-      Recur d.description.rate (table_limit d.description t) 0 (map (λ s. 188 * s) (own_slots (section_starts d.description d.schedule t j) 0 slots)) (188 * slots)
+      Recur d.description.rate (table_limit d.description t) 0 (map (λ s. 188 * s) (own_slots (section_starts d.description d.schedule t j) 0 slots))
+      (188 * slots)
 
 -- 188 bytes are a packet, by the standard's table of fields (ISO/IEC 13818-1, 2.4.3.2)
 abbrev pub IsTransportPacket : List ℕ → Type 0

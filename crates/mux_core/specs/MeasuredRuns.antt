@@ -27,7 +27,8 @@ pub record FindsNoFault (d : Described) (found : Measured) : Type 0 where
 -- of bytes that keep what they promise, what `measure` finds
 abbrev pub MeasuredLaw : Type 0
 MeasuredLaw = (d : Scheduled) (units : List (ℕ × AccessUnit)) (slots : ℕ) (bytes : List ℕ) (found : Measured) → Headline d (λ k. units_of k units) slots bytes →
-    StreamsMeasured d.description units bytes found.streams → SystemsMeasured d.description bytes found.programs → found.late ≡ late_unit d.description units bytes →
+    StreamsMeasured d.description units bytes found.streams → SystemsMeasured d.description bytes found.programs →
+    found.late ≡ late_unit d.description units bytes →
     FindsNoFault d.description found
 
 -- nor is it refused, where each unit names a stream and has from one byte to that stream's greatest size

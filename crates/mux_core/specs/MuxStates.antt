@@ -46,7 +46,8 @@ pub record Stands (h : History) (m : MuxState) : Type 0 where
 -- the next 188 bytes of the history, and the history with a slot more; nothing after 2^40 slots
 abbrev pub Gives : History → MuxState → Result (List ℕ) Done → MuxState → Type 0
 Gives h old (Ok packet) new =
-    (h.slots < 2 ^ 40) × (packet ≡ packet_of (content_at old.schedule h.units h.slots)) × (new.schedule ≡ old.schedule) × Stands (next_slot h) new × (new.capacity ≡ old.capacity)
+    (h.slots < 2 ^ 40) × (packet ≡ packet_of (content_at old.schedule h.units h.slots)) × (new.schedule ≡ old.schedule) × Stands (next_slot h) new ×
+    (new.capacity ≡ old.capacity)
 Gives h old (Err e) new = (2 ^ 40 ≤ h.slots) × (new ≡ old)
 
 -- why a unit of a stream is refused: the stream is unknown, or one of the causes of its units

@@ -67,4 +67,11 @@ queues_with queues k u (Some q) = set queues k (accepted q u)
 
 -- the state with the unit in its stream's queue
 abbrev pub fed : MuxState → ℕ → AccessUnit → MuxState
-fed m k u = record { schedule = m.schedule; queues = queues_with m.queues k u (slice_get m.queues k); carousels = m.carousels; capacity = m.capacity; slots = m.slots }
+fed m k u = record {
+  schedule = m.schedule;
+  queues = queues_with m.queues k u (slice_get m.queues k);
+  carousels = m.carousels;
+  capacity = m.capacity;
+  slots =
+      m.slots;
+}

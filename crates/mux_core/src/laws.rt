@@ -12,8 +12,8 @@ ghost use Rattle.mux_core.specs.TimingLaws.{OfPlan, OfSwitch};
 
 pub use crate::driving::{Event, drive};
 
-/// States that over a plan whose conditions hold, each unit that is due has left its transport buffer whole by its decoding
-/// time.
+/// States that over a plan whose conditions hold, each unit that is due has left its transport buffer whole by its
+/// decoding time.
 pub fn deadlines()
     ensures { OfPlan UnitsArrive }
 {
@@ -50,8 +50,8 @@ pub fn gaps()
     plan_timing::laws::accepted_plan();
 }
 
-/// States that a plan whose conditions hold over one period keeps all of these promises for all time, and so do two plans
-/// in turn.
+/// States that a plan whose conditions hold over one period keeps all of these promises for all time, and so do two
+/// plans in turn.
 pub fn all_time()
     ensures plan { OfPlan Promised }
     ensures switch { OfSwitch Promised }
@@ -68,8 +68,8 @@ pub fn switch_gaps()
     plan_timing::laws::accepted_switch();
 }
 
-/// States that over two plans in turn the work that the first leaves finds room in the second: no transport buffer and no
-/// system buffer overflows.
+/// States that over two plans in turn the work that the first leaves finds room in the second: no transport buffer and
+/// no system buffer overflows.
 pub fn switch_work()
     ensures streams { OfSwitch TransportFits }
     ensures programs { OfSwitch SystemFits }
@@ -91,8 +91,8 @@ pub fn switch_main()
     plan_timing::laws::accepted_switch();
 }
 
-/// States that the finished bytes of a run keep every promise, if the schedule keeps the conditions and each stream's units
-/// are within its declaration; and that each history that a multiplexer represents does so.
+/// States that the finished bytes of a run keep every promise, if the schedule keeps the conditions and each stream's
+/// units are within its declaration; and that each history that a multiplexer represents does so.
 pub fn headline()
     ensures whole { HeadlineLaw }
     ensures standing { StandingLaw }
@@ -121,14 +121,14 @@ pub fn written_stays()
     ensures { WrittenStays }
 {}
 
-/// States that two lists of events after which the units of each stream and the number of slots are the same give the same
-/// bytes.
+/// States that two lists of events after which the units of each stream and the number of slots are the same give the
+/// same bytes.
 pub fn order_is_free()
     ensures { OrderIsFree }
 {}
 
-/// States that a whole job takes room for as many units of a stream as it has. That room is enough: its units are refused
-/// just where 1,048,576 of each stream may wait.
+/// States that a whole job takes room for as many units of a stream as it has. That room is enough: its units are
+/// refused just where 1,048,576 of each stream may wait.
 pub fn room_for_all()
     ensures { RoomForAll }
 {}

@@ -1,5 +1,6 @@
 -- Files that are named: their bytes one after another, and what is reported of them.
-use Rattle.std.proofs.Common.{◌≡◌, ◌∙◌, ◌<◌, ◌≤◌, ◌+◌, ℕ, Option, Some, true, false, Bool, Err, zero, suc, List, [], ◌∷◌, ◌++◌, length, map, take, drop, get_or, refl, sym, ap, subst, inl, inr, add-one, append_assoc, append-nil, arith}
+use Rattle.std.proofs.Common.{◌≡◌, ◌∙◌, ◌<◌, ◌≤◌, ◌+◌, ℕ, Option, Some, true, false, Bool, Err, zero, suc, List, [], ◌∷◌, ◌++◌, length, map, take, drop, get_or}
+use Rattle.std.proofs.Common.{refl, sym, ap, subst, inl, inr, add-one, append_assoc, append-nil, arith}
 use Rattle.std.specs.Borrow.{Bor}
 use Rattle.std.proofs.Math.Seq.{drop-cons}
 use Rattle.std.proofs.lemmas.List.{length-map, take-append-drop, take_all, take_more}
@@ -15,7 +16,8 @@ use Rattle.named_files.specs.Reports.{TellsOf, uncreated_text, unopened_text, un
 use Rattle.named_files.specs.Saving.{Keeps, SavesFile}
 
 -- two texts, one after the other
-pub told_both : (before mid after : Port) (first second : List ℕ) → Reports (between before mid) first → Reports (between mid after) second → Tells before after (first ∷ second ∷ [])
+pub told_both : (before mid after : Port) (first second : List ℕ) → Reports (between before mid) first → Reports (between mid after) second →
+    Tells before after (first ∷ second ∷ [])
 unfolding Tells
 told_both before mid after first second r s = (mid, r, (after, s, refl))
 
@@ -30,7 +32,8 @@ has_more files (n ∷ ns) bytes name part all one =
     let later = has_more files ns all.1.0 name part all.1.1.1.0 one in
     (all.0, (all.1.0 ++ part, (all.1.1.0, (later, ap (λ (xs : List ℕ). xs ++ part) all.1.1.1.1 ∙ append_assoc all.0 all.1.0 part))))
 
-mapped_at : (words : List (Bor (List ℕ))) (k : ℕ) (d : Bor (List ℕ)) (e : List ℕ) → k < length words → (get_or words k d).now ≡ get_or (map (λ s. s.now) words) k e
+mapped_at : (words : List (Bor (List ℕ))) (k : ℕ) (d : Bor (List ℕ)) (e : List ℕ) → k < length words →
+    (get_or words k d).now ≡ get_or (map (λ s. s.now) words) k e
 mapped_at [] k d e within = absurd (let no : ⊥ = omega (arith, within) in no)
 mapped_at (w ∷ ws) zero d e within = refl
 mapped_at (w ∷ ws) (suc k) d e within = mapped_at ws k d e (let less : k < length ws = omega (arith, within) in less)
@@ -45,11 +48,13 @@ read_more files words k d bytes next part within all one grown =
     let names = map (λ s. s.now) words in
     let name = (get_or words k d).now in
     let at : name ≡ get_or names k name = mapped_at words k d name within in
-    let longer : take k names ++ name ∷ [] ≡ take (k + 1) names = ap (λ (n : List ℕ). take k names ++ n ∷ []) at ∙ sym (take_more names k name (names_inside words k within)) in
+    let longer : take k names ++ name ∷ [] ≡ take (k + 1) names = ap (λ (n : List ℕ). take k names ++ n ∷ []) at
+    ∙ sym (take_more names k name (names_inside words k within)) in
     subst (λ (xs : List ℕ). HaveBytes files (take (k + 1) names) xs) (sym grown)
     (subst (λ (ns : List (List ℕ)). HaveBytes files ns (bytes ++ part)) longer (has_more files (take k names) bytes name part all one))
 
-pub all_read : (files : Files) (words : List (Bor (List ℕ))) (k : ℕ) (bytes : List ℕ) → length words ≤ k → HaveBytes files (take k (map (λ s. s.now) words)) bytes →
+pub all_read : (files : Files) (words : List (Bor (List ℕ))) (k : ℕ) (bytes : List ℕ) → length words ≤ k →
+    HaveBytes files (take k (map (λ s. s.now) words)) bytes →
     HaveBytes files (map (λ s. s.now) words) bytes
 all_read files words k bytes over all =
     let names = map (λ s. s.now) words in
@@ -79,7 +84,8 @@ no_bytes files bytes is = is
 
 -- the second writer was not used before
 
-pub stops_later : (files : Files) (name : List ℕ) (before later after : Port) → later ≡ before → StopsAt files name (between later after) → StopsAt files name (between before after)
+pub stops_later : (files : Files) (name : List ℕ) (before later after : Port) → later ≡ before → StopsAt files name (between later after) →
+    StopsAt files name (between before after)
 stops_later files name before later after same stops = subst (λ (p : Port). StopsAt files name (between p after)) same stops
 
 -- a file that can't be read
@@ -98,20 +104,25 @@ tells_unread name why known faults is tells = subst (λ (h : Halt). TellsUnread 
 
 -- a file that was read
 
-pub has_bytes : (files : Files) (name bytes : List ℕ) (input : Device) → IsOpened files name → input.before.bytes ≡ files.contents name → IsWhole input.before.bytes bytes → HasBytes files name bytes
+pub has_bytes : (files : Files) (name bytes : List ℕ) (input : Device) → IsOpened files name → input.before.bytes ≡ files.contents name →
+    IsWhole input.before.bytes bytes → HasBytes files name bytes
 has_bytes files name bytes input opened same whole = (opened, subst (λ (k : Option (List ℕ)). IsWhole k bytes) same whole)
 
 -- what becomes of a new file
 
-pub saved : (creates : Option Bool) (name bytes : List ℕ) (ended : ℕ) (file faults : Device) (status : ℕ) → IsAsKnown creates true → ((xs : List ℕ) → file.before.bytes ≡ Some xs → xs ≡ []) →
+pub saved : (creates : Option Bool) (name bytes : List ℕ) (ended : ℕ) (file faults : Device) (status : ℕ) → IsAsKnown creates true →
+    ((xs : List ℕ) → file.before.bytes ≡ Some xs → xs ≡ []) →
     Takes file bytes × IsClean file → Keeps name ended faults status → SavesFile creates name bytes ended faults status
-saved creates name bytes ended file faults status created empty written keeps = inl (record { file = file; new = record { created = created; empty = empty }; written = written.0; clean = written.1; keeps = keeps })
+saved creates name bytes ended file faults status created empty written keeps =
+    inl (record { file = file; new = record { created = created; empty = empty }; written = written.0; clean = written.1; keeps = keeps })
 
-pub removed : (creates : Option Bool) (name bytes : List ℕ) (ended : ℕ) (file faults : Device) (status : ℕ) → IsAsKnown creates true → ((xs : List ℕ) → file.before.bytes ≡ Some xs → xs ≡ []) →
+pub removed : (creates : Option Bool) (name bytes : List ℕ) (ended : ℕ) (file faults : Device) (status : ℕ) → IsAsKnown creates true →
+    ((xs : List ℕ) → file.before.bytes ≡ Some xs → xs ≡ []) →
     Stopped bytes file → HasFailed file → TellsOf name unwritten_text faults → status ≡ 3 → SavesFile creates name bytes ended faults status
 removed creates name bytes ended file faults status created empty stopped failed tells is =
     inr (inl (record { file = file; new = record { created = created; empty = empty }; stopped = stopped; failed = failed; tells = tells; status_is = is }))
 
-pub uncreated : (creates : Option Bool) (name bytes : List ℕ) (ended : ℕ) (faults : Device) (status : ℕ) → IsAsKnown creates false → TellsOf name uncreated_text faults → status ≡ 3 →
+pub uncreated : (creates : Option Bool) (name bytes : List ℕ) (ended : ℕ) (faults : Device) (status : ℕ) → IsAsKnown creates false →
+    TellsOf name uncreated_text faults → status ≡ 3 →
     SavesFile creates name bytes ended faults status
 uncreated creates name bytes ended faults status none tells is = inr (inr (record { uncreated = none; tells = tells; status_is = is }))

@@ -53,7 +53,8 @@ fn append(all: &mut Vec<u8>, bytes: &[u8]) -> Result<(), AllocError>
     all.extend_from_slice(bytes)
 }
 
-/// Returns the bytes of the files of these names, one after another; if one can't be read, reports why, and returns the status.
+/// Returns the bytes of the files of these names, one after another; if one can't be read, reports why, and returns the
+/// status.
 pub fn read_files<F: NamedFiles, E: Sink>(
     alloc: Global,
     files: &F,

@@ -23,8 +23,8 @@ fn keep<F: OutputFiles, E: Sink>(
     3
 }
 
-/// Writes bytes to a file of this name, whole or not at all, and returns `ended`; or reports what is wrong with the file, and
-/// returns 3.
+/// Writes bytes to a file of this name, whole or not at all, and returns `ended`; or reports what is wrong with the
+/// file, and returns 3.
 pub fn save_file<F: OutputFiles, E: Sink>(
     files: &F,
     name: &str,

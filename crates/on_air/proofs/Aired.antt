@@ -20,7 +20,8 @@ use Rattle.on_air.specs.declared.leap.Leap.{Leap}
 use Rattle.on_air.specs.declared.options.Terms.{Terms}
 use Rattle.on_air.specs.declared.refusals.AirRefusal.{AirRefusal}
 use Rattle.on_air.specs.declared.refusals.AirRefusal.TheVariants.{Feed, Ahead, Followed}
-use Rattle.on_air.specs.Airing.{Run, Air, silence, job_of, air_output, lead_of, limit_of, settled, settled_at, last_of, last_at, on_to, air_cause, accepted_by, greatest_by, is_far_from, caught_up, judged, judged_by, leap_by, leap_left, slots_followed, with_count}
+use Rattle.on_air.specs.Airing.{Run, Air, silence, job_of, air_output, lead_of, limit_of, settled, settled_at, last_of, last_at, on_to, air_cause, accepted_by}
+use Rattle.on_air.specs.Airing.{greatest_by, is_far_from, caught_up, judged, judged_by, leap_by, leap_left, slots_followed, with_count}
 use Rattle.on_air.specs.Leaps.{is_far, is_followed, leap_with, no_leap}
 use Rattle.on_air.specs.AirStates.{AirState, Carries, with_slots, WroteOn, Promises, Admits, IsOnAir, run_with}
 use Rattle.on_air.specs.Hearing.{Fails}
@@ -40,8 +41,10 @@ pub record Moves (old new : AirState) : Type 0 where
   pub lead : new.lead ≡ old.lead
 
 -- a record was refused
-refused_by : (run : Run) (a : Air) (entry : ℕ × AccessUnit) (cause : AirRefusal) (start now : Option (List ℕ)) (old new : AirState) → IsOnAir run a start now old → Moves old new →
-    new.packets ≡ old.packets → new.greatest ≡ greatest_by a cause → new.leap ≡ leap_left run a entry cause → new.records ≡ old.records + 1 → Carries run (job_of a) new.mux →
+refused_by : (run : Run) (a : Air) (entry : ℕ × AccessUnit) (cause : AirRefusal) (start now : Option (List ℕ)) (old new : AirState) →
+    IsOnAir run a start now old → Moves old new →
+    new.packets ≡ old.packets → new.greatest ≡ greatest_by a cause → new.leap ≡ leap_left run a entry cause → new.records ≡ old.records + 1 →
+    Carries run (job_of a) new.mux →
     IsOnAir run (judged_by run a entry (Some cause)) start now new
 unfolding judged_by
 refused_by run a entry cause start now old new h moves packets greatest leap records mux = record {
@@ -59,8 +62,10 @@ refused_by run a entry cause start now old new h moves packets greatest leap rec
 }
 
 -- by the multiplexer
-pub refused_on : (run : Run) (a : Air) (entry : ℕ × AccessUnit) (cause : FeedError) (start now : Option (List ℕ)) (old new : AirState) → IsOnAir run a start now old → Moves old new →
-    new.packets ≡ old.packets → new.greatest ≡ old.greatest → new.leap ≡ old.leap → new.records ≡ old.records + 1 → Admits run a entry (Some (Feed cause)) new.mux →
+pub refused_on : (run : Run) (a : Air) (entry : ℕ × AccessUnit) (cause : FeedError) (start now : Option (List ℕ)) (old new : AirState) →
+    IsOnAir run a start now old → Moves old new →
+    new.packets ≡ old.packets → new.greatest ≡ old.greatest → new.leap ≡ old.leap → new.records ≡ old.records + 1 →
+    Admits run a entry (Some (Feed cause)) new.mux →
     (air_cause run a entry ≡ Some (Feed cause)) × IsOnAir run (judged run a entry) start now new
 unfolding accepted_by greatest_by leap_left
 refused_on run a entry cause start now old new h moves packets greatest leap records admits = (
@@ -70,10 +75,12 @@ refused_on run a entry cause start now old new h moves packets greatest leap rec
 )
 
 -- for being ahead; the multiplexer is as it was
-not_followed : (run : Run) (a : Air) (entry : ℕ × AccessUnit) → is_far_from run a entry ≡ true → is_followed (leap_by run a entry) ≡ false → air_cause run a entry ≡ Some Ahead
+not_followed : (run : Run) (a : Air) (entry : ℕ × AccessUnit) → is_far_from run a entry ≡ true → is_followed (leap_by run a entry) ≡ false →
+    air_cause run a entry ≡ Some Ahead
 not_followed run a entry far few = rw (far, few) refl
 
-pub passed_over : (run : Run) (a : Air) (entry : ℕ × AccessUnit) (start now : Option (List ℕ)) (old new : AirState) → IsOnAir run a start now old → Moves old new →
+pub passed_over : (run : Run) (a : Air) (entry : ℕ × AccessUnit) (start now : Option (List ℕ)) (old new : AirState) → IsOnAir run a start now old →
+    Moves old new →
     is_far_from run a entry ≡ true → is_followed (leap_by run a entry) ≡ false → new.mux ≡ old.mux →
     new.packets ≡ old.packets → new.greatest ≡ old.greatest → new.leap ≡ leap_by run a entry → new.records ≡ old.records + 1 →
     (air_cause run a entry ≡ Some Ahead) × IsOnAir run (judged run a entry) start now new
@@ -82,7 +89,8 @@ passed_over run a entry start now old new h moves far few mux packets greatest l
     let cause = not_followed run a entry far few in (
       cause,
       subst (λ (o : Option AirRefusal). IsOnAir run (judged_by run a entry o) start now new) (sym cause)
-          (refused_by run a entry Ahead start now old new h moves packets (greatest ∙ h.greatest) leap records (subst (λ (m : MuxState). Carries run (job_of a) m) (sym mux) h.mux)),
+          (refused_by run a entry Ahead start now old new h moves packets (greatest ∙ h.greatest) leap records
+          (subst (λ (m : MuxState). Carries run (job_of a) m) (sym mux) h.mux)),
     )
 
 -- or as the last of a leap
@@ -93,13 +101,15 @@ followed_cause run a entry far many = rw (far, many) refl
 followed_same : (packet slots from greatest to due : ℕ) → packet ≡ slots → from ≡ greatest → to ≡ due → Followed packet from to ≡ Followed slots greatest due
 followed_same packet slots from greatest to due p f t = rw (p, f, t) refl
 
-pub passed_last : (run : Run) (a : Air) (entry : ℕ × AccessUnit) (packet from to : ℕ) (start now : Option (List ℕ)) (old new : AirState) → IsOnAir run a start now old → Moves old new →
+pub passed_last : (run : Run) (a : Air) (entry : ℕ × AccessUnit) (packet from to : ℕ) (start now : Option (List ℕ)) (old new : AirState) →
+    IsOnAir run a start now old → Moves old new →
     is_far_from run a entry ≡ true → is_followed (leap_by run a entry) ≡ true → packet ≡ a.slots → from ≡ old.greatest → to ≡ entry.1.dts → new.mux ≡ old.mux →
     new.packets ≡ old.packets → new.greatest ≡ to → new.leap ≡ no_leap → new.records ≡ old.records + 1 →
     (air_cause run a entry ≡ Some (Followed packet from to)) × IsOnAir run (judged run a entry) start now new
 unfolding greatest_by leap_left
 passed_last run a entry packet from to start now old new h moves far many p f t mux packets greatest leap records =
-    let told : Followed packet from to ≡ Followed a.slots a.greatest entry.1.dts = followed_same packet a.slots from a.greatest to entry.1.dts p (f ∙ h.greatest) t in
+    let told : Followed packet from to ≡ Followed a.slots a.greatest entry.1.dts =
+    followed_same packet a.slots from a.greatest to entry.1.dts p (f ∙ h.greatest) t in
     let cause : air_cause run a entry ≡ Some (Followed packet from to) = followed_cause run a entry far many ∙ ap Some (sym told) in (
       cause,
       subst (λ (o : Option AirRefusal). IsOnAir run (judged_by run a entry o) start now new) (sym cause)
@@ -118,8 +128,10 @@ admitted a entry = record {
   refused = a.refused;
 }
 
-pub admitted_on : (run : Run) (a : Air) (entry : ℕ × AccessUnit) (start now : Option (List ℕ)) (old new : AirState) → IsOnAir run a start now old → Moves old new →
-    new.packets ≡ old.packets → new.greatest ≡ max old.greatest entry.1.dts → new.leap ≡ no_leap → new.records ≡ old.records + 1 → Admits run a entry None new.mux →
+pub admitted_on : (run : Run) (a : Air) (entry : ℕ × AccessUnit) (start now : Option (List ℕ)) (old new : AirState) → IsOnAir run a start now old →
+    Moves old new →
+    new.packets ≡ old.packets → new.greatest ≡ max old.greatest entry.1.dts → new.leap ≡ no_leap → new.records ≡ old.records + 1 →
+    Admits run a entry None new.mux →
     IsOnAir run (admitted a entry) start now new
 unfolding admitted
 admitted_on run a entry start now old new h moves packets greatest leap records admits = record {
@@ -132,13 +144,16 @@ admitted_on run a entry start now old new h moves packets greatest leap records 
   greatest = greatest ∙ ap (λ (n : ℕ). max n entry.1.dts) h.greatest;
   leap = leap;
   records = records ∙ ap (λ (n : ℕ). n + 1) h.records;
-  output = subst (λ (l : List ℕ). IsOutput start now new.packets l) (sym admits.before) (subst (λ (p : Buffered). IsOutput start now p (air_output run a)) (sym packets) h.output);
+  output = subst (λ (l : List ℕ). IsOutput start now new.packets l) (sym admits.before)
+      (subst (λ (p : Buffered). IsOutput start now p (air_output run a)) (sym packets) h.output);
   headline = keeps run (accepted_by a entry None) a.slots a.slots new.mux h.promises admits.mux;
 }
 
 -- then these slots were written
-pub taken_on : (run : Run) (a : Air) (entry : ℕ × AccessUnit) (due : ℕ) (start later : Option (List ℕ)) (m : MuxState) (new : AirState) → Admits run a entry None m → due ≡ entry.1.dts →
-    IsOnAir run (with_count (admitted a entry) (on_to (admitted a entry).slots (settled_at run due))) start later new → (air_cause run a entry ≡ None) × IsOnAir run (judged run a entry) start later new
+pub taken_on : (run : Run) (a : Air) (entry : ℕ × AccessUnit) (due : ℕ) (start later : Option (List ℕ)) (m : MuxState) (new : AirState) →
+    Admits run a entry None m → due ≡ entry.1.dts →
+    IsOnAir run (with_count (admitted a entry) (on_to (admitted a entry).slots (settled_at run due))) start later new →
+    (air_cause run a entry ≡ None) × IsOnAir run (judged run a entry) start later new
 unfolding admitted judged_by
 taken_on run a entry due start later m new admits is on = (
   sym admits.cause,
@@ -147,8 +162,10 @@ taken_on run a entry due start later m new admits is on = (
 )
 
 -- or the writer failed
-pub fails_on : (run : Run) (a : Air) (entry : ℕ × AccessUnit) (due sent : ℕ) (start later : Option (List ℕ)) (m : MuxState) → Admits run a entry None m → due ≡ entry.1.dts →
-    Fails run (with_count (admitted a entry) (on_to (admitted a entry).slots (settled_at run due))) start later sent → (air_cause run a entry ≡ None) × Fails run (judged run a entry) start later sent
+pub fails_on : (run : Run) (a : Air) (entry : ℕ × AccessUnit) (due sent : ℕ) (start later : Option (List ℕ)) (m : MuxState) → Admits run a entry None m →
+    due ≡ entry.1.dts →
+    Fails run (with_count (admitted a entry) (on_to (admitted a entry).slots (settled_at run due))) start later sent →
+    (air_cause run a entry ≡ None) × Fails run (judged run a entry) start later sent
 unfolding admitted judged_by
 fails_on run a entry due sent start later m admits is fails = (
   sym admits.cause,
@@ -158,7 +175,8 @@ fails_on run a entry due sent start later m admits is fails = (
 
 -- what waited was written
 pub flushed : (run : Run) (a : Air) (start now later : Option (List ℕ)) (old new : AirState) → IsOnAir run a start now old → Moves old new → new.mux ≡ old.mux →
-    new.packets.hex ≡ old.packets.hex → new.greatest ≡ old.greatest → new.leap ≡ old.leap → new.records ≡ old.records → IsOutput start later new.packets (air_output run a) → IsOnAir run a start later new
+    new.packets.hex ≡ old.packets.hex → new.greatest ≡ old.greatest → new.leap ≡ old.leap → new.records ≡ old.records →
+    IsOutput start later new.packets (air_output run a) → IsOnAir run a start later new
 flushed run a start now later old new h moves mux hex greatest leap records output = record {
   mux = subst (λ (m : MuxState). Carries run (job_of a) m) (sym mux) h.mux;
   promises = h.promises;
@@ -179,16 +197,19 @@ not_flushed run a start now later sent old h took = record { took = took; headli
 
 -- ---- the end
 
-pub end_output : (run : Run) (a : Air) (start now : Option (List ℕ)) (old : AirState) (packets : Buffered) → IsOnAir run a start now old → packets ≡ old.packets →
+pub end_output : (run : Run) (a : Air) (start now : Option (List ℕ)) (old : AirState) (packets : Buffered) → IsOnAir run a start now old →
+    packets ≡ old.packets →
     IsOutput start now packets (output_of packets.hex run.scheduled (job_of a))
 end_output run a start now old packets h same =
     subst (λ (p : Buffered). IsOutput start now p (output_of p.hex run.scheduled (job_of a))) (sym same)
     (subst (λ (b : Bool). IsOutput start now old.packets (output_of b run.scheduled (job_of a))) (sym h.hex) h.output)
 
 -- slots were written until `target` are
-pub counted_on : (run : Run) (a : Air) (target : ℕ) (hex : Bool) (start now later : Option (List ℕ)) (old new : AirState) → IsOnAir run a start now old → Moves old new →
+pub counted_on : (run : Run) (a : Air) (target : ℕ) (hex : Bool) (start now later : Option (List ℕ)) (old new : AirState) → IsOnAir run a start now old →
+    Moves old new →
     hex ≡ old.packets.hex → new.greatest ≡ old.greatest → new.leap ≡ old.leap → new.records ≡ old.records →
-    WroteOn run (with_slots (job_of a) (on_to a.slots target)) hex start later new.mux new.packets → IsOnAir run (with_count a (on_to a.slots target)) start later new
+    WroteOn run (with_slots (job_of a) (on_to a.slots target)) hex start later new.mux new.packets →
+    IsOnAir run (with_count a (on_to a.slots target)) start later new
 counted_on run a target hex start now later old new h moves like greatest leap records wrote = record {
   mux = wrote.mux;
   promises = h.promises;
@@ -199,7 +220,8 @@ counted_on run a target hex start now later old new h moves like greatest leap r
   greatest = greatest ∙ h.greatest;
   leap = leap ∙ h.leap;
   records = records ∙ h.records;
-  output = subst (λ (b : Bool). IsOutput start later new.packets (output_of b run.scheduled (job_of (with_count a (on_to a.slots target))))) (like ∙ h.hex) wrote.output;
+  output = subst (λ (b : Bool). IsOutput start later new.packets (output_of b run.scheduled (job_of (with_count a (on_to a.slots target))))) (like ∙ h.hex)
+      wrote.output;
   headline = keeps run a.accepted a.slots (on_to a.slots target) old.mux h.promises h.mux;
 }
 
@@ -212,23 +234,27 @@ count_fails run a target sent hex start now later old h like took = record {
 }
 
 -- the same by the number of slots that was asked for
-pub counted_same : (run : Run) (a : Air) (target wanted : ℕ) (start later : Option (List ℕ)) (new : AirState) → target ≡ wanted → IsOnAir run (with_count a (on_to a.slots target)) start later new →
+pub counted_same : (run : Run) (a : Air) (target wanted : ℕ) (start later : Option (List ℕ)) (new : AirState) → target ≡ wanted →
+    IsOnAir run (with_count a (on_to a.slots target)) start later new →
     IsOnAir run (with_count a (on_to a.slots wanted)) start later new
 counted_same run a target wanted start later new is on = subst (λ (n : ℕ). IsOnAir run (with_count a (on_to a.slots n)) start later new) is on
 
-pub fails_same : (run : Run) (a : Air) (target wanted sent : ℕ) (start later : Option (List ℕ)) → target ≡ wanted → Fails run (with_count a (on_to a.slots target)) start later sent →
+pub fails_same : (run : Run) (a : Air) (target wanted sent : ℕ) (start later : Option (List ℕ)) → target ≡ wanted →
+    Fails run (with_count a (on_to a.slots target)) start later sent →
     Fails run (with_count a (on_to a.slots wanted)) start later sent
 fails_same run a target wanted sent start later is fails = subst (λ (n : ℕ). Fails run (with_count a (on_to a.slots n)) start later sent) is fails
 
 -- the slots up to a record were written, if the run follows it
-pub followed_on : {V : Type 0} (run : Run) (a : Air) (refusal : AirRefusal) (packet from to : ℕ) (start later : Option (List ℕ)) (new : AirState) (result : Result V OutputFault) →
+pub followed_on : {V : Type 0} (run : Run) (a : Air) (refusal : AirRefusal) (packet from to : ℕ) (start later : Option (List ℕ)) (new : AirState)
+    (result : Result V OutputFault) →
     refusal ≡ Followed packet from to → OnOk result (IsOnAir run (with_count a (on_to a.slots (settled_at run to))) start later new) →
     OnOk result (IsOnAir run (caught_up run a (Some refusal)) start later new)
 unfolding slots_followed
 followed_on run a refusal packet from to start later new result is on =
     subst (λ (r : AirRefusal). OnOk result (IsOnAir run (caught_up run a (Some r)) start later new)) (sym is) on
 
-pub follow_fails : {V : Type 0} (run : Run) (a : Air) (refusal : AirRefusal) (packet from to : ℕ) (start later : Option (List ℕ)) (result : Result V OutputFault) →
+pub follow_fails : {V : Type 0} (run : Run) (a : Air) (refusal : AirRefusal) (packet from to : ℕ) (start later : Option (List ℕ))
+    (result : Result V OutputFault) →
     refusal ≡ Followed packet from to → IfErr result (λ fault. Fails run (with_count a (on_to a.slots (settled_at run to))) start later fault.sent) →
     IfErr result (λ fault. Fails run (caught_up run a (Some refusal)) start later fault.sent)
 unfolding slots_followed
@@ -240,7 +266,8 @@ pub stays_ahead : (run : Run) (a : Air) (refusal : AirRefusal) (start now : Opti
 unfolding slots_followed
 stays_ahead run a refusal start now s is on = subst (λ (r : AirRefusal). IsOnAir run (caught_up run a (Some r)) start now s) (sym is) on
 
-pub stays_fed : (run : Run) (a : Air) (refusal : AirRefusal) (cause : FeedError) (start now : Option (List ℕ)) (s : AirState) → refusal ≡ Feed cause → IsOnAir run a start now s →
+pub stays_fed : (run : Run) (a : Air) (refusal : AirRefusal) (cause : FeedError) (start now : Option (List ℕ)) (s : AirState) → refusal ≡ Feed cause →
+    IsOnAir run a start now s →
     IsOnAir run (caught_up run a (Some refusal)) start now s
 unfolding slots_followed
 stays_fed run a refusal cause start now s is on = subst (λ (r : AirRefusal). IsOnAir run (caught_up run a (Some r)) start now s) (sym is) on
@@ -253,7 +280,8 @@ last_same run a start now old rate greatest terms h r t g =
     ap (λ (n : ℕ). last_of n terms greatest) (r ∙ h.rate) ∙ ap (λ (x : Terms). last_of run.scheduled.description.rate x greatest) (t ∙ h.terms)
     ∙ ap (λ (n : ℕ). last_of run.scheduled.description.rate run.terms n) (g ∙ h.greatest)
 
-pub settled_same : (run : Run) (a : Air) (start now : Option (List ℕ)) (old : AirState) (rate lead limit due dts : ℕ) (terms : Terms) → IsOnAir run a start now old →
+pub settled_same : (run : Run) (a : Air) (start now : Option (List ℕ)) (old : AirState) (rate lead limit due dts : ℕ) (terms : Terms) →
+    IsOnAir run a start now old →
     rate ≡ old.rate → lead ≡ old.lead → terms ≡ old.terms → limit ≡ limit_of terms → due ≡ dts → settled rate lead limit due ≡ settled_at run dts
 settled_same run a start now old rate lead limit due dts terms h r l t m e =
     ap (λ (n : ℕ). settled n lead limit due) (r ∙ h.rate) ∙ ap (λ (n : ℕ). settled run.scheduled.description.rate n limit due) (l ∙ h.lead)
@@ -265,17 +293,21 @@ pub far_same : (run : Run) (a : Air) (entry : ℕ × AccessUnit) (start now : Op
     IsOnAir run a start now old → ahead ≡ old.terms.ahead → greatest ≡ old.greatest → due ≡ entry.1.dts → is_far ahead greatest due ≡ is_far_from run a entry
 far_same run a entry start now old ahead greatest due h s g d =
     let terms : ahead ≡ run.terms.ahead = s ∙ ap (λ (t : Terms). t.ahead) h.terms in
-    ap (λ (n : ℕ). is_far n greatest due) terms ∙ ap (λ (n : ℕ). is_far run.terms.ahead n due) (g ∙ h.greatest) ∙ ap (λ (n : ℕ). is_far run.terms.ahead a.greatest n) d
+    ap (λ (n : ℕ). is_far n greatest due) terms ∙ ap (λ (n : ℕ). is_far run.terms.ahead n due) (g ∙ h.greatest)
+    ∙ ap (λ (n : ℕ). is_far run.terms.ahead a.greatest n) d
 
 pub leap_same : (run : Run) (a : Air) (entry : ℕ × AccessUnit) (start now : Option (List ℕ)) (old : AirState) (before : Leap) (ahead due : ℕ) →
     IsOnAir run a start now old → ahead ≡ old.terms.ahead → before ≡ old.leap → due ≡ entry.1.dts → leap_with ahead before due ≡ leap_by run a entry
 leap_same run a entry start now old before ahead due h s b d =
     let terms : ahead ≡ run.terms.ahead = s ∙ ap (λ (t : Terms). t.ahead) h.terms in
-    ap (λ (n : ℕ). leap_with n before due) terms ∙ ap (λ (l : Leap). leap_with run.terms.ahead l due) (b ∙ h.leap) ∙ ap (λ (n : ℕ). leap_with run.terms.ahead a.leap n) d
+    ap (λ (n : ℕ). leap_with n before due) terms ∙ ap (λ (l : Leap). leap_with run.terms.ahead l due) (b ∙ h.leap)
+    ∙ ap (λ (n : ℕ). leap_with run.terms.ahead a.leap n) d
 
 -- before the first record
-pub begins : (d : Scheduled) (terms : Terms) (hex : Bool) (start : Option (List ℕ)) (s : AirState) → Carries (run_with d terms hex) empty_history s.mux → Promises d →
-    waiting_of s.packets ≡ [] → s.packets.sent ≡ 0 → s.packets.hex ≡ hex → s.terms ≡ terms → s.rate ≡ d.description.rate → s.lead ≡ lead_of (run_with d terms hex) →
+pub begins : (d : Scheduled) (terms : Terms) (hex : Bool) (start : Option (List ℕ)) (s : AirState) → Carries (run_with d terms hex) empty_history s.mux →
+    Promises d →
+    waiting_of s.packets ≡ [] → s.packets.sent ≡ 0 → s.packets.hex ≡ hex → s.terms ≡ terms → s.rate ≡ d.description.rate →
+    s.lead ≡ lead_of (run_with d terms hex) →
     s.greatest ≡ 0 → s.leap ≡ no_leap → s.records ≡ 0 → IsOnAir (run_with d terms hex) silence start start s
 unfolding run_output
 begins d terms hex start s carries promises none unsent same t r l g leap n = record {

@@ -1,5 +1,6 @@
 -- Units none of which is refused are aired as a whole job of them is multiplexed.
-use Rattle.std.proofs.Common.{◌≡◌, ℕ, zero, suc, ◌-◌, ◌*◌, ◌≤◌, ◌==◌, ◌&&◌, min, max, Bool, true, false, List, [], ◌∷◌, ◌++◌, length, Option, Some, None, Result, Ok, Err, refl, sym, ap, ◌∙◌, arith, inl, inr, append_assoc, append-nil}
+use Rattle.std.proofs.Common.{◌≡◌, ℕ, zero, suc, ◌-◌, ◌*◌, ◌≤◌, ◌==◌, ◌&&◌, min, max, Bool, true, false, List, [], ◌∷◌, ◌++◌, length, Option, Some, None}
+use Rattle.std.proofs.Common.{Result, Ok, Err, refl, sym, ap, ◌∙◌, arith, inl, inr, append_assoc, append-nil}
 use Rattle.std.specs.Prelude.{slice_get}
 use Rattle.std.proofs.Math.Nat.{mul-le-mul_right}
 use Rattle.std.proofs.lemmas.Bool.{ne_eqb, cases_lt}
@@ -20,7 +21,8 @@ use Rattle.mux_core.specs.MuxStates.{feed_cause}
 use Rattle.mux_core.specs.WholeJobs.{job_history, output_of, or_cause, unit_refused, cause_after, first_refused}
 use Rattle.mux_core.specs.declared.multiplexing.MuxError.{MuxError}
 use Rattle.on_air.specs.declared.refusals.AirRefusal.{AirRefusal}
-use Rattle.on_air.specs.Airing.{Run, Air, silence, lead_of, settled_at, limit_of, last_by, last_at, on_to, is_tick, air_cause, accepted_by, caught_up, judged_by, slots_followed, with_record, heard, ended}
+use Rattle.on_air.specs.Airing.{Run, Air, silence, lead_of, settled_at, limit_of, last_by, last_at, on_to, is_tick, air_cause, accepted_by, caught_up}
+use Rattle.on_air.specs.Airing.{judged_by, slots_followed, with_record, heard, ended}
 use Rattle.on_air.specs.Laws.{with_entry, records_of, greatest_of, AiredAsMultiplexed}
 
 -- ---- slots of releases
@@ -42,7 +44,8 @@ release_zero rate lead =
 
 -- ---- the job, unit by unit
 
-pub no_cause : (cause : Option FeedError) (index : ℕ) (next : Option MuxError) → or_cause (unit_refused index cause) next ≡ None → (cause ≡ None) × (next ≡ None)
+pub no_cause : (cause : Option FeedError) (index : ℕ) (next : Option MuxError) → or_cause (unit_refused index cause) next ≡ None →
+    (cause ≡ None) × (next ≡ None)
 unfolding or_cause unit_refused
 no_cause None index next none = (refl, none)
 no_cause (Some cause) index next none = absurd (let no : ⊥ = cc in no)
@@ -51,7 +54,8 @@ pub both_none : (cause : Option FeedError) (index : ℕ) (next : Option MuxError
 unfolding or_cause unit_refused
 both_none cause index next none last = rw (none, last) refl
 
-pub last_taken : (d : Scheduled) (other : ℕ) (fed units : List (ℕ × AccessUnit)) (entry : ℕ × AccessUnit) → first_refused d other fed (units ++ (entry ∷ [])) ≡ None →
+pub last_taken : (d : Scheduled) (other : ℕ) (fed units : List (ℕ × AccessUnit)) (entry : ℕ × AccessUnit) →
+    first_refused d other fed (units ++ (entry ∷ [])) ≡ None →
     (first_refused d other fed units ≡ None) × (cause_after d other (fed ++ units) entry ≡ None)
 unfolding first_refused
 last_taken d other fed [] entry none =
@@ -64,7 +68,8 @@ last_taken d other fed (first ∷ units) entry none =
       ap (λ (l : List (ℕ × AccessUnit)). cause_after d other l entry) (sym (append_assoc fed (first ∷ []) units)) ∙ rest.1,
     )
 
-pub first_taken : (d : Scheduled) (other : ℕ) (fed units more : List (ℕ × AccessUnit)) → first_refused d other fed (units ++ more) ≡ None → first_refused d other fed units ≡ None
+pub first_taken : (d : Scheduled) (other : ℕ) (fed units more : List (ℕ × AccessUnit)) → first_refused d other fed (units ++ more) ≡ None →
+    first_refused d other fed units ≡ None
 unfolding first_refused
 first_taken d other fed [] more none = refl
 first_taken d other fed (entry ∷ units) more none =
@@ -91,7 +96,8 @@ and_false true = refl
 and_false false = refl
 
 pub no_tick : (entry : ℕ × AccessUnit) → 1 ≤ length entry.1.bytes → is_tick entry ≡ false
-no_tick entry some = ap (λ (b : Bool). (entry.0 == 255) && b) (ne_eqb (length entry.1.bytes) 0 (λ e. absurd (omega (arith, e, some)))) ∙ and_false (entry.0 == 255)
+no_tick entry some = ap (λ (b : Bool). (entry.0 == 255) && b) (ne_eqb (length entry.1.bytes) 0 (λ e. absurd (omega (arith, e, some))))
+    ∙ and_false (entry.0 == 255)
 
 -- ---- the greatest DTS so far
 
@@ -133,11 +139,13 @@ unfolding judged_by accepted_by slots_followed
 taken_more run a units entry so tick = record {
   accepted = rw tick (ap (λ (l : List (ℕ × AccessUnit)). l ++ (entry ∷ [])) so.accepted);
   greatest = ap (λ (g : ℕ). max g entry.1.dts) so.greatest ∙ sym (greatest_more units entry);
-  slots = ap (λ (n : ℕ). on_to n (settled_at run entry.1.dts)) so.slots ∙ more_settled run (greatest_of units) entry.1.dts ∙ ap (λ (g : ℕ). settled_at run g) (sym (greatest_more units entry));
+  slots = ap (λ (n : ℕ). on_to n (settled_at run entry.1.dts)) so.slots ∙ more_settled run (greatest_of units) entry.1.dts
+      ∙ ap (λ (g : ℕ). settled_at run g) (sym (greatest_more units entry));
 }
 
 -- a unit that is multiplexed has bytes, and so it is no tick
-pub some_bytes : (d : Scheduled) (other : ℕ) (units : List (ℕ × AccessUnit)) (entry : ℕ × AccessUnit) → cause_after d other units entry ≡ None → is_tick entry ≡ false
+pub some_bytes : (d : Scheduled) (other : ℕ) (units : List (ℕ × AccessUnit)) (entry : ℕ × AccessUnit) → cause_after d other units entry ≡ None →
+    is_tick entry ≡ false
 some_bytes d other units entry none =
     let found = stream_of d other units entry (slice_get d.description.streams entry.0) none in
     let own = own_facts _ _ _ entry.1 (or_none _ _ found.cause).0 in
@@ -156,7 +164,8 @@ taken_by run a units entry (Some cause) so tick none = absurd (not_empty a.refus
 
 taken_with : (run : Run) (a : Air) (other : ℕ) (units : List (ℕ × AccessUnit)) (found : Result (Option (ℕ × AccessUnit)) UnitFileError) →
     (first_refused run.scheduled other [] units ≡ None → a.refused ≡ [] → Taken run a units) →
-    first_refused run.scheduled other [] (with_entry found units) ≡ None → (with_record run found a).refused ≡ [] → Taken run (with_record run found a) (with_entry found units)
+    first_refused run.scheduled other [] (with_entry found units) ≡ None → (with_record run found a).refused ≡ [] →
+    Taken run (with_record run found a) (with_entry found units)
 unfolding with_record with_entry
 taken_with run a other units (Err fault) so job none = so job none
 taken_with run a other units (Ok None) so job none = so job none
@@ -164,14 +173,17 @@ taken_with run a other units (Ok (Some entry)) so job none =
     let last = last_taken run.scheduled other [] units entry job in
     taken_by run a units entry (air_cause run a entry) (so last.0) (some_bytes run.scheduled other units entry last.1) none
 
-all_taken : (run : Run) (other n : ℕ) (xs : List ℕ) → first_refused run.scheduled other [] (records_of n xs) ≡ None → (heard run n xs).refused ≡ [] → Taken run (heard run n xs) (records_of n xs)
+all_taken : (run : Run) (other n : ℕ) (xs : List ℕ) → first_refused run.scheduled other [] (records_of n xs) ≡ None → (heard run n xs).refused ≡ [] →
+    Taken run (heard run n xs) (records_of n xs)
 unfolding heard records_of
 all_taken run other zero xs job none = none_taken run
-all_taken run other (suc n) xs job none = taken_with run (heard run n xs) other (records_of n xs) (record_at (after_records n xs)) (all_taken run other n xs) job none
+all_taken run other (suc n) xs job none =
+    taken_with run (heard run n xs) other (records_of n xs) (record_at (after_records n xs)) (all_taken run other n xs) job none
 
 -- ---- the output
 
-no_later : (run : Run) (g limit : ℕ) (slots : Option ℕ) → min (release run.scheduled.description.rate (lead_of run) g) limit ≤ last_by run.scheduled.description.rate limit g slots
+no_later : (run : Run) (g limit : ℕ) (slots : Option ℕ) →
+    min (release run.scheduled.description.rate (lead_of run) g) limit ≤ last_by run.scheduled.description.rate limit g slots
 unfolding last_by
 no_later run g limit None =
     let rises = release_rises run.scheduled.description.rate (lead_of run) g 0 g (omega arith) in

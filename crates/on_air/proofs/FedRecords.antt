@@ -40,13 +40,15 @@ fits_of h m d same ranges st =
     subst (λ (x : Scheduled). Fits (content_at x h.units)) same (contents_fit m.schedule h.units there (units_kept h m there st))
 
 -- what was written stays
-written_stays : (run : Run) (h : History) (old new : MuxState) (k : ℕ) (u : AccessUnit) → Carries run h old → Promises run.scheduled → Takes h old k u None new →
+written_stays : (run : Run) (h : History) (old new : MuxState) (k : ℕ) (u : AccessUnit) → Carries run h old → Promises run.scheduled →
+    Takes h old k u None new →
     output_of run.hex run.scheduled (with_unit h k u) ≡ output_of run.hex run.scheduled h
 written_stays run h old new k u c promises takes =
     same_output run.hex _ _ 0 h.slots
     (fits_of (with_unit h k u) new run.scheduled (takes.same_schedule ∙ c.scheduled) promises.ranges (takes.stands refl))
     (fits_of h old run.scheduled c.scheduled promises.ranges c.stands)
-    (subst (λ (d : Scheduled). run_bytes (content_at d (with_unit h k u).units) 0 h.slots ≡ run_bytes (content_at d h.units) 0 h.slots) c.scheduled (takes.before refl))
+    (subst (λ (d : Scheduled). run_bytes (content_at d (with_unit h k u).units) 0 h.slots ≡ run_bytes (content_at d h.units) 0 h.slots) c.scheduled
+    (takes.before refl))
 
 -- a unit more of its stream
 joined : (a : Air) (entry : ℕ × AccessUnit) → with_unit (job_of a) entry.0 entry.1 ≡ job_history (a.accepted ++ (entry ∷ [])) a.slots
@@ -54,7 +56,8 @@ joined a entry = ap (λ (h : History). record { units = h.units; slots = a.slots
 
 -- ---- the causes
 
-cause_is : (run : Run) (a : Air) (old : MuxState) (entry : ℕ × AccessUnit) → Carries run (job_of a) old → refusal_of old (job_of a) entry.0 entry.1 ≡ unit_refusal run a entry
+cause_is : (run : Run) (a : Air) (old : MuxState) (entry : ℕ × AccessUnit) → Carries run (job_of a) old →
+    refusal_of old (job_of a) entry.0 entry.1 ≡ unit_refusal run a entry
 cause_is run a old entry c =
     ap (λ (d : Scheduled). feed_cause d old.capacity (job_of a) entry.0 entry.1 (slice_get d.description.streams entry.0)) c.scheduled
     ∙ ap (λ (n : ℕ). feed_cause run.scheduled n (job_of a) entry.0 entry.1 (slice_get run.scheduled.description.streams entry.0)) c.capacity
@@ -65,11 +68,13 @@ fed_cause run a entry refused near unit is = rw (near, unit) (ap (option_map Fee
 
 -- ---- what a call leaves
 
-pub ticked : (run : Run) (a : Air) (m : MuxState) (entry : ℕ × AccessUnit) → Carries run (job_of a) m → is_far_from run a entry ≡ false → is_tick entry ≡ true → Admits run a entry None m
+pub ticked : (run : Run) (a : Air) (m : MuxState) (entry : ℕ × AccessUnit) → Carries run (job_of a) m → is_far_from run a entry ≡ false → is_tick entry ≡ true →
+    Admits run a entry None m
 unfolding accepted_by
 ticked run a m entry c near tick = record { cause = rw (near, tick) refl; mux = rw tick c; before = rw tick refl }
 
-pub unfed : (run : Run) (a : Air) (old new : MuxState) (entry : ℕ × AccessUnit) (cause : FeedError) → Carries run (job_of a) old → is_far_from run a entry ≡ false → is_tick entry ≡ false →
+pub unfed : (run : Run) (a : Air) (old new : MuxState) (entry : ℕ × AccessUnit) (cause : FeedError) → Carries run (job_of a) old →
+    is_far_from run a entry ≡ false → is_tick entry ≡ false →
     Takes (job_of a) old entry.0 entry.1 (Some cause) new → new ≡ old → Admits run a entry (Some (Feed cause)) new
 unfolding accepted_by
 unfed run a old new entry cause c near unit takes same = record {
@@ -78,7 +83,8 @@ unfed run a old new entry cause c near unit takes same = record {
   before = refl;
 }
 
-pub fed : (run : Run) (a : Air) (old new : MuxState) (entry : ℕ × AccessUnit) → Carries run (job_of a) old → Promises run.scheduled → is_far_from run a entry ≡ false → is_tick entry ≡ false →
+pub fed : (run : Run) (a : Air) (old new : MuxState) (entry : ℕ × AccessUnit) → Carries run (job_of a) old → Promises run.scheduled →
+    is_far_from run a entry ≡ false → is_tick entry ≡ false →
     Takes (job_of a) old entry.0 entry.1 None new → Admits run a entry None new
 unfolding accepted_by
 fed run a old new entry c promises near unit takes = record {
@@ -88,5 +94,6 @@ fed run a old new entry c promises near unit takes = record {
     scheduled = takes.same_schedule ∙ c.scheduled;
     capacity = takes.same_capacity ∙ c.capacity;
   });
-  before = rw unit (ap (λ (h : History). output_of run.hex run.scheduled h) (sym (joined a entry)) ∙ written_stays run (job_of a) old new entry.0 entry.1 c promises takes);
+  before = rw unit
+      (ap (λ (h : History). output_of run.hex run.scheduled h) (sym (joined a entry)) ∙ written_stays run (job_of a) old new entry.0 entry.1 c promises takes);
 }

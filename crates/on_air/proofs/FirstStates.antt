@@ -6,7 +6,8 @@ use Rattle.mux_core.specs.declared.done.NewError.{NewError}
 use Rattle.mux_core.specs.declared.done.NewError.TheVariants.{Capacity, Periods}
 
 -- where a multiplexer over two plans was made, no cause lies in the periods
-pub switch_begun : (capacity periods : Bool) (refused : Option NewError) → Judges (if capacity then (if periods then None else Some Periods) else Some Capacity) None → Judges None refused →
+pub switch_begun : (capacity periods : Bool) (refused : Option NewError) →
+    Judges (if capacity then (if periods then None else Some Periods) else Some Capacity) None → Judges None refused →
     Judges (if periods then None else Some Periods) refused
 switch_begun true true refused made judged = judged
 switch_begun true false refused made judged = absurd (let no : ⊥ = cc in no)

@@ -13,26 +13,33 @@ use Rattle.on_air.specs.Airing.{Run, Air, air_cause, aired, caught_up, judged, j
 use Rattle.on_air.specs.AirStates.{AirState, IsOnAir}
 use Rattle.on_air.specs.Hearing.{HearsRecord, Hears, HasHeard, HasSlotsLeft, HearsOn, NamesDevice}
 
-with_one : (run : Run) (a : Air) (found : Result (Option (ℕ × AccessUnit)) UnitFileError) (entry : ℕ × AccessUnit) → found ≡ Ok (Some entry) → aired run a entry ≡ with_record run found a
+with_one : (run : Run) (a : Air) (found : Result (Option (ℕ × AccessUnit)) UnitFileError) (entry : ℕ × AccessUnit) → found ≡ Ok (Some entry) →
+    aired run a entry ≡ with_record run found a
 unfolding with_record
 with_one run a found entry is = rw is refl
 
 -- slots were left before each of n records, and before the next
-slots_more : (run : Run) (n : ℕ) (a : Air) (xs : List ℕ) → a ≡ heard run n xs → a.slots < limit_of run.terms → HasSlotsLeft run n xs → HasSlotsLeft run (suc n) xs
+slots_more : (run : Run) (n : ℕ) (a : Air) (xs : List ℕ) → a ≡ heard run n xs → a.slots < limit_of run.terms → HasSlotsLeft run n xs →
+    HasSlotsLeft run (suc n) xs
 slots_more run n a xs is left before m less =
     below_more (λ i. (heard run i xs).slots < limit_of run.terms) n before (subst (λ (b : Air). b.slots < limit_of run.terms) is left) m (omega (arith, less))
 
 -- one record more
-pub one_more : (run : Run) (n : ℕ) (a : Air) (origin old left : Option (List ℕ)) (refused : Option AirRefusal) (h : HearsRecord run a old left refused) → HasHeard run n a origin old →
+pub one_more : (run : Run) (n : ℕ) (a : Air) (origin old left : Option (List ℕ)) (refused : Option AirRefusal) (h : HearsRecord run a old left refused) →
+    HasHeard run n a origin old →
     HasHeard run (suc n) (aired run a h.entry) origin left
 unfolding heard after_records
 one_more run n a origin old left refused h has xs is =
     let before = has xs is in
-    let read = h.known (after_records n xs) before.1 in
-    (with_one run a (record_at (after_records n xs)) h.entry read.0 ∙ ap (with_record run (record_at (after_records n xs))) before.0, read.1, slots_more run n a xs before.0 h.slots_left before.2)
+    let read = h.known (after_records n xs) before.1 in (
+      with_one run a (record_at (after_records n xs)) h.entry read.0 ∙ ap (with_record run (record_at (after_records n xs))) before.0,
+      read.1,
+      slots_more run n a xs before.0 h.slots_left before.2,
+    )
 
 -- what is left once the slots up to a record that the run follows are written; a record that is taken is not followed
-pub aired_as : (run : Run) (a : Air) (entry : ℕ × AccessUnit) (refused : Option AirRefusal) → air_cause run a entry ≡ refused → aired run a entry ≡ caught_up run (judged run a entry) refused
+pub aired_as : (run : Run) (a : Air) (entry : ℕ × AccessUnit) (refused : Option AirRefusal) → air_cause run a entry ≡ refused →
+    aired run a entry ≡ caught_up run (judged run a entry) refused
 aired_as run a entry refused is = ap (λ (o : Option AirRefusal). caught_up run (judged run a entry) o) is
 
 pub aired_taken : (run : Run) (a : Air) (entry : ℕ × AccessUnit) → air_cause run a entry ≡ None → aired run a entry ≡ judged run a entry
@@ -40,7 +47,8 @@ unfolding slots_followed
 aired_taken run a entry none = aired_as run a entry None none
 
 -- a record that is taken adds no refusal, and one that is refused its own
-pub taken_adds : (run : Run) (a : Air) (entry : ℕ × AccessUnit) (refused : Option AirRefusal) → refused ≡ None → (judged_by run a entry refused).refused ≡ a.refused
+pub taken_adds : (run : Run) (a : Air) (entry : ℕ × AccessUnit) (refused : Option AirRefusal) → refused ≡ None →
+    (judged_by run a entry refused).refused ≡ a.refused
 unfolding judged_by
 taken_adds run a entry refused none = rw none refl
 
@@ -57,7 +65,8 @@ pub record Midway (run : Run) (a : Air) (origin start left now : Option (List �
   pub refused : so_far.refused ≡ a.refused
   pub state : IsOnAir run so_far start now s
 
-pub midway_begins : (run : Run) (n : ℕ) (a : Air) (origin start left now : Option (List ℕ)) (s : AirState) → IsOnAir run a start now s → HasHeard run n a origin left →
+pub midway_begins : (run : Run) (n : ℕ) (a : Air) (origin start left now : Option (List ℕ)) (s : AirState) → IsOnAir run a start now s →
+    HasHeard run n a origin left →
     Midway run a origin start left now s
 midway_begins run n a origin start left now s h has = record { so_far = a; count = n; heard_is = has; refused = refl; state = h }
 
@@ -66,12 +75,14 @@ pub next_taken : (run : Run) (a : Air) (origin start mid left now later : Option
 next_taken run a origin start mid left now later s new w (h, state) = record {
   so_far = judged run w.so_far h.entry;
   count = suc w.count;
-  heard_is = subst (λ (b : Air). HasHeard run (suc w.count) b origin left) (aired_taken run w.so_far h.entry h.cause) (one_more run w.count w.so_far origin mid left None h w.heard_is);
+  heard_is = subst (λ (b : Air). HasHeard run (suc w.count) b origin left) (aired_taken run w.so_far h.entry h.cause)
+      (one_more run w.count w.so_far origin mid left None h w.heard_is);
   refused = taken_adds run w.so_far h.entry (air_cause run w.so_far h.entry) h.cause ∙ w.refused;
   state = state;
 }
 
-pub next_refused : (run : Run) (a : Air) (origin start mid left now later : Option (List ℕ)) (s new : AirState) (index : ℕ) (cause : AirRefusal) (w : Midway run a origin start mid now s) →
+pub next_refused : (run : Run) (a : Air) (origin start mid left now later : Option (List ℕ)) (s new : AirState) (index : ℕ) (cause : AirRefusal)
+    (w : Midway run a origin start mid now s) →
     Hears run w.so_far mid left start later (Ok (Refused index cause)) new → HearsOn run a origin left start later (Ok (Refused index cause)) new
 next_refused run a origin start mid left now later s new index cause w (same, (h, state)) = (
   judged run w.so_far h.entry,
@@ -80,28 +91,33 @@ next_refused run a origin start mid left now later s new index cause w (same, (h
     heard_is = subst (λ (b : Air). HasHeard run (suc w.count) b origin left) (aired_as run w.so_far h.entry (Some cause) h.cause)
         (one_more run w.count w.so_far origin mid left (Some cause) h w.heard_is);
   },
-  refused_adds run w.so_far h.entry (air_cause run w.so_far h.entry) cause h.cause ∙ ap (λ (l : List (ℕ × AirRefusal)). l ++ ((w.so_far.records, cause) ∷ [])) w.refused
+  refused_adds run w.so_far h.entry (air_cause run w.so_far h.entry) cause h.cause
+      ∙ ap (λ (l : List (ℕ × AirRefusal)). l ++ ((w.so_far.records, cause) ∷ [])) w.refused
       ∙ ap (λ (i : ℕ). a.refused ++ ((i, cause) ∷ [])) (sym same),
   state,
 )
 
-pub next_ended : (run : Run) (a : Air) (origin start mid left now later : Option (List ℕ)) (s new : AirState) (why : Ending) (w : Midway run a origin start mid now s) →
+pub next_ended : (run : Run) (a : Air) (origin start mid left now later : Option (List ℕ)) (s new : AirState) (why : Ending)
+    (w : Midway run a origin start mid now s) →
     Hears run w.so_far mid left start later (Ok (Ended why)) new → HearsOn run a origin left start later (Ok (Ended why)) new
 next_ended run a origin start mid left now later s new why w (ends, state) =
     (w.so_far, (mid, record { count = w.count; heard_is = w.heard_is }, ends), w.refused, state)
 
-pub next_failed : (run : Run) (a : Air) (origin start mid left now later : Option (List ℕ)) (s new : AirState) (fault : OutputFault) (w : Midway run a origin start mid now s) →
+pub next_failed : (run : Run) (a : Air) (origin start mid left now later : Option (List ℕ)) (s new : AirState) (fault : OutputFault)
+    (w : Midway run a origin start mid now s) →
     Hears run w.so_far mid left start later (Err fault) new → HearsOn run a origin left start later (Err fault) new
 next_failed run a origin start mid left now later s new fault w (h, fails) = (
   judged run w.so_far h.entry,
   record {
     count = suc w.count;
-    heard_is = subst (λ (b : Air). HasHeard run (suc w.count) b origin left) (aired_taken run w.so_far h.entry h.cause) (one_more run w.count w.so_far origin mid left None h w.heard_is);
+    heard_is = subst (λ (b : Air). HasHeard run (suc w.count) b origin left) (aired_taken run w.so_far h.entry h.cause)
+        (one_more run w.count w.so_far origin mid left None h w.heard_is);
   },
   taken_adds run w.so_far h.entry (air_cause run w.so_far h.entry) h.cause ∙ w.refused,
   fails,
 )
 
 -- no device failed before the last record
-pub names_same : (result : Result Heard OutputFault) (r0 rm r1 w0 wm w1 : ℕ) → rm ≡ r0 → wm ≡ w0 → NamesDevice result rm r1 wm w1 → NamesDevice result r0 r1 w0 w1
+pub names_same : (result : Result Heard OutputFault) (r0 rm r1 w0 wm w1 : ℕ) → rm ≡ r0 → wm ≡ w0 → NamesDevice result rm r1 wm w1 →
+    NamesDevice result r0 r1 w0 w1
 names_same result r0 rm r1 w0 wm w1 r w n = subst (λ (x : ℕ). NamesDevice result x r1 w0 w1) r (subst (λ (x : ℕ). NamesDevice result rm r1 x w1) w n)

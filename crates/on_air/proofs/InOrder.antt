@@ -1,5 +1,6 @@
 -- Units in order are all accepted, with ticks among them.
-use Rattle.std.proofs.Common.{◌≡◌, ℕ, zero, suc, ◌+◌, ◌-◌, ◌*◌, ◌<◌, ◌≤◌, ◌==◌, min, max, Bool, true, false, List, [], ◌∷◌, ◌++◌, length, map, Option, Some, None, Result, Ok, Err, refl, sym, ap, ◌∙◌, subst, arith, All, inl, inr, append_assoc, append-nil}
+use Rattle.std.proofs.Common.{◌≡◌, ℕ, zero, suc, ◌+◌, ◌-◌, ◌*◌, ◌<◌, ◌≤◌, ◌==◌, min, max, Bool, true, false, List, [], ◌∷◌, ◌++◌, length, map, Option, Some}
+use Rattle.std.proofs.Common.{None, Result, Ok, Err, refl, sym, ap, ◌∙◌, subst, arith, All, inl, inr, append_assoc, append-nil}
 use Rattle.std.specs.Prelude.{slice_get, fold, not}
 use Rattle.std.proofs.Math.Nat.{mul-le-mul_right, mul-le-mul_left}
 use Rattle.std.specs.Int.{div_ceil}
@@ -30,7 +31,8 @@ use Rattle.mux_core.specs.WholeJobs.{job_history, cause_after, first_refused}
 use Rattle.mux_core.proofs.KnownRanges.{parameters_known, stream_range}
 use Rattle.mux_core.proofs.UnitCounts.{own_units, other_units, units_append}
 use Rattle.on_air.specs.declared.refusals.AirRefusal.{AirRefusal}
-use Rattle.on_air.specs.Airing.{Run, Air, silence, greatest_lead, least_interval, needed_room, lead_of, settled_at, on_to, is_tick, is_far_from, unit_refusal, air_cause, accepted_by, aired, caught_up, judged_by, slots_followed, with_record, heard}
+use Rattle.on_air.specs.Airing.{Run, Air, silence, greatest_lead, least_interval, needed_room, lead_of, settled_at, on_to, is_tick, is_far_from, unit_refusal}
+use Rattle.on_air.specs.Airing.{air_cause, accepted_by, aired, caught_up, judged_by, slots_followed, with_record, heard}
 use Rattle.on_air.specs.AirStates.{Promises}
 use Rattle.on_air.specs.Laws.{with_entry, records_of, without_ticks, greatest_of, IsJobInOrder, AiredInOrder}
 use Rattle.on_air.proofs.InTime.{taken_in_time}
@@ -46,14 +48,17 @@ AllKept d units = (k : ℕ) (s : DescribedStream) → slice_get d.description.st
 pub kept_none : (d : Scheduled) → AllKept d []
 kept_none d k s is = (first_law (owned_stream d k s) 0).kept
 
-kept_own : (d : Scheduled) (slots other k : ℕ) (units : List (ℕ × AccessUnit)) (u : AccessUnit) (s : DescribedStream) → IsInRange d.description → slice_get d.description.streams k ≡ Some s →
-    feed_cause d other (job_history units slots) k u (slice_get d.description.streams k) ≡ None → AllKept d units → Kept (owned_stream d k s) (units_of k units ++ (u ∷ []))
+kept_own : (d : Scheduled) (slots other k : ℕ) (units : List (ℕ × AccessUnit)) (u : AccessUnit) (s : DescribedStream) → IsInRange d.description →
+    slice_get d.description.streams k ≡ Some s →
+    feed_cause d other (job_history units slots) k u (slice_get d.description.streams k) ≡ None → AllKept d units →
+    Kept (owned_stream d k s) (units_of k units ++ (u ∷ []))
 kept_own d slots other k units u s ranges is none kept =
     let found = rw is at none in
     kept_law (owned_stream d k s) slots other (units_of k units) u (parameters_known d ranges k s is) (unfold feed_cause in found) (kept k s is)
 
 pub kept_more : (d : Scheduled) (slots other : ℕ) (units : List (ℕ × AccessUnit)) (entry : ℕ × AccessUnit) → IsInRange d.description →
-    feed_cause d other (job_history units slots) entry.0 entry.1 (slice_get d.description.streams entry.0) ≡ None → AllKept d units → AllKept d (units ++ (entry ∷ []))
+    feed_cause d other (job_history units slots) entry.0 entry.1 (slice_get d.description.streams entry.0) ≡ None → AllKept d units →
+    AllKept d (units ++ (entry ∷ []))
 kept_more d slots other units entry ranges none kept k s is = elim (cases_eq entry.0 k) [
   | inl e ↦
       let more : units_of k (units ++ (entry ∷ [])) ≡ units_of k units ++ (entry.1 ∷ []) =
@@ -73,8 +78,11 @@ none_after : (g : ℕ) (units : List (ℕ × AccessUnit)) →
     (g ≤ fold (λ greatest entry. max greatest entry.1.dts) g units) × All (λ e. e.1.dts ≤ fold (λ greatest entry. max greatest entry.1.dts) g units) units
 none_after g [] = (omega arith, All-nil (λ e. e.1.dts ≤ g))
 none_after g (entry ∷ units) =
-    let rest = none_after (max g entry.1.dts) units in
-    (omega (arith, rest.0), All-cons (λ e. e.1.dts ≤ fold (λ greatest x. max greatest x.1.dts) (max g entry.1.dts) units) entry units (omega (arith, rest.0)) rest.1)
+    let rest = none_after (max g entry.1.dts) units in (
+      omega (arith, rest.0),
+      All-cons (λ e. e.1.dts ≤ fold (λ greatest x. max greatest x.1.dts) (max g entry.1.dts) units) entry units (omega (arith, rest.0))
+          rest.1,
+    )
 
 all_leads : (g : ℕ) (streams : List DescribedStream) →
     (g ≤ fold (λ lead s. max lead s.lead) g streams) × All (λ s. s.lead ≤ fold (λ lead x. max lead x.lead) g streams) streams
@@ -87,23 +95,30 @@ all_intervals : (g : ℕ) (streams : List DescribedStream) →
     (fold (λ least s. min least s.interval) g streams ≤ g) × All (λ s. fold (λ least x. min least x.interval) g streams ≤ s.interval) streams
 all_intervals g [] = (omega arith, All-nil (λ s. g ≤ s.interval))
 all_intervals g (s ∷ streams) =
-    let rest = all_intervals (min g s.interval) streams in
-    (omega (arith, rest.0), All-cons (λ x. fold (λ least y. min least y.interval) (min g s.interval) streams ≤ x.interval) s streams (omega (arith, rest.0)) rest.1)
+    let rest = all_intervals (min g s.interval) streams in (
+      omega (arith, rest.0),
+      All-cons (λ x. fold (λ least y. min least y.interval) (min g s.interval) streams ≤ x.interval) s streams (omega (arith, rest.0))
+          rest.1,
+    )
 
 pub lead_within : (streams : List DescribedStream) (k : ℕ) (s : DescribedStream) → slice_get streams k ≡ Some s → s.lead ≤ greatest_lead streams
 lead_within streams k s is =
-    rw (get_or_from_slice_get streams k s s is) at (All-get_or (λ x. x.lead ≤ greatest_lead streams) streams k s (slice_get_within streams k s is) (all_leads 0 streams).1)
+    rw (get_or_from_slice_get streams k s s is) at
+    (All-get_or (λ x. x.lead ≤ greatest_lead streams) streams k s (slice_get_within streams k s is) (all_leads 0 streams).1)
 
 interval_within : (streams : List DescribedStream) (k : ℕ) (s : DescribedStream) → slice_get streams k ≡ Some s → least_interval streams ≤ s.interval
 interval_within streams k s is =
-    rw (get_or_from_slice_get streams k s s is) at (All-get_or (λ x. least_interval streams ≤ x.interval) streams k s (slice_get_within streams k s is) (all_intervals 90000 streams).1)
+    rw (get_or_from_slice_get streams k s s is) at
+    (All-get_or (λ x. least_interval streams ≤ x.interval) streams k s (slice_get_within streams k s is) (all_intervals 90000 streams).1)
 
 units_within : (k x : ℕ) (units : List (ℕ × AccessUnit)) → All (λ e. e.1.dts ≤ x) units → All (λ u. u.dts ≤ x) (units_of k units)
-units_within k x units all = All-map (λ u. u.dts ≤ x) (λ (e : ℕ × AccessUnit). e.1) (filter (λ e. e.0 == k) units) (All-filter (λ e. e.0 == k) (λ e. e.1.dts ≤ x) units all)
+units_within k x units all =
+    All-map (λ u. u.dts ≤ x) (λ (e : ℕ × AccessUnit). e.1) (filter (λ e. e.0 == k) units) (All-filter (λ e. e.0 == k) (λ e. e.1.dts ≤ x) units all)
 
 -- ---- the room
 
-few_enough : (n interval least lead capacity : ℕ) → 1 ≤ least → least ≤ interval → n * interval < lead + interval → div_ceil lead least + 1 ≤ capacity → n < capacity
+few_enough : (n interval least lead capacity : ℕ) → 1 ≤ least → least ≤ interval → n * interval < lead + interval → div_ceil lead least + 1 ≤ capacity →
+    n < capacity
 few_enough zero interval least lead capacity some le below room = omega (arith, room)
 few_enough (suc n) interval least lead capacity some le below room =
     let wide : n * least ≤ n * interval = mul-le-mul_left n le in
@@ -115,7 +130,8 @@ few_enough (suc n) interval least lead capacity some le below room =
 
 -- the slots that the greatest DTS settles are written
 pub has_room : (run : Run) (k slots last : ℕ) (units : List (ℕ × AccessUnit)) (s : DescribedStream) → Promises run.scheduled →
-    needed_room (lead_of run) run.scheduled.description.streams ≤ run.capacity → slice_get run.scheduled.description.streams k ≡ Some s → AllKept run.scheduled units →
+    needed_room (lead_of run) run.scheduled.description.streams ≤ run.capacity → slice_get run.scheduled.description.streams k ≡ Some s →
+    AllKept run.scheduled units →
     slots ≡ release run.scheduled.description.rate (lead_of run) last → All (λ e. e.1.dts ≤ last) units →
     is_full (owned_stream run.scheduled k s) slots run.capacity (units_of k units) ≡ false
 has_room run k slots last units s promises room is kept written within =
@@ -141,9 +157,11 @@ has_room run k slots last units s promises room is kept written within =
 with_tick : (records : List (ℕ × AccessUnit)) (entry : ℕ × AccessUnit) → is_tick entry ≡ true → without_ticks (records ++ (entry ∷ [])) ≡ without_ticks records
 with_tick records entry tick =
     let none : without_ticks (entry ∷ []) ≡ [] = rw tick refl in
-    filter-append (λ e. not (is_tick e)) records (entry ∷ []) ∙ ap (λ (l : List (ℕ × AccessUnit)). without_ticks records ++ l) none ∙ append-nil (without_ticks records)
+    filter-append (λ e. not (is_tick e)) records (entry ∷ []) ∙ ap (λ (l : List (ℕ × AccessUnit)). without_ticks records ++ l) none
+    ∙ append-nil (without_ticks records)
 
-with_unit : (records : List (ℕ × AccessUnit)) (entry : ℕ × AccessUnit) → is_tick entry ≡ false → without_ticks (records ++ (entry ∷ [])) ≡ without_ticks records ++ (entry ∷ [])
+with_unit : (records : List (ℕ × AccessUnit)) (entry : ℕ × AccessUnit) → is_tick entry ≡ false → without_ticks (records ++ (entry ∷ [])) ≡ without_ticks records
+    ++ (entry ∷ [])
 with_unit records entry tick =
     let one : without_ticks (entry ∷ []) ≡ entry ∷ [] = rw tick refl in
     filter-append (λ e. not (is_tick e)) records (entry ∷ []) ∙ ap (λ (l : List (ℕ × AccessUnit)). without_ticks records ++ l) one
@@ -156,20 +174,24 @@ record SoFar (run : Run) (a : Air) (records : List (ℕ × AccessUnit)) : Type 0
   refused : a.refused ≡ []
   kept : AllKept run.scheduled (without_ticks records)
 
-is_near : (run : Run) (a : Air) (other : ℕ) (records : List (ℕ × AccessUnit)) (entry : ℕ × AccessUnit) → SoFar run a records → IsJobInOrder run other (records ++ (entry ∷ [])) →
+is_near : (run : Run) (a : Air) (other : ℕ) (records : List (ℕ × AccessUnit)) (entry : ℕ × AccessUnit) → SoFar run a records →
+    IsJobInOrder run other (records ++ (entry ∷ [])) →
     is_far_from run a entry ≡ false
 is_near run a other records entry so job =
     let comes = job.in_order records [] entry refl in
     le-ltb run.terms.ahead (entry.1.dts - a.greatest) (omega (arith, comes.near, so.greatest))
 
 taken_stream : (d : Scheduled) (capacity slots : ℕ) (units : List (ℕ × AccessUnit)) (entry : ℕ × AccessUnit) (s : DescribedStream) →
-    unit_cause (owned_stream d entry.0 s) slots capacity (units_of entry.0 units) entry.1 ≡ None → feed_cause d capacity (job_history units slots) entry.0 entry.1 (Some s) ≡ None
+    unit_cause (owned_stream d entry.0 s) slots capacity (units_of entry.0 units) entry.1 ≡ None →
+    feed_cause d capacity (job_history units slots) entry.0 entry.1 (Some s) ≡ None
 unfolding feed_cause
 taken_stream d capacity slots units entry s none = none
 
 -- a unit is not refused
-none_refused : (run : Run) (a : Air) (other : ℕ) (records : List (ℕ × AccessUnit)) (entry : ℕ × AccessUnit) → SoFar run a records → IsJobInOrder run other (records ++ (entry ∷ [])) →
-    is_tick entry ≡ false → (first_refused run.scheduled other [] (without_ticks records) ≡ None) × (cause_after run.scheduled other (without_ticks records) entry ≡ None) →
+none_refused : (run : Run) (a : Air) (other : ℕ) (records : List (ℕ × AccessUnit)) (entry : ℕ × AccessUnit) → SoFar run a records →
+    IsJobInOrder run other (records ++ (entry ∷ [])) →
+    is_tick entry ≡ false →
+    (first_refused run.scheduled other [] (without_ticks records) ≡ None) × (cause_after run.scheduled other (without_ticks records) entry ≡ None) →
     air_cause run a entry ≡ None
 none_refused run a other records entry so job tick last =
     let d = run.scheduled in
@@ -187,7 +209,8 @@ none_refused run a other records entry so job tick last =
     let taken = taken_in_time l a.slots run.capacity other (units_of entry.0 units) entry.1 found.cause (omega (arith, written, rises)) room in
     let none = taken_stream run.scheduled run.capacity a.slots units entry found.stream taken in
     let unit : unit_refusal run a entry ≡ None =
-    ap (λ (us : List (ℕ × AccessUnit)). feed_cause run.scheduled run.capacity (job_history us a.slots) entry.0 entry.1 (slice_get run.scheduled.description.streams entry.0)) so.accepted
+    ap (λ (us : List (ℕ × AccessUnit)). feed_cause run.scheduled run.capacity (job_history us a.slots) entry.0 entry.1
+    (slice_get run.scheduled.description.streams entry.0)) so.accepted
     ∙ ap (λ (o : Option DescribedStream). feed_cause run.scheduled run.capacity (job_history units a.slots) entry.0 entry.1 o) found.is ∙ none in
     rw (near, tick, unit) refl
 
@@ -198,13 +221,16 @@ more_slots run a records entry so =
     ap (λ (n : ℕ). on_to n (settled_at run entry.1.dts)) so.slots ∙ more_settled run (greatest_of records) entry.1.dts
     ∙ ap (λ (g : ℕ). settled_at run g) (sym (greatest_more records entry))
 
-so_far_unit : (run : Run) (a : Air) (other : ℕ) (records : List (ℕ × AccessUnit)) (entry : ℕ × AccessUnit) → SoFar run a records → IsJobInOrder run other (records ++ (entry ∷ [])) →
+so_far_unit : (run : Run) (a : Air) (other : ℕ) (records : List (ℕ × AccessUnit)) (entry : ℕ × AccessUnit) → SoFar run a records →
+    IsJobInOrder run other (records ++ (entry ∷ [])) →
     is_tick entry ≡ false → SoFar run (aired run a entry) (records ++ (entry ∷ []))
 unfolding judged_by accepted_by slots_followed
 so_far_unit run a other records entry so job tick =
     let more = with_unit records entry tick in
-    let last = last_taken run.scheduled other [] (without_ticks records) entry (ap (λ (us : List (ℕ × AccessUnit)). first_refused run.scheduled other [] us) (sym more) ∙ job.accepted) in
-    subst (λ (o : Option AirRefusal). SoFar run (caught_up run (judged_by run a entry o) o) (records ++ (entry ∷ []))) (sym (none_refused run a other records entry so job tick last)) (record {
+    let last = last_taken run.scheduled other [] (without_ticks records) entry
+    (ap (λ (us : List (ℕ × AccessUnit)). first_refused run.scheduled other [] us) (sym more) ∙ job.accepted) in
+    subst (λ (o : Option AirRefusal). SoFar run (caught_up run (judged_by run a entry o) o) (records ++ (entry ∷ [])))
+    (sym (none_refused run a other records entry so job tick last)) (record {
       accepted = rw tick (ap (λ (l : List (ℕ × AccessUnit)). l ++ (entry ∷ [])) so.accepted ∙ sym more);
       greatest = ap (λ (g : ℕ). max g entry.1.dts) so.greatest ∙ sym (greatest_more records entry);
       slots = more_slots run a records entry so;
@@ -212,7 +238,8 @@ so_far_unit run a other records entry so job tick =
       kept = subst (AllKept run.scheduled) (sym more) (kept_more run.scheduled 0 other (without_ticks records) entry job.promises.ranges last.1 so.kept);
     })
 
-so_far_tick : (run : Run) (a : Air) (other : ℕ) (records : List (ℕ × AccessUnit)) (entry : ℕ × AccessUnit) → SoFar run a records → IsJobInOrder run other (records ++ (entry ∷ [])) →
+so_far_tick : (run : Run) (a : Air) (other : ℕ) (records : List (ℕ × AccessUnit)) (entry : ℕ × AccessUnit) → SoFar run a records →
+    IsJobInOrder run other (records ++ (entry ∷ [])) →
     is_tick entry ≡ true → SoFar run (aired run a entry) (records ++ (entry ∷ []))
 unfolding judged_by accepted_by slots_followed
 so_far_tick run a other records entry so job tick =
@@ -226,29 +253,34 @@ so_far_tick run a other records entry so job tick =
       kept = subst (AllKept run.scheduled) (sym same) so.kept;
     })
 
-so_far_more : (run : Run) (a : Air) (other : ℕ) (records : List (ℕ × AccessUnit)) (entry : ℕ × AccessUnit) (tick : Bool) → SoFar run a records → IsJobInOrder run other (records ++ (entry ∷ [])) →
+so_far_more : (run : Run) (a : Air) (other : ℕ) (records : List (ℕ × AccessUnit)) (entry : ℕ × AccessUnit) (tick : Bool) → SoFar run a records →
+    IsJobInOrder run other (records ++ (entry ∷ [])) →
     is_tick entry ≡ tick → SoFar run (aired run a entry) (records ++ (entry ∷ []))
 so_far_more run a other records entry true so job is = so_far_tick run a other records entry so job is
 so_far_more run a other records entry false so job is = so_far_unit run a other records entry so job is
 
 -- ---- all records
 
-shorter : (run : Run) (other : ℕ) (records : List (ℕ × AccessUnit)) (entry : ℕ × AccessUnit) → IsJobInOrder run other (records ++ (entry ∷ [])) → IsJobInOrder run other records
+shorter : (run : Run) (other : ℕ) (records : List (ℕ × AccessUnit)) (entry : ℕ × AccessUnit) → IsJobInOrder run other (records ++ (entry ∷ [])) →
+    IsJobInOrder run other records
 shorter run other records entry job = record {
   promises = job.promises;
   room = job.room;
   accepted = first_taken run.scheduled other [] (without_ticks records) (without_ticks (entry ∷ []))
-      (ap (λ (us : List (ℕ × AccessUnit)). first_refused run.scheduled other [] us) (sym (filter-append (λ e. not (is_tick e)) records (entry ∷ []))) ∙ job.accepted);
+      (ap (λ (us : List (ℕ × AccessUnit)). first_refused run.scheduled other [] us) (sym (filter-append (λ e. not (is_tick e)) records (entry ∷ [])))
+      ∙ job.accepted);
   in_order = λ before after e is.
       job.in_order before (after ++ (entry ∷ [])) e (ap (λ (l : List (ℕ × AccessUnit)). l ++ (entry ∷ [])) is ∙ append_assoc before (e ∷ after) (entry ∷ []));
 }
 
 so_far_with : (run : Run) (a : Air) (other : ℕ) (records : List (ℕ × AccessUnit)) (found : Result (Option (ℕ × AccessUnit)) UnitFileError) →
-    (IsJobInOrder run other records → SoFar run a records) → IsJobInOrder run other (with_entry found records) → SoFar run (with_record run found a) (with_entry found records)
+    (IsJobInOrder run other records → SoFar run a records) → IsJobInOrder run other (with_entry found records) →
+    SoFar run (with_record run found a) (with_entry found records)
 unfolding with_record with_entry
 so_far_with run a other records (Err fault) so job = so job
 so_far_with run a other records (Ok None) so job = so job
-so_far_with run a other records (Ok (Some entry)) so job = so_far_more run a other records entry (is_tick entry) (so (shorter run other records entry job)) job refl
+so_far_with run a other records (Ok (Some entry)) so job =
+    so_far_more run a other records entry (is_tick entry) (so (shorter run other records entry job)) job refl
 
 so_far_none : (run : Run) → SoFar run silence []
 so_far_none run =

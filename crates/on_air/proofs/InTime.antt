@@ -20,7 +20,8 @@ taken_in_time l slots capacity other us u accepted early room =
     let time = time_facts (is_late l 0 u) u.dts rest.0 in
     let lead = or_false (nat_lt u.dts l.parameters.lead) (nat_lt (release l.parameters.rate l.parameters.lead u.dts) 0) time.0 in
     let facts = room_facts l.parameters.allowance (is_full l 0 other us) (is_over l.parameters.allowance (map (timed l) us) (timed l u)) rest.1 in
-    let written : nat_lt (release l.parameters.rate l.parameters.lead u.dts) slots ≡ false = le-ltb (release l.parameters.rate l.parameters.lead u.dts) slots early in
+    let written : nat_lt (release l.parameters.rate l.parameters.lead u.dts) slots ≡ false =
+    le-ltb (release l.parameters.rate l.parameters.lead u.dts) slots early in
     let late : is_late l slots u ≡ false = rw (lead.0, written) refl in
     none_of _ _ _ own.0
     (ap (λ (b : Bool). time_cause b u.dts) (late ∙ sym time.0) ∙ rest.0)

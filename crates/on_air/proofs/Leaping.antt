@@ -8,31 +8,36 @@ use Rattle.on_air.specs.declared.leap.Leap.{Leap}
 use Rattle.on_air.specs.declared.refusals.AirRefusal.{AirRefusal}
 use Rattle.on_air.specs.declared.refusals.AirRefusal.TheVariants.{Feed, Ahead, Followed}
 use Rattle.on_air.specs.Leaps.{is_followed, is_near, leap_with, leap_records}
-use Rattle.on_air.specs.Airing.{Run, Air, is_tick, is_far_from, leap_by, leap_left, unit_refusal, air_cause, greatest_by, judged_by, aired, caught_up, on_to, settled_at, slots_followed}
+use Rattle.on_air.specs.Airing.{Run, Air, is_tick, is_far_from, leap_by, leap_left, unit_refusal, air_cause, greatest_by, judged_by, aired, caught_up, on_to}
+use Rattle.on_air.specs.Airing.{settled_at, slots_followed}
 use Rattle.on_air.specs.Laws.{NearEach, AllFar, LeapFollowed, LeapMovesOn}
 
 -- ---- one record that lies too far ahead
 
 -- too few records leap with it: they are counted
-counted : (run : Run) (a : Air) (entry : ℕ × AccessUnit) → is_far_from run a entry ≡ true → is_followed (leap_by run a entry) ≡ false → (aired run a entry).leap ≡ leap_by run a entry
+counted : (run : Run) (a : Air) (entry : ℕ × AccessUnit) → is_far_from run a entry ≡ true → is_followed (leap_by run a entry) ≡ false →
+    (aired run a entry).leap ≡ leap_by run a entry
 unfolding judged_by leap_left
 counted run a entry far few =
     let cause : air_cause run a entry ≡ Some Ahead = rw (far, few) refl in
     ap (λ (o : Option AirRefusal). (caught_up run (judged_by run a entry o) o).leap) cause
 
 -- enough records leap with it: the run follows them
-followed : (run : Run) (a : Air) (entry : ℕ × AccessUnit) → is_far_from run a entry ≡ true → is_followed (leap_by run a entry) ≡ true → (aired run a entry).greatest ≡ entry.1.dts
+followed : (run : Run) (a : Air) (entry : ℕ × AccessUnit) → is_far_from run a entry ≡ true → is_followed (leap_by run a entry) ≡ true →
+    (aired run a entry).greatest ≡ entry.1.dts
 unfolding judged_by greatest_by
 followed run a entry far many =
     let cause : air_cause run a entry ≡ Some (Followed a.slots a.greatest entry.1.dts) = rw (far, many) refl in
     ap (λ (o : Option AirRefusal). (caught_up run (judged_by run a entry o) o).greatest) cause
 
 -- the records of a leap that goes on with one that is near
-one_more : (ahead due : ℕ) (leap : Leap) → leap.records < leap_records → is_near ahead leap.due due ≡ true → (leap_with ahead leap due).records ≡ leap.records + 1
+one_more : (ahead due : ℕ) (leap : Leap) → leap.records < leap_records → is_near ahead leap.due due ≡ true → (leap_with ahead leap due).records ≡ leap.records
+    + 1
 one_more ahead due leap few near = rw (near, lt-ltb leap.records leap_records few) refl
 
 -- a leap that began has a record
-some_records : (ahead due : ℕ) (leap : Leap) (near more : Bool) → is_near ahead leap.due due ≡ near → nat_lt leap.records leap_records ≡ more → 1 ≤ (leap_with ahead leap due).records
+some_records : (ahead due : ℕ) (leap : Leap) (near more : Bool) → is_near ahead leap.due due ≡ near → nat_lt leap.records leap_records ≡ more →
+    1 ≤ (leap_with ahead leap due).records
 some_records ahead due leap false more near is = rw near (omega arith)
 some_records ahead due leap true true near is = rw (near, is) (omega arith)
 some_records ahead due leap true false near is = rw (near, is) (omega arith)
@@ -43,7 +48,8 @@ not_many leap less = leb-false leap_records leap.records less
 -- ---- records one after another
 
 -- after the one that the run follows, one that is near it is not too far ahead
-none_after : (run : Run) (b : Air) (due : ℕ) (rest : List (ℕ × AccessUnit)) → b.greatest ≡ due → NearEach run.terms.ahead due rest → AllFar run b rest → length rest ≡ 0
+none_after : (run : Run) (b : Air) (due : ℕ) (rest : List (ℕ × AccessUnit)) → b.greatest ≡ due → NearEach run.terms.ahead due rest → AllFar run b rest →
+    length rest ≡ 0
 unfolding NearEach AllFar
 none_after run b due [] at near all = refl
 none_after run b due (entry ∷ rest) at near all =
@@ -53,7 +59,8 @@ none_after run b due (entry ∷ rest) at near all =
     absurd (omega (arith, at, close, far))
 
 -- the records of a leap, and those after it
-more_records : (run : Run) (a : Air) (rest : List (ℕ × AccessUnit)) → a.leap.records < leap_records → NearEach run.terms.ahead a.leap.due rest → AllFar run a rest →
+more_records : (run : Run) (a : Air) (rest : List (ℕ × AccessUnit)) → a.leap.records < leap_records → NearEach run.terms.ahead a.leap.due rest →
+    AllFar run a rest →
     a.leap.records + length rest ≤ leap_records
 unfolding NearEach AllFar
 more_records run a [] few near all = omega (arith, few)
@@ -81,7 +88,8 @@ leap_followed run a first rest near all = elim (cases_Bool (is_followed (leap_by
       omega (arith, none)
   | inr less ↦
       let leap = counted run a first all.0 less in
-      let some = some_records run.terms.ahead first.1.dts a.leap (is_near run.terms.ahead a.leap.due first.1.dts) (nat_lt a.leap.records leap_records) refl refl in
+      let some = some_records run.terms.ahead first.1.dts a.leap (is_near run.terms.ahead a.leap.due first.1.dts) (nat_lt a.leap.records leap_records) refl
+      refl in
       let count = ap (λ (l : Leap). l.records) leap in
       let due : (aired run a first).leap.due ≡ first.1.dts = ap (λ (l : Leap). l.due) leap in
       let below = not_many (leap_by run a first) less in
@@ -111,14 +119,16 @@ told_by false many false (Some cause) slots greatest due packet from to e = absu
 pub told_of : (run : Run) (a : Air) (entry : ℕ × AccessUnit) (packet from to : ℕ) → air_cause run a entry ≡ Some (Followed packet from to) →
     Told (is_far_from run a entry) (is_followed (leap_by run a entry)) a.slots a.greatest entry.1.dts packet from to
 told_of run a entry packet from to e =
-    told_by (is_far_from run a entry) (is_followed (leap_by run a entry)) (is_tick entry) (unit_refusal run a entry) a.slots a.greatest entry.1.dts packet from to e
+    told_by (is_far_from run a entry) (is_followed (leap_by run a entry)) (is_tick entry) (unit_refusal run a entry) a.slots a.greatest entry.1.dts packet from
+    to e
 
 pub leap_moves_on : LeapMovesOn
 unfolding judged_by greatest_by slots_followed
 leap_moves_on run a entry packet from to e =
     let told = told_of run a entry packet from to e in
     let greatest : (aired run a entry).greatest ≡ to = ap (λ (o : Option AirRefusal). (caught_up run (judged_by run a entry o) o).greatest) e in
-    let slots : (aired run a entry).slots ≡ on_to a.slots (settled_at run to) = ap (λ (o : Option AirRefusal). (caught_up run (judged_by run a entry o) o).slots) e in
+    let slots : (aired run a entry).slots ≡ on_to a.slots (settled_at run to) =
+    ap (λ (o : Option AirRefusal). (caught_up run (judged_by run a entry o) o).slots) e in
     record {
       packet_is = told.packet_is;
       from_is = told.from_is;

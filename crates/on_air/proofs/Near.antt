@@ -1,5 +1,6 @@
 -- After any input, a record that is near is refused for nothing but itself and the units of its stream.
-use Rattle.std.proofs.Common.{◌≡◌, ℕ, zero, suc, ◌+◌, ◌-◌, ◌≤◌, max, Bool, true, false, List, [], ◌∷◌, length, Option, Some, None, Result, Ok, Err, refl, ap, sym, ◌∙◌, subst, cond, arith, All}
+use Rattle.std.proofs.Common.{◌≡◌, ℕ, zero, suc, ◌+◌, ◌-◌, ◌≤◌, max, Bool, true, false, List, [], ◌∷◌, length, Option, Some, None, Result, Ok, Err, refl, ap}
+use Rattle.std.proofs.Common.{sym, ◌∙◌, subst, cond, arith, All}
 use Rattle.std.specs.Prelude.{⊤, ◌==◌, ◌^◌, map, nat_lt, option_map, slice_get, if◌then◌else◌}
 use Rattle.std.proofs.lemmas.Bool.{le-ltb, ltb-true}
 use Rattle.std.proofs.lemmas.List.Elements.{All-append, All-cons, All-nil, All-weaker}
@@ -13,7 +14,8 @@ use Rattle.unit_timing.specs.Levels.{is_over}
 use Rattle.unit_timing.specs.declared.allowance.Allowance.{Allowance}
 use Rattle.unit_timing.specs.declared.allowance.Allowance.TheVariants.{Groups, Pace as ByPace}
 use Rattle.unit_queue.specs.OwnedStreams.{OwnedStream, timed}
-use Rattle.unit_queue.specs.Causes.{unit_cause, or_cause, own_cause, time_cause, room_cause, packets_cause, over_cause, is_bad_pts, is_late, is_full, min_next_dts_of}
+use Rattle.unit_queue.specs.Causes.{unit_cause, or_cause, own_cause, time_cause, room_cause, packets_cause, over_cause, is_bad_pts, is_late, is_full}
+use Rattle.unit_queue.specs.Causes.{min_next_dts_of}
 use Rattle.unit_queue.specs.declared.refusal.FeedError.{FeedError}
 use Rattle.unit_queue.specs.declared.refusal.FeedError.TheVariants.{Empty, TooLarge, TooSoon, BadPts, TooFar}
 use Rattle.unit_records.specs.Records.{record_at}
@@ -24,7 +26,8 @@ use Rattle.mux_core.specs.MuxStates.{feed_cause}
 use Rattle.mux_core.specs.WholeJobs.{job_history}
 use Rattle.on_air.specs.declared.refusals.AirRefusal.{AirRefusal}
 use Rattle.on_air.specs.declared.refusals.AirRefusal.TheVariants.{Feed, Ahead, Followed}
-use Rattle.on_air.specs.Airing.{Run, Air, silence, lead_of, needed_room, settled_at, is_tick, is_far_from, far_cause, unit_refusal, air_cause, accepted_by, greatest_by, judged_by, caught_up, slots_followed, with_record, heard}
+use Rattle.on_air.specs.Airing.{Run, Air, silence, lead_of, needed_room, settled_at, is_tick, is_far_from, far_cause, unit_refusal, air_cause, accepted_by}
+use Rattle.on_air.specs.Airing.{greatest_by, judged_by, caught_up, slots_followed, with_record, heard}
 use Rattle.on_air.specs.AirStates.{Promises}
 use Rattle.on_air.specs.Laws.{ComesNear, IsJudgedAlone, IsOwnCause, NearIsJudgedAlone}
 use Rattle.on_air.proofs.AsMultiplexed.{more_settled, none_taken, release_rises}
@@ -45,25 +48,29 @@ later : (g h : ℕ) (units : List (ℕ × AccessUnit)) → g ≤ h → All (λ e
 later g h units le all = All-weaker (λ e. e.1.dts ≤ g) (λ e. e.1.dts ≤ h) (λ e few. omega (arith, le, few)) units all
 
 -- a unit that is accepted
-fed_none : (far tick : Bool) (cause : AirRefusal) (refused : Option FeedError) → cond far (Some cause) (cond tick None (option_map Feed refused)) ≡ None → tick ≡ false → refused ≡ None
+fed_none : (far tick : Bool) (cause : AirRefusal) (refused : Option FeedError) → cond far (Some cause) (cond tick None (option_map Feed refused)) ≡ None →
+    tick ≡ false → refused ≡ None
 fed_none true tick cause refused e unit = absurd cc
 fed_none false true cause refused e unit = absurd cc
 fed_none false false cause None e unit = refl
 fed_none false false cause (Some c) e unit = absurd cc
 
-taken_units : (run : Run) (a : Air) (entry : ℕ × AccessUnit) (tick : Bool) → is_tick entry ≡ tick → IsInRange run.scheduled.description → air_cause run a entry ≡ None → Steady run a →
+taken_units : (run : Run) (a : Air) (entry : ℕ × AccessUnit) (tick : Bool) → is_tick entry ≡ tick → IsInRange run.scheduled.description →
+    air_cause run a entry ≡ None → Steady run a →
     All (λ e. e.1.dts ≤ max a.greatest entry.1.dts) (accepted_by a entry None) × AllKept run.scheduled (accepted_by a entry None)
 unfolding accepted_by
 taken_units run a entry true is ranges none so = rw is (later a.greatest (max a.greatest entry.1.dts) a.accepted (omega arith) so.within, so.kept)
 taken_units run a entry false is ranges none so =
     let fed = fed_none (is_far_from run a entry) (is_tick entry) (far_cause run a entry) (unit_refusal run a entry) none is in
     rw is (
-      All-append (λ e. e.1.dts ≤ max a.greatest entry.1.dts) a.accepted (entry ∷ []) (later a.greatest (max a.greatest entry.1.dts) a.accepted (omega arith) so.within)
+      All-append (λ e. e.1.dts ≤ max a.greatest entry.1.dts) a.accepted (entry ∷ [])
+          (later a.greatest (max a.greatest entry.1.dts) a.accepted (omega arith) so.within)
           (All-cons (λ e. e.1.dts ≤ max a.greatest entry.1.dts) entry [] (omega arith) (All-nil (λ e. e.1.dts ≤ max a.greatest entry.1.dts))),
       kept_more run.scheduled a.slots run.capacity a.accepted entry ranges fed so.kept,
     )
 
-steady_by : (run : Run) (a : Air) (entry : ℕ × AccessUnit) (cause : Option AirRefusal) → IsInRange run.scheduled.description → air_cause run a entry ≡ cause → Steady run a →
+steady_by : (run : Run) (a : Air) (entry : ℕ × AccessUnit) (cause : Option AirRefusal) → IsInRange run.scheduled.description → air_cause run a entry ≡ cause →
+    Steady run a →
     Steady run (caught_up run (judged_by run a entry cause) cause)
 unfolding judged_by slots_followed greatest_by
 steady_by run a entry None ranges is so =
@@ -86,7 +93,8 @@ steady_by run a entry (Some (Followed packet from to)) ranges is so =
       kept = so.kept;
     }
 
-steady_with : (run : Run) (a : Air) (found : Result (Option (ℕ × AccessUnit)) UnitFileError) → IsInRange run.scheduled.description → Steady run a → Steady run (with_record run found a)
+steady_with : (run : Run) (a : Air) (found : Result (Option (ℕ × AccessUnit)) UnitFileError) → IsInRange run.scheduled.description → Steady run a →
+    Steady run (with_record run found a)
 unfolding with_record
 steady_with run a (Err fault) ranges so = so
 steady_with run a (Ok None) ranges so = so
@@ -108,7 +116,8 @@ unfolding or_cause
 own_or None b own other = other
 own_or (Some cause) b own other = own
 
-own_four : (empty large soon bad : Bool) → IsOwn (if empty then Some Empty else (if large then Some TooLarge else (if soon then Some TooSoon else (if bad then Some BadPts else None))))
+own_four : (empty large soon bad : Bool) →
+    IsOwn (if empty then Some Empty else (if large then Some TooLarge else (if soon then Some TooSoon else (if bad then Some BadPts else None))))
 own_four true large soon bad = tt
 own_four false true soon bad = tt
 own_four false false true bad = tt
@@ -146,13 +155,15 @@ own_unit l slots capacity us u late full =
     let room : IsOwn (room_cause (is_full l slots capacity us) over) =
     subst (λ (b : Bool). IsOwn (room_cause b over)) (sym full)
     (own_room over (own_packets l.parameters.allowance (is_over l.parameters.allowance (map (timed l) us) (timed l u)))) in
-    own_or (own_cause l.parameters.size l.parameters.pts_limit (min_next_dts_of l us) u) (or_cause (time_cause (is_late l slots u) u.dts) (room_cause (is_full l slots capacity us) over))
+    own_or (own_cause l.parameters.size l.parameters.pts_limit (min_next_dts_of l us) u)
+    (or_cause (time_cause (is_late l slots u) u.dts) (room_cause (is_full l slots capacity us) over))
     (own_itself l.parameters.size l.parameters.pts_limit (min_next_dts_of l us) u)
     (own_or (time_cause (is_late l slots u) u.dts) (room_cause (is_full l slots capacity us) over) time room)
 
 -- ---- a record that is near
 
-own_stream : (run : Run) (a : Air) (entry : ℕ × AccessUnit) (o : Option DescribedStream) → slice_get run.scheduled.description.streams entry.0 ≡ o → Promises run.scheduled →
+own_stream : (run : Run) (a : Air) (entry : ℕ × AccessUnit) (o : Option DescribedStream) → slice_get run.scheduled.description.streams entry.0 ≡ o →
+    Promises run.scheduled →
     needed_room (lead_of run) run.scheduled.description.streams ≤ run.capacity → ComesNear run a entry → Steady run a →
     IsOwn (feed_cause run.scheduled run.capacity (job_history a.accepted a.slots) entry.0 entry.1 o)
 unfolding feed_cause

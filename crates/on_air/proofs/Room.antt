@@ -40,7 +40,8 @@ joined own rate lead r n free prev unit units =
     let b = first_own_slot own rate lead free unit in
     let p = packets_of_unit unit in
     let xs = take p (drop b slots) in
-    pes_left-append rate r prev (cut unit.front unit.size xs) (packets_in_slots own rate lead (b + p) units slots) ∙ rw (slots_of-cut unit.front unit.size xs) refl
+    pes_left-append rate r prev (cut unit.front unit.size xs) (packets_in_slots own rate lead (b + p) units slots)
+    ∙ rw (slots_of-cut unit.front unit.size xs) refl
 
 -- a unit that is not sent whole is not due
 unfinished : (own : ℕ → Bool) (rate lead r n free prev : ℕ) (unit : PesPacket) (units : List PesPacket) → 1 ≤ unit.size →
@@ -78,7 +79,8 @@ waiting_few l r n lead last interval some begins (u ∷ us) free number prev fro
     let begin : first_slot l free u ≡ first_own_slot own rate l.parameters.lead free unit = unfold first_slot in refl in
     elim (cases_lt (own_before own n) (end_slot l free u)) [
       | inl stop ↦
-          let after : u.dts + interval + length us * interval ≤ last + interval = few l interval (u.dts + interval) last us spaced.1 rest (omega (arith, first)) in
+          let after : u.dts + interval + length us * interval ≤ last + interval =
+          few l interval (u.dts + interval) last us spaced.1 rest (omega (arith, first)) in
           let late : n * 135360000 < u.dts * rate = elim (cases_lt (n * 135360000) (u.dts * rate)) [
             | inl late ↦ late
             | inr due ↦ absurd (unfinished own rate l.parameters.lead r n free prev unit units (omega (arith, text_some l u)) (rw begin at stop) (left.0 due).0)
@@ -95,6 +97,7 @@ waiting_few l r n lead last interval some begins (u ∷ us) free number prev fro
           (rw begin
           (rw (
             joined own rate l.parameters.lead r n free prev unit units,
-            after_unit own rate l.parameters.lead r n (first_own_slot own rate l.parameters.lead free unit) (packets_of_unit unit) unit.front unit.size prev _ units (omega arith),
+            after_unit own rate l.parameters.lead r n (first_own_slot own rate l.parameters.lead free unit) (packets_of_unit unit) unit.front unit.size prev _
+                units (omega arith),
           ) at left.1)))
     ]

@@ -21,7 +21,8 @@ way_begins h old hex start now packets n same stands holds =
     subst (λ (k : ℕ). OnWay h old old hex k start now packets) (sym same)
     (record { written = record { stands = stands; same_schedule = refl; holds = holds }; capacity = refl })
 
-pub way_goes_on : (h : History) (old mid new : MuxState) (hex phex : Bool) (n : ℕ) (start now later : Option (List ℕ)) (packets after : Buffered) (packet : List ℕ) →
+pub way_goes_on : (h : History) (old mid new : MuxState) (hex phex : Bool) (n : ℕ) (start now later : Option (List ℕ)) (packets after : Buffered)
+    (packet : List ℕ) →
     OnWay h old mid hex n start now packets → phex ≡ hex → Gives (at_slot h n) mid (Ok packet) new →
     IsOutput start later after (run_output hex (content_at old.schedule h.units) 0 n ++ formatted phex packet) → OnWay h old new hex (n + 1) start later after
 way_goes_on h old mid new hex phex n start now later packets after packet w same gives holds = record {
@@ -42,7 +43,8 @@ pub way_ends : (run : Run) (h : History) (old mid : MuxState) (hex : Bool) (n ta
     WroteOn run (with_slots h (on_to h.slots target)) hex start now mid packets
 way_ends run h old mid hex n target start now packets c w is same =
     let whole : run_output hex (content_at old.schedule h.units) 0 n ≡ output_of hex run.scheduled (with_slots h (on_to h.slots target)) =
-    ap (λ (k : ℕ). run_output hex (content_at old.schedule h.units) 0 k) is ∙ ap (λ (d : Scheduled). output_of hex d (with_slots h (on_to h.slots target))) c.scheduled in
+    ap (λ (k : ℕ). run_output hex (content_at old.schedule h.units) 0 k) is ∙ ap (λ (d : Scheduled). output_of hex d (with_slots h (on_to h.slots target)))
+    c.scheduled in
     record {
       mux = record {
         stands = subst (λ (k : ℕ). Stands (at_slot h k) mid) is w.written.stands;
@@ -54,7 +56,8 @@ way_ends run h old mid hex n target start now packets c w is same =
     }
 
 -- the writer failed
-pub way_failed : (run : Run) (h : History) (old mid new : MuxState) (hex phex : Bool) (n target sent : ℕ) (start now later : Option (List ℕ)) (packets : Buffered) (packet : List ℕ) →
+pub way_failed : (run : Run) (h : History) (old mid new : MuxState) (hex phex : Bool) (n target sent : ℕ) (start now later : Option (List ℕ))
+    (packets : Buffered) (packet : List ℕ) →
     Carries run h old → OnWay h old mid hex n start now packets → n < on_to h.slots target → phex ≡ hex → Gives (at_slot h n) mid (Ok packet) new →
     Took start later sent (run_output hex (content_at old.schedule h.units) 0 n ++ formatted phex packet) →
     Took start later sent (output_of hex run.scheduled (with_slots h (on_to h.slots target)))

@@ -1,5 +1,6 @@
 -- The rule of a run without end: which records are taken, and which slots are written after each of them and at the end.
-use Rattle.std.specs.Prelude.{ℕ, zero, suc, ◌+◌, ◌-◌, ◌^◌, ◌==◌, ◌&&◌, min, max, Bool, cond, if◌then◌else◌, List, [], ◌∷◌, ◌++◌, length, slice_get, fold, Option, Some, None, option_map, Result, Ok, Err}
+use Rattle.std.specs.Prelude.{ℕ, zero, suc, ◌+◌, ◌-◌, ◌^◌, ◌==◌, ◌&&◌, min, max, Bool, cond, if◌then◌else◌, List, [], ◌∷◌, ◌++◌, length, slice_get, fold}
+use Rattle.std.specs.Prelude.{Option, Some, None, option_map, Result, Ok, Err}
 use Rattle.std.specs.Int.{div_ceil}
 use Rattle.clock27.specs.Release.{release}
 use Rattle.pes_packet.specs.AccessUnits.{AccessUnit}

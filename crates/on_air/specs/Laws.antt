@@ -14,7 +14,8 @@ use Rattle.mux_core.specs.WholeJobs.{job_history, output_of, first_refused}
 use Rattle.on_air.specs.declared.refusals.AirRefusal.{AirRefusal}
 use Rattle.on_air.specs.declared.refusals.AirRefusal.TheVariants.{Feed, Ahead, Followed}
 use Rattle.on_air.specs.Leaps.{is_near, leap_records}
-use Rattle.on_air.specs.Airing.{Run, Air, greatest_lead, is_tick, is_far_from, lead_of, limit_of, last_at, needed_room, settled_at, on_to, air_cause, aired, heard, ended, air_output}
+use Rattle.on_air.specs.Airing.{Run, Air, greatest_lead, is_tick, is_far_from, lead_of, limit_of, last_at, needed_room, settled_at, on_to, air_cause, aired}
+use Rattle.on_air.specs.Airing.{heard, ended, air_output}
 use Rattle.on_air.specs.AirStates.{Promises}
 
 -- a unit that a stream accepts before the first slot is accepted too where no slot from its release on is written, and there is room for it

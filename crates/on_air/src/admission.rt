@@ -17,7 +17,8 @@ fn is_tick<A: Allocator>(stream: u8, unit: &Unit<A>) -> bool
     stream == 255 && unit.bytes.is_empty()
 }
 
-/// Feeds the unit of a record that is not too far ahead to its stream, and returns why it is refused. A tick is not fed.
+/// Feeds the unit of a record that is not too far ahead to its stream, and returns why it is refused. A tick is not
+/// fed.
 pub(crate) fn admit<A: Allocator>(mux: &mut Mux<A>, stream: u8, unit: Unit<A>) -> Option<FeedError>
     ensures { (run : Run) (a : Air) → Carries run (job_of a) mux.old → Promises run.scheduled →
         is_far_from run a (stream, unit) ≡ false → Admits run a (stream, unit) (option_map Feed result) mux.new }

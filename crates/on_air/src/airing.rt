@@ -25,8 +25,8 @@ use std::alloc::{Allocator, Global};
 use std::marker::Model;
 use unit_records::read_unit;
 
-/// A run without end. It takes its memory when it is made; a record takes memory for its unit's bytes, until the unit is
-/// sent.
+/// A run without end. It takes its memory when it is made; a record takes memory for its unit's bytes, until the unit
+/// is sent.
 #[derive(Drop)]
 pub struct OnAir<A: Allocator = Global> {
     pub(crate) mux: Mux<A>,
@@ -57,8 +57,8 @@ impl<A: Allocator> Model for OnAir<A> {
 }
 
 impl<A: Allocator + Copy> OnAir<A> {
-    /// Lets out what waits, unless the next record is whole in the bytes that the input holds, so that no read of it may
-    /// wait.
+    /// Lets out what waits, unless the next record is whole in the bytes that the input holds, so that no read of it
+    /// may wait.
     pub fn let_out<R: HeldInput, W: Sink>(
         &mut self,
         input: &R,

@@ -30,8 +30,8 @@ pub fn leap_moves_on()
     ensures { LeapMovesOn }
 {}
 
-/// States that, after any input, a record that is near the greatest DTS so far is refused for nothing but itself and the
-/// units of its stream: neither for its time nor for the room.
+/// States that, after any input, a record that is near the greatest DTS so far is refused for nothing but itself and
+/// the units of its stream: neither for its time nor for the room.
 pub fn near_is_judged_alone()
     ensures { NearIsJudgedAlone }
 {}

@@ -15,7 +15,8 @@ pub struct Leap {
     pub(crate) due: u64,
 }
 
-/// Returns whether a record that is due at `due` lies more than `ahead` after the greatest DTS so far, in units of 90 kHz.
+/// Returns whether a record that is due at `due` lies more than `ahead` after the greatest DTS so far, in units of 90
+/// kHz.
 pub(crate) fn is_far(ahead: u64, greatest: u64, due: u64) -> bool
     ensures { result ≡ is_far ahead greatest due }
 {

@@ -2,13 +2,13 @@
 //! change them, in constant memory.
 //!
 //! `specs/Airing` is the rule: which units are accepted, and which slots are written after each record and at the end.
-//! `specs/AirStates` says what an `OnAir` represents, and what may wait to be written, `specs/Hearing` what one record, and
-//! records up to a reported record, leave, and `specs/Laws` that records in order are all taken, and aired as a whole
-//! job is multiplexed.
+//! `specs/AirStates` says what an `OnAir` represents, and what may wait to be written, `specs/Hearing` what one record,
+//! and records up to a reported record, leave, and `specs/Laws` that records in order are all taken, and aired as a
+//! whole job is multiplexed.
 //!
 //! The modules in reading order: the terms of a run, why a record is refused, what a call answers, the rooms and leads
-//! of a description, a leap of the stamps, the slots that are settled, whether a read may wait, a unit judged and fed, the run and its calls, how
-//! it begins; the laws.
+//! of a description, a leap of the stamps, the slots that are settled, whether a read may wait, a unit judged and fed,
+//! the run and its calls, how it begins; the laws.
 #![tactic(auto)]
 
 mod admission;

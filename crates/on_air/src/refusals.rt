@@ -12,8 +12,8 @@ pub enum AirRefusal {
     Feed(FeedError),
     /// Its DTS lies further after the greatest so far than the terms allow.
     Ahead,
-    /// The same, and seven records before it in a row were refused for it, each near the record before it: the run follows
-    /// them. `packet` slots were written before it, and time goes on from the DTS `from` to its own, `to`.
+    /// The same, and seven records before it in a row were refused for it, each near the record before it: the run
+    /// follows them. `packet` slots were written before it, and time goes on from the DTS `from` to its own, `to`.
     Followed { packet: u64, from: u64, to: u64 },
 }
 

@@ -1,5 +1,6 @@
 -- The values of a list, taken one after another.
-use Rattle.std.proofs.Common.{◌≡◌, ◌∙◌, ◌<◌, ◌≤◌, ◌+◌, ℕ, List, [], ◌∷◌, ◌++◌, length, map, drop, slice_index_or, Option, None, Some, ap, sym, refl, add-one, append_assoc, append-nil}
+use Rattle.std.proofs.Common.{◌≡◌, ◌∙◌, ◌<◌, ◌≤◌, ◌+◌, ℕ, List, [], ◌∷◌, ◌++◌, length, map, drop, slice_index_or, Option, None, Some, ap, sym, refl, add-one}
+use Rattle.std.proofs.Common.{append_assoc, append-nil}
 use Rattle.std.proofs.Math.Seq.{drop-cons}
 use Rattle.std.proofs.lemmas.List.{drop_all}
 use Rattle.std.specs.Prelude.{option_map}
@@ -44,4 +45,5 @@ none_left taken = ap Some (append-nil taken)
 
 pub all_taken : {A B T : Type 0} (f : A → Option T) (v : B → A) (taken : List T) (ts : List B) (i : ℕ) (whole : Option (List T)) →
     length ts ≤ i → with_rest f v taken ts i ≡ whole → Some taken ≡ whole
-all_taken {B = B} f v taken ts i whole h w = sym (none_left taken) ∙ ap (λ (xs : List B). option_map (λ rest. taken ++ rest) (all_of (map f (map v xs)))) (sym (drop_all i ts h)) ∙ w
+all_taken {B = B} f v taken ts i whole h w =
+    sym (none_left taken) ∙ ap (λ (xs : List B). option_map (λ rest. taken ++ rest) (all_of (map f (map v xs)))) (sym (drop_all i ts h)) ∙ w

@@ -1,5 +1,6 @@
 -- Counts of sections by PID, from the last finding to the first, and the PIDs on which a table is found.
-use Rattle.std.proofs.Common.{◌≡◌, ◌≢◌, ℕ, ◌+◌, ◌<◌, ◌≤◌, ◌==◌, ◌&&◌, ◌||◌, zero, suc, cond, append-nil, true, false, Bool, is_some, List, [], ◌∷◌, ◌++◌, length, map, drop, get_or, Option, None, Some, refl, sym, ap, ◌∙◌, arith, inl, inr}
+use Rattle.std.proofs.Common.{◌≡◌, ◌≢◌, ℕ, ◌+◌, ◌<◌, ◌≤◌, ◌==◌, ◌&&◌, ◌||◌, zero, suc, cond, append-nil, true, false, Bool, is_some, List, [], ◌∷◌, ◌++◌}
+use Rattle.std.proofs.Common.{length, map, drop, get_or, Option, None, Some, refl, sym, ap, ◌∙◌, arith, inl, inr}
 use Rattle.std.specs.Prelude.{slice_set, slice_index, slice_index_or, replicate}
 use Rattle.std.proofs.lemmas.Bool.{eq-eqb, ne_eqb, cases_eq}
 use Rattle.std.proofs.lemmas.List.{drop_more, drop_all, length-set, get_or-set_same, get_or-set_other, get_or-replicate, length-replicate}
@@ -80,8 +81,10 @@ count_before : {X : Type 0} (view : X → FindingView) (i j : ℕ) (fs : List X)
 unfolding section_count
 count_before view i j fs f pid next inside at = rw (before view i j fs f next inside at) refl
 
-counted_some : {X : Type 0} (view : X → FindingView) (counts : List ℕ) (i j : ℕ) (fs : List X) (f : X) (other : ℕ) → i ≡ j + 1 → j < length fs → f ≡ get_or fs j f →
-    Some other ≡ table_pid (view f) → other < 65_536 → CountsFrom view counts i fs → CountsFrom view (slice_set counts other (slice_index counts other + 1)) j fs
+counted_some : {X : Type 0} (view : X → FindingView) (counts : List ℕ) (i j : ℕ) (fs : List X) (f : X) (other : ℕ) → i ≡ j + 1 → j < length fs →
+    f ≡ get_or fs j f →
+    Some other ≡ table_pid (view f) → other < 65_536 → CountsFrom view counts i fs →
+    CountsFrom view (slice_set counts other (slice_index counts other + 1)) j fs
 counted_some view counts i j fs f other next inside at is fits c = record {
   size = length-set counts _ _ ∙ c.size;
   each = λ pid below.
@@ -93,7 +96,8 @@ counted_some view counts i j fs f other next inside at is fits c = record {
             ∙ get_or-set_same counts other (slice_index counts other + 1) 0 (omega (arith, c.size, fits)) in
             let known = c.each other fits in
             let one = of_pid pid (view f) other is e in
-            let same : section_count pid (map view (drop i fs)) ≡ section_count other (map view (drop i fs)) = ap (λ (n : ℕ). section_count n (map view (drop i fs))) e in
+            let same : section_count pid (map view (drop i fs)) ≡ section_count other (map view (drop i fs)) =
+            ap (λ (n : ℕ). section_count n (map view (drop i fs))) e in
             (omega (arith, here, known.0, parts, one, same), omega (arith, here, known.1, next))
         | inr ne ↦
             let here : slice_index (slice_set counts other (slice_index counts other + 1)) pid ≡ slice_index counts pid =
@@ -115,7 +119,8 @@ uncounted view counts i j fs f next inside at is c = record {
       (omega (arith, known.0, parts, none), omega (arith, known.1, next));
 }
 
-counted_by : {X : Type 0} (view : X → FindingView) (counts : List ℕ) (i j : ℕ) (fs : List X) (f : X) (p : Option ℕ) → i ≡ j + 1 → j < length fs → f ≡ get_or fs j f →
+counted_by : {X : Type 0} (view : X → FindingView) (counts : List ℕ) (i j : ℕ) (fs : List X) (f : X) (p : Option ℕ) → i ≡ j + 1 → j < length fs →
+    f ≡ get_or fs j f →
     p ≡ table_pid (view f) → ((pid : ℕ) → p ≡ Some pid → pid < 65_536) → CountsFrom view counts i fs → CountsFrom view (counted_on counts p) j fs
 unfolding counted_on
 counted_by view counts i j fs f None next inside at is fits c = uncounted view counts i j fs f next inside at is c
@@ -125,7 +130,8 @@ pub counted : {X : Type 0} (view : X → FindingView) (counts : List ℕ) (i j :
     ((pid : ℕ) → table_pid (view f) ≡ Some pid → pid < 65_536) → CountsFrom view counts i fs → CountsFrom view (counted_with counts (view f)) j fs
 counted view counts i j fs f next inside at fits c = counted_by view counts i j fs f (table_pid (view f)) next inside at refl fits c
 
-pub all_counted : {X : Type 0} (view : X → FindingView) (counts : List ℕ) (i : ℕ) (fs : List X) → i ≡ 0 → CountsFrom view counts i fs → AreCounts counts (map view fs)
+pub all_counted : {X : Type 0} (view : X → FindingView) (counts : List ℕ) (i : ℕ) (fs : List X) → i ≡ 0 → CountsFrom view counts i fs →
+    AreCounts counts (map view fs)
 all_counted view counts zero fs e c = record { size = c.size; each = λ pid below. (c.each pid below).0 }
 all_counted view counts (suc i) fs e c = absurd cc
 
@@ -172,7 +178,8 @@ same_seen seen found s = record { size = s.size; each = λ pid below. s.each pid
 
 on_pid : (counts : List ℕ) (seen : List Bool) (all : List FindingView) (found : List OtherTable) (kind : TableKind) (p : ℕ) (b : Bool) →
     is_found found p ≡ b → p < 65_536 → AreCounts counts all → AreSeen seen found →
-    (table_of counts seen (Some kind) (Some p) ≡ table_on all found (Some kind) (Some p)) × AreSeen (slice_set seen p true) (found ++ table_on all found (Some kind) (Some p))
+    (table_of counts seen (Some kind) (Some p) ≡ table_on all found (Some kind) (Some p)) × AreSeen (slice_set seen p true)
+    (found ++ table_on all found (Some kind) (Some p))
 unfolding table_of table_on
 on_pid counts seen all found kind p true e below c s =
     rw (s.each p below, e) (refl, seen_more seen found [] p below s (same_found found p ∙ e) (λ pid ne. same_found found pid))

@@ -1,5 +1,6 @@
 -- Sections of a PID, finding by finding.
-use Rattle.std.proofs.Common.{◌≡◌, ◌≤◌, ◌<◌, ℕ, ◌+◌, ◌-◌, ◌&&◌, ◌||◌, max, Bool, true, false, List, [], ◌∷◌, ◌++◌, length, map, take, drop, get_or, Option, Some, None, refl, sym, ap, add-one, arith}
+use Rattle.std.proofs.Common.{◌≡◌, ◌≤◌, ◌<◌, ℕ, ◌+◌, ◌-◌, ◌&&◌, ◌||◌, max, Bool, true, false, List, [], ◌∷◌, ◌++◌, length, map, take, drop, get_or, Option}
+use Rattle.std.proofs.Common.{Some, None, refl, sym, ap, add-one, arith}
 use Rattle.std.specs.Prelude.{not}
 use Rattle.std.specs.List.{list_any, list_all}
 use Rattle.std.specs.Str.{bytes_eq}
@@ -8,19 +9,23 @@ use Rattle.std.proofs.lemmas.Grind.{common_steps}
 use Rattle.std.proofs.Math.Seq.{drop-cons}
 use Rattle.std.proofs.lemmas.List.{drop_all}
 use Rattle.demux.specs.Views.{FindingView}
-use Rattle.other_tables.specs.SteadySections.{PidSection, section_view, section_on, sections_on, with_new, distinct_sections, distance_from, greatest_gap, widest_gap, is_same_section, none_changes}
+use Rattle.other_tables.specs.SteadySections.{PidSection, section_view, section_on, sections_on, with_new, distinct_sections, distance_from, greatest_gap}
+use Rattle.other_tables.specs.SteadySections.{widest_gap, is_same_section, none_changes}
 use Rattle.other_tables.specs.declared.steady.FoundSection.{FoundSection}
 
-next : {X Y : Type 0} (view : X → Y) (i : ℕ) (xs : List X) (x : X) → i < length xs → x ≡ get_or xs i x → map view (drop i xs) ≡ view x ∷ map view (drop (i + 1) xs)
+next : {X Y : Type 0} (view : X → Y) (i : ℕ) (xs : List X) (x : X) → i < length xs → x ≡ get_or xs i x →
+    map view (drop i xs) ≡ view x ∷ map view (drop (i + 1) xs)
 next view i xs x below at = rw (drop-cons xs i x below, add-one i, sym at) refl
 
-pub sections_more : {X : Type 0} (view : X → FindingView) (count pid i : ℕ) (fs : List X) (f : X) (found one after : List PidSection) → i < length fs → f ≡ get_or fs i f →
+pub sections_more : {X : Type 0} (view : X → FindingView) (count pid i : ℕ) (fs : List X) (f : X) (found one after : List PidSection) → i < length fs →
+    f ≡ get_or fs i f →
     section_on count pid (view f) ≡ Some one → after ≡ found ++ one →
     sections_on count pid found (map view (drop i fs)) ≡ sections_on count pid after (map view (drop (i + 1) fs))
 unfolding sections_on
 sections_more view count pid i fs f found one after below at is made = rw (next view i fs f below at, is, made) refl
 
-pub sections_none : {X : Type 0} (view : X → FindingView) (count pid i : ℕ) (fs : List X) (f : X) (found : List PidSection) → i < length fs → f ≡ get_or fs i f →
+pub sections_none : {X : Type 0} (view : X → FindingView) (count pid i : ℕ) (fs : List X) (f : X) (found : List PidSection) → i < length fs →
+    f ≡ get_or fs i f →
     section_on count pid (view f) ≡ None → sections_on count pid found (map view (drop i fs)) ≡ None
 unfolding sections_on
 sections_none view count pid i fs f found below at is = rw (next view i fs f below at, is) refl
@@ -39,7 +44,8 @@ all_view view test [] = refl
 all_view view test (x ∷ xs) = ap (λ (b : Bool). test (view x) && b) (all_view view test xs)
 
 -- each once
-pub new_more : (i : ℕ) (ss : List FoundSection) (s : FoundSection) (known after : List PidSection) → i < length ss → s ≡ get_or ss i s → after ≡ with_new known (section_view s) →
+pub new_more : (i : ℕ) (ss : List FoundSection) (s : FoundSection) (known after : List PidSection) → i < length ss → s ≡ get_or ss i s →
+    after ≡ with_new known (section_view s) →
     distinct_sections known (map section_view (drop i ss)) ≡ distinct_sections after (map section_view (drop (i + 1) ss))
 unfolding distinct_sections
 new_more i ss s known after below at made = rw (next section_view i ss s below at, made) refl
@@ -52,19 +58,23 @@ new_end i ss known over = rw (drop_all i ss over) refl
 max_moved : (gap d rest : ℕ) → max gap (max d rest) ≡ max (max d gap) rest
 max_moved gap d rest = grind (arith, nat_tests)
 
-pub gap_own : (bytes : List ℕ) (i : ℕ) (ss : List FoundSection) (s : FoundSection) (gap gap_then : ℕ) (last : Option ℕ) → i < length ss → s ≡ get_or ss i s → bytes_eq bytes s.bytes.now ≡ true →
+pub gap_own : (bytes : List ℕ) (i : ℕ) (ss : List FoundSection) (s : FoundSection) (gap gap_then : ℕ) (last : Option ℕ) → i < length ss → s ≡ get_or ss i s →
+    bytes_eq bytes s.bytes.now ≡ true →
     gap_then ≡ max (distance_from last s.begun) gap →
     max gap (greatest_gap bytes last (map section_view (drop i ss))) ≡ max gap_then (greatest_gap bytes (Some s.begun) (map section_view (drop (i + 1) ss)))
 unfolding greatest_gap
 gap_own bytes i ss s gap gap_then last below at own made =
-    rw (next section_view i ss s below at, own, made) (max_moved gap (distance_from last s.begun) (greatest_gap bytes (Some s.begun) (map section_view (drop (i + 1) ss))))
+    rw (next section_view i ss s below at, own, made)
+    (max_moved gap (distance_from last s.begun) (greatest_gap bytes (Some s.begun) (map section_view (drop (i + 1) ss))))
 
-pub gap_other : (bytes : List ℕ) (i : ℕ) (ss : List FoundSection) (s : FoundSection) (gap : ℕ) (last : Option ℕ) → i < length ss → s ≡ get_or ss i s → bytes_eq bytes s.bytes.now ≡ false →
+pub gap_other : (bytes : List ℕ) (i : ℕ) (ss : List FoundSection) (s : FoundSection) (gap : ℕ) (last : Option ℕ) → i < length ss → s ≡ get_or ss i s →
+    bytes_eq bytes s.bytes.now ≡ false →
     max gap (greatest_gap bytes last (map section_view (drop i ss))) ≡ max gap (greatest_gap bytes last (map section_view (drop (i + 1) ss)))
 unfolding greatest_gap
 gap_other bytes i ss s gap last below at other = rw (next section_view i ss s below at, other) refl
 
-pub gap_end : (bytes : List ℕ) (i : ℕ) (ss : List FoundSection) (gap : ℕ) (last : Option ℕ) → length ss ≤ i → max gap (greatest_gap bytes last (map section_view (drop i ss))) ≡ gap
+pub gap_end : (bytes : List ℕ) (i : ℕ) (ss : List FoundSection) (gap : ℕ) (last : Option ℕ) → length ss ≤ i →
+    max gap (greatest_gap bytes last (map section_view (drop i ss))) ≡ gap
 unfolding greatest_gap
 gap_end bytes i ss gap last over = rw (drop_all i ss over) (grind (arith, nat_tests))
 
@@ -76,7 +86,8 @@ unfolding widest_gap
 widest_more all i ks k widest widest_then below at made =
     rw (next section_view i ks k below at, made) (max_moved widest (greatest_gap k.bytes.now None all) (widest_gap all (map section_view (drop (i + 1) ks))))
 
-pub widest_end : (all : List PidSection) (i : ℕ) (ks : List FoundSection) (widest : ℕ) → length ks ≤ i → max widest (widest_gap all (map section_view (drop i ks))) ≡ widest
+pub widest_end : (all : List PidSection) (i : ℕ) (ks : List FoundSection) (widest : ℕ) → length ks ≤ i →
+    max widest (widest_gap all (map section_view (drop i ks))) ≡ widest
 unfolding widest_gap
 widest_end all i ks widest over = rw (drop_all i ks over) (grind (arith, nat_tests))
 

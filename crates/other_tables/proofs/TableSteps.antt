@@ -6,10 +6,12 @@ use Rattle.demux.specs.Views.{FindingView}
 use Rattle.other_tables.specs.OtherTables.{table_at, tables_from}
 use Rattle.other_tables.specs.declared.tables.OtherTable.{OtherTable}
 
-next : {X : Type 0} (view : X → FindingView) (i : ℕ) (fs : List X) (f : X) → i < length fs → f ≡ get_or fs i f → map view (drop i fs) ≡ view f ∷ map view (drop (i + 1) fs)
+next : {X : Type 0} (view : X → FindingView) (i : ℕ) (fs : List X) (f : X) → i < length fs → f ≡ get_or fs i f →
+    map view (drop i fs) ≡ view f ∷ map view (drop (i + 1) fs)
 next view i fs f below at = rw (drop-cons fs i f below, add-one i, sym at) refl
 
-pub tables_more : {X : Type 0} (view : X → FindingView) (all : List FindingView) (i : ℕ) (fs : List X) (f : X) (found after : List OtherTable) → i < length fs → f ≡ get_or fs i f →
+pub tables_more : {X : Type 0} (view : X → FindingView) (all : List FindingView) (i : ℕ) (fs : List X) (f : X) (found after : List OtherTable) → i < length fs →
+    f ≡ get_or fs i f →
     after ≡ found ++ table_at all found (view f) → tables_from all found (map view (drop i fs)) ≡ tables_from all after (map view (drop (i + 1) fs))
 unfolding tables_from
 tables_more view all i fs f found after below at made = rw (next view i fs f below at, made) refl

@@ -1,5 +1,6 @@
 -- What is kept for each PID while the findings are gone through.
-use Rattle.std.specs.Prelude.{◌≡◌, ◌<◌, ℕ, ◌+◌, Bool, true, false, is_some, if◌then◌else◌, List, [], ◌∷◌, length, slice_index, slice_index_or, slice_set, Option, Some, None}
+use Rattle.std.specs.Prelude.{◌≡◌, ◌<◌, ℕ, ◌+◌, Bool, true, false, is_some, if◌then◌else◌, List, [], ◌∷◌, length, slice_index, slice_index_or, slice_set}
+use Rattle.std.specs.Prelude.{Option, Some, None}
 use Rattle.demux.specs.Views.{FindingView}
 use Rattle.other_tables.specs.declared.kinds.TableKind.{TableKind}
 use Rattle.other_tables.specs.declared.tables.OtherTable.{OtherTable}

@@ -1,7 +1,8 @@
 -- What table a section is of, by its table_id (ISO/IEC 13818-1, table 2-31; EN 300 468, table 2).
 use Rattle.std.specs.Prelude.{ℕ, ◌==◌, ◌&&◌, ◌||◌, nat_le, Bool, true, false, if◌then◌else◌, Option, None, Some}
 use Rattle.other_tables.specs.declared.kinds.TableKind.{TableKind}
-use Rattle.other_tables.specs.declared.kinds.TableKind.TheVariants.{ConditionalAccess, Objects, Network, Services, Events, Time, Running, Applications, Splices, Private}
+use Rattle.other_tables.specs.declared.kinds.TableKind.TheVariants.{ConditionalAccess, Objects, Network, Services, Events, Time, Running, Applications, Splices}
+use Rattle.other_tables.specs.declared.kinds.TableKind.TheVariants.{Private}
 
 abbrev pub is_between : ℕ → ℕ → ℕ → Bool
 is_between low high id = nat_le low id && nat_le id high
@@ -14,7 +15,8 @@ kind_in_range id =
     else (if is_between 0x4F 0x6F id then Events
     else (if is_between 0x80 0x8F id then ConditionalAccess else Private)))
 
--- none for PAT, PMT, the NIT of the actual network, the SDT and the present and following events of this stream, and the TDT, of which a job is made, and for stuffing
+-- none for PAT, PMT, the NIT of the actual network, the SDT and the present and following events of this stream, and the TDT, of which a job is made, and for
+-- stuffing
 unfoldable pub kind_of : ℕ → Option TableKind
 kind_of id =
     if id == 0x00 || id == 0x02 || id == 0x40 || id == 0x42 || id == 0x4E || id == 0x70 || id == 0x72 then None

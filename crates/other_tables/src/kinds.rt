@@ -66,8 +66,8 @@ fn kind_in_range(table_id: u8) -> TableKind
 }
 
 impl TableKind {
-    /// Returns whether a viewer loses anything without such a table: not with a table of conditional access, since no scrambled
-    /// stream is carried.
+    /// Returns whether a viewer loses anything without such a table: not with a table of conditional access, since no
+    /// scrambled stream is carried.
     #[tactic(auto, unfolding(crate::specs::TableKinds::is_loss))]
     pub fn is_loss(self) -> bool
         ensures { result ≡ spec.is_loss self }

@@ -47,8 +47,8 @@ fn begun_at(finding: &Finding<'_>) -> u64
     }
 }
 
-// What a finding adds to the sections of its PID, in a stream of `count` whole packets; none where that is no PID of whole
-// sections alone.
+// What a finding adds to the sections of its PID, in a stream of `count` whole packets; none where that is no PID of
+// whole sections alone.
 #[tactic(auto, unfolding(crate::specs::SteadySections::section_by))]
 fn section_at<'f>(count: u64, finding: &'f Finding<'_>) -> Option<Option<FoundSection<'f>>>
     ensures { option_map (λ one. map spec.section_view (option_to_list one)) result
@@ -306,8 +306,8 @@ fn steady_if(
     }))
 }
 
-/// Returns the sections of a PID in a stream of `count` whole packets, if nothing but whole sections is found on it, at most 8,
-/// each of which comes again with the same bytes.
+/// Returns the sections of a PID in a stream of `count` whole packets, if nothing but whole sections is found on it, at
+/// most 8, each of which comes again with the same bytes.
 #[tactic(auto, unfolding(crate::specs::SteadySections::steady_sections))]
 pub fn steady_sections(
     alloc: Global,

@@ -82,7 +82,8 @@ own_before_front f (suc s) = rw (own_before_front f s) (omega arith)
 
 -- ---- windows
 
-pub windows_serve : (own : ℕ → Bool) (P : ℕ → ℕ) (m g : ℕ) → Enumerates own P → ((i : ℕ) → P (i + m) ≤ P i + g) → (0 < m → P (m - 1) < g) → AtLeastPerWindow own g m
+pub windows_serve : (own : ℕ → Bool) (P : ℕ → ℕ) (m g : ℕ) → Enumerates own P → ((i : ℕ) → P (i + m) ≤ P i + g) → (0 < m → P (m - 1) < g) →
+    AtLeastPerWindow own g m
 windows_serve own P m g en near first s = elim (cases_lt 0 m) [
   | inl pos ↦ elim (cases_lt 0 (own_before own s)) [
     | inl some ↦ from_before pos some

@@ -61,7 +61,8 @@ gap_walk_law marks k pos = le_antisymm
     each s lt y =
         let i : ℕ = own_before (own marks) s in
         let few : i < per_period marks = omega (arith, own_before_lt (own marks) s (length marks) y lt, own_before_period marks) in
-        let near : position marks (i + k) - position marks i ≤ gap marks k = at_most_greatest (per_period marks) (λ j. position marks (j + k) - position marks j) i few in
+        let near : position marks (i + k) - position marks i ≤ gap marks k =
+        at_most_greatest (per_period marks) (λ j. position marks (j + k) - position marks j) i few in
         omega (arith, ahead_own marks k s y, near, (positions_law marks pos).found s y)
 
 -- one slot more of the walk
@@ -71,4 +72,6 @@ pub gap_more : (marks : List Bool) (k s : ℕ) → own marks s ≡ true →
 gap_more marks k s y = greatest_more s (ahead marks k) ∙ ap (max (greatest s (ahead marks k))) (ahead_own marks k s y)
 
 pub gap_same : (marks : List Bool) (k s : ℕ) → own marks s ≡ false → greatest (s + 1) (ahead marks k) ≡ greatest s (ahead marks k)
-gap_same marks k s n = greatest_more s (ahead marks k) ∙ ap (max (greatest s (ahead marks k))) (cond-false (own marks s) (position marks (own_before (own marks) s + k) - s) 0 n) ∙ omega arith
+gap_same marks k s n =
+    greatest_more s (ahead marks k) ∙ ap (max (greatest s (ahead marks k))) (cond-false (own marks s) (position marks (own_before (own marks) s + k) - s) 0 n)
+    ∙ omega arith

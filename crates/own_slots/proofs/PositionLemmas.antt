@@ -35,7 +35,14 @@ place_at (true ∷ marks) b zero lt = record { q = 0; within = omega arith; plac
 place_at (true ∷ marks) b (suc i) lt = let r : Placed marks (suc b) i = place_at marks (suc b) i (omega arith) in
     record { q = suc r.q; within = omega (arith, r.within); place = r.place ∙ omega arith; is_marked = r.is_marked; number = counted_true marks r.q i r.number }
 place_at (false ∷ marks) b i lt = let r : Placed marks (suc b) i = place_at marks (suc b) i lt in
-    record { q = suc r.q; within = omega (arith, r.within); place = r.place ∙ omega arith; is_marked = r.is_marked; number = counted_false marks r.q i r.number }
+    record {
+      q = suc r.q;
+      within = omega (arith, r.within);
+      place = r.place ∙ omega arith;
+      is_marked = r.is_marked;
+      number =
+          counted_false marks r.q i r.number;
+    }
 
 counted_all : (marks : List Bool) (b : ℕ) → own_before (marked marks) (length marks) ≡ length (places b marks)
 unfolding places own_before
@@ -88,7 +95,8 @@ own_before_turns marks s (suc y) =
 own_turns : (marks : List Bool) (q y : ℕ) → q < length marks → own marks (q + y * length marks) ≡ marked marks q
 own_turns marks q y lt = let e : (q + y * length marks) % length marks ≡ q = add-mul-mod_self_right q y (length marks) ∙ mod-eq_of_lt lt in rw e refl
 
-pub position_at : (marks : List Bool) (i : ℕ) → 0 < per_period marks → (own marks (position marks i) ≡ true) × (own_before (own marks) (position marks i) ≡ i) × (position marks (i % per_period marks) < length marks)
+pub position_at : (marks : List Bool) (i : ℕ) → 0 < per_period marks →
+    (own marks (position marks i) ≡ true) × (own_before (own marks) (position marks i) ≡ i) × (position marks (i % per_period marks) < length marks)
 position_at marks i pos =
     let r : Placed marks 0 (i % per_period marks) = place_at marks 0 (i % per_period marks) (mod_below i (per_period marks) pos) in
     let e : position marks i ≡ r.q + i / per_period marks * length marks = ap (λ n. n + i / per_period marks * length marks) (r.place ∙ omega arith) in
@@ -109,7 +117,8 @@ pub positions_law : PositionsLaw
 positions_law marks pos = record {
   is_own = λ i. (position_at marks i pos).0;
   counted = λ i. (position_at marks i pos).1;
-  found = λ s y. same_number (own marks) (position marks (own_before (own marks) s)) s ((position_at marks (own_before (own marks) s) pos).0) y ((position_at marks (own_before (own marks) s) pos).1);
+  found = λ s y. same_number (own marks) (position marks (own_before (own marks) s)) s ((position_at marks (own_before (own marks) s) pos).0) y
+      ((position_at marks (own_before (own marks) s) pos).1);
 }
 
 -- ---- positions, one by one
@@ -122,10 +131,17 @@ pub position_turns : (marks : List Bool) (i y : ℕ) → 0 < per_period marks �
 position_turns marks i y pos = same_number (own marks) (position marks (i + y * per_period marks)) (position marks i + y * length marks)
     ((position_at marks (i + y * per_period marks) pos).0)
     (rw (add-mul-mod_self_right (position marks i) y (length marks)) ((position_at marks i pos).0))
-    ((position_at marks (i + y * per_period marks) pos).1 ∙ sym (own_before_turns marks (position marks i) y ∙ ap (λ n. n + y * per_period marks) ((position_at marks i pos).1)))
+    ((position_at marks (i + y * per_period marks) pos).1
+    ∙ sym (own_before_turns marks (position marks i) y ∙ ap (λ n. n + y * per_period marks) ((position_at marks i pos).1)))
 
 pub position_le : (marks : List Bool) (i j : ℕ) → 0 < per_period marks → i ≤ j → position marks i ≤ position marks j
 position_le marks i j pos le = elim (cases_lt (position marks j) (position marks i)) [
-  | inl k ↦ absurd (omega (arith, (position_at marks i pos).1, (position_at marks j pos).1, own_before_lt (own marks) (position marks j) (position marks i) ((position_at marks j pos).0) k))
+  | inl k ↦ absurd
+      (omega (
+        arith,
+        (position_at marks i pos).1,
+        (position_at marks j pos).1,
+        own_before_lt (own marks) (position marks j) (position marks i) ((position_at marks j pos).0) k,
+      ))
   | inr k ↦ k
 ]

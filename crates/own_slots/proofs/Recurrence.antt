@@ -19,8 +19,20 @@ record Next (k place a : ℕ) : Type 0 where
 -- among k numbers in a row one is the place
 next_place : (k place a : ℕ) → place < k → Next k place a
 next_place k place a lt = elim (cases_lt place (a % k)) [
-  | inl past ↦ record { number = (a / k + 1) * k + place; from = omega (arith, split, small); near = omega (arith, split, small, past); is_place = mod-mul-add (a / k + 1) k place lt }
-  | inr here ↦ record { number = a / k * k + place; from = omega (arith, split, here); near = omega (arith, split, small); is_place = mod-mul-add (a / k) k place lt }
+  | inl past ↦ record {
+    number = (a / k + 1) * k + place;
+    from = omega (arith, split, small);
+    near = omega (arith, split, small, past);
+    is_place =
+        mod-mul-add (a / k + 1) k place lt;
+  }
+  | inr here ↦ record {
+    number = a / k * k + place;
+    from = omega (arith, split, here);
+    near = omega (arith, split, small);
+    is_place =
+        mod-mul-add (a / k) k place lt;
+  }
 ]
   where
     split : a / k * k + a % k ≡ a
@@ -30,14 +42,19 @@ next_place k place a lt = elim (cases_lt place (a % k)) [
     small = mod_below a k (omega arith)
 
 is_start : (own : ℕ → Bool) (k place s n : ℕ) → own s ≡ true → own_before own s ≡ n → n % k ≡ place → starts own k place s ≡ true
-is_start own k place s n y e p = cond-true (own s) (eqb (own_before own s % k) place) false y ∙ eq-eqb (own_before own s % k) place (ap (λ (v : ℕ). v % k) e ∙ p)
+is_start own k place s n y e p = cond-true (own s) (eqb (own_before own s % k) place) false y
+    ∙ eq-eqb (own_before own s % k) place (ap (λ (v : ℕ). v % k) e ∙ p)
 
 pub round_law : RoundLaw
 round_law own k place g lt serves s =
     let n : Next k place (own_before own s) = next_place k place (own_before own s) lt in
     let r : Numbered own n.number (s + g) = number_of own (s + g) n.number (omega (arith, serves s, n.near)) in
     let after : s ≤ r.slot = from s r.slot r.is_own (omega (arith, r.number, n.from)) in
-    omega (arith, own_before_lt (starts own k place) r.slot (s + g) (is_start own k place r.slot n.number r.is_own r.number n.is_place) r.before, own_before_le (starts own k place) s r.slot after)
+    omega (
+      arith,
+      own_before_lt (starts own k place) r.slot (s + g) (is_start own k place r.slot n.number r.is_own r.number n.is_place) r.before,
+      own_before_le (starts own k place) s r.slot after,
+    )
   where
     from : (s t : ℕ) → own t ≡ true → own_before own s ≤ own_before own t → s ≤ t
     from s t y le = elim (cases_lt t s) [ inl k ↦ absurd (omega (arith, own_before_lt own t s y k)) | inr k ↦ k ]
@@ -70,4 +87,5 @@ pub pcr_law : PcrLaw
 pcr_law own g rate limit slots serves fast = recurrence_law own g 10 rate limit slots serves (omega arith) fast
 
 pub table_law : TableLaw
-table_law own k place g rate limit slots lt serves fast = simp add-zero at (recurrence_law (starts own k place) g 0 rate limit slots (round_law own k place g lt serves) (omega arith) fast)
+table_law own k place g rate limit slots lt serves fast =
+    simp add-zero at (recurrence_law (starts own k place) g 0 rate limit slots (round_law own k place g lt serves) (omega arith) fast)

@@ -1,5 +1,6 @@
 -- Spread of own slots: from one period to a pace over all time, and to the two extremes of one walk.
-use Rattle.std.proofs.Common.{false, max, min, ◌≡◌, ℕ, ◌+◌, ◌-◌, ◌*◌, ◌/◌, ◌%◌, ◌<◌, ◌≤◌, ◌⊎◌, Bool, true, cond, List, length, ap, sym, ◌∙◌, inl, inr, arith, le_antisymm}
+use Rattle.std.proofs.Common.{false, max, min, ◌≡◌, ℕ, ◌+◌, ◌-◌, ◌*◌, ◌/◌, ◌%◌, ◌<◌, ◌≤◌, ◌⊎◌, Bool, true, cond, List, length, ap, sym, ◌∙◌, inl, inr, arith}
+use Rattle.std.proofs.Common.{le_antisymm}
 use Rattle.std.proofs.Math.Nat.{mod-add-div', mul-le-mul_left, mul-le-mul_right}
 use Rattle.std.proofs.lemmas.Nat.{mod_below, le-div}
 use Rattle.std.proofs.lemmas.Bool.{cases_Bool, cases_lt, cond-true, cond-false}
@@ -7,7 +8,8 @@ use Rattle.own_slots.specs.Slots.{own_before}
 use Rattle.own_slots.specs.Period.{own, per_period, position}
 use Rattle.own_slots.specs.Extremes.{greatest, least}
 use Rattle.own_slots.specs.Spread.{spread, raised, highest, lowest, most_within, SpreadWalkLaw, PaceLaw, ShareLaw}
-use Rattle.own_slots.proofs.Extremes.{at_most_greatest, greatest_at_most, greatest_reached, least_at_most, least_reached, greatest_none, greatest_more, least_more, least_none, least_below, Reached}
+use Rattle.own_slots.proofs.Extremes.{at_most_greatest, greatest_at_most, greatest_reached, least_at_most, least_reached, greatest_none, greatest_more}
+use Rattle.own_slots.proofs.Extremes.{least_more, least_none, least_below, Reached}
 use Rattle.own_slots.proofs.Counts.{own_before_lt, before_from, windows_serve}
 use Rattle.own_slots.proofs.PositionLemmas.{per_period_le, own_before_period, positions_law, position_below, position_turns}
 
@@ -28,7 +30,8 @@ spreads_all marks a pos le i j =
     let sj : t + z * c ≡ j = mod-add-div' j c in
     let row : greatest c (λ v. (c * position marks r + v * length marks) - (c * position marks v + r * length marks)) ≤ spread marks =
     at_most_greatest c (λ u. greatest c (λ v. (c * position marks u + v * length marks) - (c * position marks v + u * length marks))) r (mod_below i c pos) in
-    let near : (c * position marks r + t * length marks) - (c * position marks t + r * length marks) ≤ greatest c (λ v. (c * position marks r + v * length marks) - (c * position marks v + r * length marks)) =
+    let near : (c * position marks r + t * length marks) - (c * position marks t + r * length marks) ≤ greatest c
+    (λ v. (c * position marks r + v * length marks) - (c * position marks v + r * length marks)) =
     at_most_greatest c (λ v. (c * position marks r + v * length marks) - (c * position marks v + r * length marks)) t (mod_below j c pos) in
     let pi : position marks i ≡ position marks r + y * length marks = ap (position marks) (sym si) ∙ position_turns marks r y pos in
     let pj : position marks j ≡ position marks t + z * length marks = ap (position marks) (sym sj) ∙ position_turns marks t z pos in
@@ -49,11 +52,14 @@ first_arith : (c d n a m e w p q : ℕ) → d + 1 ≡ c → e + 1 ≡ m → c * 
 first_arith c d n a m e w p q ed em h last k far =
     omega (arith, h, k, mul-le-mul_left c last, mul-le-mul_left c far, ap (λ (v : ℕ). v * n) ed, ap (λ (v : ℕ). v * n) em)
 
-pub rate_first : (marks : List Bool) (a : ℕ) → 0 < per_period marks → spread marks ≤ a → (m w : ℕ) → a + m * length marks < per_period marks * (w + 1) → 0 < m → position marks (m - 1) < w
+pub rate_first : (marks : List Bool) (a : ℕ) → 0 < per_period marks → spread marks ≤ a → (m w : ℕ) → a + m * length marks < per_period marks * (w + 1) → 0 < m →
+    position marks (m - 1) < w
 rate_first marks a pos le m w k some = elim (cases_lt (position marks (m - 1)) w) [
   | inl near ↦ near
-  | inr far ↦ absurd (first_arith (per_period marks) (per_period marks - 1) (length marks) a m (m - 1) w (position marks (per_period marks - 1)) (position marks (m - 1))
-      (omega arith) (omega arith) (spreads_all marks a pos le (m - 1) (per_period marks - 1)) (position_below marks (per_period marks - 1) pos (omega arith)) k far)
+  | inr far ↦ absurd
+      (first_arith (per_period marks) (per_period marks - 1) (length marks) a m (m - 1) w (position marks (per_period marks - 1)) (position marks (m - 1))
+      (omega arith) (omega arith) (spreads_all marks a pos le (m - 1) (per_period marks - 1)) (position_below marks (per_period marks - 1) pos (omega arith)) k
+      far)
 ]
 
 pub rate_law : PaceLaw
@@ -85,7 +91,8 @@ share_law marks a w pos le some s = elim (cases_lt (own_before (own marks) s + m
     few over =
         let i : ℕ = own_before (own marks) s in
         let here : s ≤ position marks i = from (position marks i) ((positions_law marks pos).counted i) ((positions_law marks pos).is_own i) in
-        let there : position marks (i + most) < s + w = before_from (own marks) (position marks (i + most)) (s + w) (omega (arith, (positions_law marks pos).counted (i + most), over)) in
+        let there : position marks (i + most) < s + w =
+        before_from (own marks) (position marks (i + most)) (s + w) (omega (arith, (positions_law marks pos).counted (i + most), over)) in
         share_arith (per_period marks) (length marks) a w most (position marks i) (position marks (i + most)) s i (omega (arith, per_period_le marks)) some
         (spreads_all marks a pos le i (i + most)) here there
 
@@ -105,15 +112,20 @@ top marks = 2 * per_period marks * length marks
 abbrev low_at : List Bool → ℕ → ℕ
 low_at marks t = cond (own marks t) (raised (per_period marks) (length marks) t (own_before (own marks) t)) (top marks)
 
-level_at : (marks : List Bool) (t : ℕ) → 0 < per_period marks → own marks t ≡ true → raised (per_period marks) (length marks) t (own_before (own marks) t) ≡ level marks (own_before (own marks) t)
+level_at : (marks : List Bool) (t : ℕ) → 0 < per_period marks → own marks t ≡ true →
+    raised (per_period marks) (length marks) t (own_before (own marks) t) ≡ level marks (own_before (own marks) t)
 level_at marks t pos y = ap (λ (s : ℕ). raised (per_period marks) (length marks) s (own_before (own marks) t)) (sym ((positions_law marks pos).found t y))
 
 high_position : (marks : List Bool) (i : ℕ) → 0 < per_period marks → high_at marks (position marks i) ≡ level marks i
-high_position marks i pos = cond-true (own marks (position marks i)) (raised (per_period marks) (length marks) (position marks i) (own_before (own marks) (position marks i))) 0 ((positions_law marks pos).is_own i)
+high_position marks i pos =
+    cond-true (own marks (position marks i)) (raised (per_period marks) (length marks) (position marks i) (own_before (own marks) (position marks i))) 0
+    ((positions_law marks pos).is_own i)
     ∙ ap (raised (per_period marks) (length marks) (position marks i)) ((positions_law marks pos).counted i)
 
 low_position : (marks : List Bool) (i : ℕ) → 0 < per_period marks → low_at marks (position marks i) ≡ level marks i
-low_position marks i pos = cond-true (own marks (position marks i)) (raised (per_period marks) (length marks) (position marks i) (own_before (own marks) (position marks i))) (top marks) ((positions_law marks pos).is_own i)
+low_position marks i pos =
+    cond-true (own marks (position marks i)) (raised (per_period marks) (length marks) (position marks i) (own_before (own marks) (position marks i)))
+    (top marks) ((positions_law marks pos).is_own i)
     ∙ ap (raised (per_period marks) (length marks) (position marks i)) ((positions_law marks pos).counted i)
 
 -- the difference of a pair is the difference of its raised places
@@ -121,7 +133,8 @@ pair_arith : (c n p q i j : ℕ) → i ≤ c → j ≤ c → (c * p + j * n) - (
 pair_arith c n p q i j hi hj = raise c n p q i j (c - i) (c - j) (omega arith) (omega arith)
   where
     raise : (c n p q i j u v : ℕ) → u + i ≡ c → v + j ≡ c → (c * p + j * n) - (c * q + i * n) ≡ (c * p + u * n) - (c * q + v * n)
-    raise c n p q i j u v e f = let e' : (u + i) * n ≡ c * n = ap (λ (t : ℕ). t * n) e in let f' : (v + j) * n ≡ c * n = ap (λ (t : ℕ). t * n) f in omega (arith, e', f')
+    raise c n p q i j u v e f = let e' : (u + i) * n ≡ c * n = ap (λ (t : ℕ). t * n) e in let f' : (v + j) * n ≡ c * n = ap (λ (t : ℕ). t * n) f in
+        omega (arith, e', f')
 
 abbrev pair : List Bool → ℕ → ℕ → ℕ
 pair marks i j = (per_period marks * position marks i + j * length marks) - (per_period marks * position marks j + i * length marks)
@@ -131,7 +144,11 @@ pair_levels marks i j hi hj = pair_arith (per_period marks) (length marks) (posi
 
 pair_spread : (marks : List Bool) (i j : ℕ) → i < per_period marks → j < per_period marks → pair marks i j ≤ spread marks
 pair_spread marks i j hi hj =
-    omega (arith, at_most_greatest (per_period marks) (λ v. pair marks i v) j hj, at_most_greatest (per_period marks) (λ u. greatest (per_period marks) (λ v. pair marks u v)) i hi)
+    omega (
+      arith,
+      at_most_greatest (per_period marks) (λ v. pair marks i v) j hj,
+      at_most_greatest (per_period marks) (λ u. greatest (per_period marks) (λ v. pair marks u v)) i hi,
+    )
 
 level_top : (c n p i : ℕ) → p < n → c * p + (c - i) * n ≤ 2 * c * n
 level_top c n p i lt = omega (arith, mul-le-mul_left c lt, mul-le-mul_right n (less c i))
@@ -142,7 +159,8 @@ level_top c n p i lt = omega (arith, mul-le-mul_left c lt, mul-le-mul_right n (l
 pub spread_walk_law : SpreadWalkLaw
 spread_walk_law marks pos = le_antisymm
     (walked (greatest_reached n (high_at marks) (omega (arith, per_period_le marks))) (least_reached (top marks) n (low_at marks)))
-    (greatest_at_most c (λ i. greatest c (λ j. pair marks i j)) (highest marks n - lowest marks n) (λ i hi. greatest_at_most c (λ j. pair marks i j) (highest marks n - lowest marks n) (λ j hj. within i j hi hj)))
+    (greatest_at_most c (λ i. greatest c (λ j. pair marks i j)) (highest marks n - lowest marks n)
+    (λ i hi. greatest_at_most c (λ j. pair marks i j) (highest marks n - lowest marks n) (λ j hj. within i j hi hj)))
   where
     n : ℕ
     n = length marks
@@ -171,7 +189,11 @@ spread_walk_law marks pos = le_antisymm
 
     high_below : (t : ℕ) → t < length marks → high_at marks t ≤ top marks
     high_below t lt = elim (cases_Bool (own marks t)) [
-      | inl y ↦ omega (arith, cond-true (own marks t) (raised (per_period marks) (length marks) t (own_before (own marks) t)) 0 y, level_top (per_period marks) (length marks) t (own_before (own marks) t) lt)
+      | inl y ↦ omega (
+        arith,
+        cond-true (own marks t) (raised (per_period marks) (length marks) t (own_before (own marks) t)) 0 y,
+        level_top (per_period marks) (length marks) t (own_before (own marks) t) lt,
+      )
       | inr e ↦ omega (arith, cond-false (own marks t) (raised (per_period marks) (length marks) t (own_before (own marks) t)) 0 e)
     ]
 
@@ -188,28 +210,39 @@ spread_walk_law marks pos = le_antisymm
     ends t u ht hu = elim (cases_Bool (own marks t)) [
       | inl yt ↦ elim (cases_Bool (own marks u)) [
         | inl yu ↦ both t u ht hu yt yu
-        | inr nu ↦ omega (arith, high_below t ht, cond-false (own marks u) (raised (per_period marks) (length marks) u (own_before (own marks) u)) (top marks) nu)
+        | inr nu ↦ omega
+            (arith, high_below t ht, cond-false (own marks u) (raised (per_period marks) (length marks) u (own_before (own marks) u)) (top marks) nu)
       ]
       | inr nt ↦ omega (arith, cond-false (own marks t) (raised (per_period marks) (length marks) t (own_before (own marks) t)) 0 nt)
     ]
 
-    walked : Reached n (high_at marks) (highest marks n) → (lowest marks n ≡ top marks) ⊎ Reached n (low_at marks) (lowest marks n) → highest marks n - lowest marks n ≤ spread marks
+    walked : Reached n (high_at marks) (highest marks n) → (lowest marks n ≡ top marks) ⊎ Reached n (low_at marks) (lowest marks n) →
+        highest marks n - lowest marks n ≤ spread marks
     walked h (inl e) = omega (arith, e, h.same, high_below h.at h.below)
     walked h (inr l) = omega (arith, h.same, l.same, ends h.at l.at h.below l.below)
 
 -- one slot more of the walk
 
-pub highest_more : (marks : List Bool) (s : ℕ) → own marks s ≡ true → highest marks (s + 1) ≡ max (highest marks s) (raised (per_period marks) (length marks) s (own_before (own marks) s))
-highest_more marks s y = greatest_more s (high_at marks) ∙ ap (max (highest marks s)) (cond-true (own marks s) (raised (per_period marks) (length marks) s (own_before (own marks) s)) 0 y)
+pub highest_more : (marks : List Bool) (s : ℕ) → own marks s ≡ true →
+    highest marks (s + 1) ≡ max (highest marks s) (raised (per_period marks) (length marks) s (own_before (own marks) s))
+highest_more marks s y =
+    greatest_more s (high_at marks)
+    ∙ ap (max (highest marks s)) (cond-true (own marks s) (raised (per_period marks) (length marks) s (own_before (own marks) s)) 0 y)
 
 pub highest_same : (marks : List Bool) (s : ℕ) → own marks s ≡ false → highest marks (s + 1) ≡ highest marks s
-highest_same marks s n = greatest_more s (high_at marks) ∙ ap (max (highest marks s)) (cond-false (own marks s) (raised (per_period marks) (length marks) s (own_before (own marks) s)) 0 n) ∙ omega arith
+highest_same marks s n =
+    greatest_more s (high_at marks)
+    ∙ ap (max (highest marks s)) (cond-false (own marks s) (raised (per_period marks) (length marks) s (own_before (own marks) s)) 0 n) ∙ omega arith
 
-pub lowest_more : (marks : List Bool) (s : ℕ) → own marks s ≡ true → lowest marks (s + 1) ≡ min (lowest marks s) (raised (per_period marks) (length marks) s (own_before (own marks) s))
-lowest_more marks s y = least_more (top marks) s (low_at marks) ∙ ap (min (lowest marks s)) (cond-true (own marks s) (raised (per_period marks) (length marks) s (own_before (own marks) s)) (top marks) y)
+pub lowest_more : (marks : List Bool) (s : ℕ) → own marks s ≡ true →
+    lowest marks (s + 1) ≡ min (lowest marks s) (raised (per_period marks) (length marks) s (own_before (own marks) s))
+lowest_more marks s y = least_more (top marks) s (low_at marks)
+    ∙ ap (min (lowest marks s)) (cond-true (own marks s) (raised (per_period marks) (length marks) s (own_before (own marks) s)) (top marks) y)
 
 pub lowest_same : (marks : List Bool) (s : ℕ) → own marks s ≡ false → lowest marks (s + 1) ≡ lowest marks s
-lowest_same marks s n = least_more (top marks) s (low_at marks) ∙ ap (min (lowest marks s)) (cond-false (own marks s) (raised (per_period marks) (length marks) s (own_before (own marks) s)) (top marks) n) ∙ least_capped (top marks) s (low_at marks)
+lowest_same marks s n = least_more (top marks) s (low_at marks)
+    ∙ ap (min (lowest marks s)) (cond-false (own marks s) (raised (per_period marks) (length marks) s (own_before (own marks) s)) (top marks) n)
+    ∙ least_capped (top marks) s (low_at marks)
   where
     least_capped : (t n : ℕ) (f : ℕ → ℕ) → min (least t n f) t ≡ least t n f
     least_capped t n f = omega (arith, least_below t n f)

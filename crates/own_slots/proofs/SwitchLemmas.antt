@@ -17,7 +17,8 @@ pub joined_first : (first second : ℕ → Bool) (at s : ℕ) → s < at → joi
 joined_first first second at s lt = cond-true (ltb s at) (first s) (second (s - at)) (lt-ltb s at lt)
 
 pub joined_second : (first second : ℕ → Bool) (at d : ℕ) → joined first second at (at + d) ≡ second d
-joined_second first second at d = cond-false (ltb (at + d) at) (first (at + d)) (second (at + d - at)) (le-ltb (at + d) at (omega arith)) ∙ ap second (omega arith)
+joined_second first second at d = cond-false (ltb (at + d) at) (first (at + d)) (second (at + d - at)) (le-ltb (at + d) at (omega arith))
+    ∙ ap second (omega arith)
 
 own_before_first : (first second : ℕ → Bool) (at s : ℕ) → s ≤ at → own_before (joined first second at) s ≡ own_before first s
 own_before_first first second at s le = own_before_same (joined first second at) first s (λ t lt. joined_first first second at t (omega arith))
@@ -28,8 +29,18 @@ own_before_second first second at zero = rw add-zero (own_before_first first sec
     from_zero : own_before first at ≡ own_before first at + own_before second zero
     from_zero = unfold own_before in omega arith
 own_before_second first second at (suc d) = rw add-suc (elim (cases_Bool (second d)) [
-  | inl y ↦ omega (arith, own_before_second first second at d, own_before_own (joined first second at) (at + d) (joined_second first second at d ∙ y), own_before_own second d y)
-  | inr n ↦ omega (arith, own_before_second first second at d, own_before_other (joined first second at) (at + d) (joined_second first second at d ∙ n), own_before_other second d n)
+  | inl y ↦ omega (
+    arith,
+    own_before_second first second at d,
+    own_before_own (joined first second at) (at + d) (joined_second first second at d ∙ y),
+    own_before_own second d y,
+  )
+  | inr n ↦ omega (
+    arith,
+    own_before_second first second at d,
+    own_before_other (joined first second at) (at + d) (joined_second first second at d ∙ n),
+    own_before_other second d n,
+  )
 ])
 
 -- ---- share
@@ -65,7 +76,8 @@ switch_spare_law first second at w m n few some s = elim (cases_lt at (s + w)) [
 -- ---- positions before a period's end
 
 -- two numbers that are whole periods apart stand whole periods apart
-turned : (marks : List Bool) (i j u v : ℕ) → 0 < per_period marks → i + u * per_period marks ≡ j + v * per_period marks → position marks i + u * length marks ≡ position marks j + v * length marks
+turned : (marks : List Bool) (i j u v : ℕ) → 0 < per_period marks → i + u * per_period marks ≡ j + v * per_period marks →
+    position marks i + u * length marks ≡ position marks j + v * length marks
 turned marks i j u v pos e = sym (position_turns marks i u pos) ∙ ap (position marks) e ∙ position_turns marks j v pos
 
 own_before_end : (marks : List Bool) (y : ℕ) → own_before (own marks) (y * length marks) ≡ y * per_period marks
@@ -74,7 +86,8 @@ own_before_end marks y = let z : own_before (own marks) 0 ≡ 0 = unfold own_bef
 
 -- the own slots numbered below y periods' stand before the end of y periods
 before_end : (marks : List Bool) (i y : ℕ) → 0 < per_period marks → i < y * per_period marks → position marks i < y * length marks
-before_end marks i y pos lt = before_from (own marks) (position marks i) (y * length marks) (omega (arith, (positions_law marks pos).counted i, own_before_end marks y))
+before_end marks i y pos lt =
+    before_from (own marks) (position marks i) (y * length marks) (omega (arith, (positions_law marks pos).counted i, own_before_end marks y))
 
 -- `back` is not cut off at 0
 back_whole : (marks : List Bool) (x : ℕ) → 0 < per_period marks → 0 < x → back marks x + position marks (x * per_period marks - x) ≡ x * length marks
@@ -83,7 +96,8 @@ back_whole marks x pos some = omega (arith, before_end marks (x * per_period mar
     less : (c : ℕ) → x * 1 ≤ x * c → x * c - x < x * c
     less c le = omega (arith, le)
 
-pub back_spec : (marks : List Bool) (x y : ℕ) → 0 < per_period marks → 0 < x → x ≤ y * per_period marks → position marks (y * per_period marks - x) + back marks x ≡ y * length marks
+pub back_spec : (marks : List Bool) (x y : ℕ) → 0 < per_period marks → 0 < x → x ≤ y * per_period marks → position marks (y * per_period marks - x)
+    + back marks x ≡ y * length marks
 back_spec marks x y pos some le =
     let long : x * 1 ≤ x * per_period marks = mul-le-mul_left x pos in
     let e : (y * per_period marks - x) + x * per_period marks ≡ (x * per_period marks - x) + y * per_period marks = omega (arith, long) in
@@ -107,13 +121,19 @@ back_law marks x y s pos some is_own e =
 
 -- own slot number i over the switch, the first plan kept for `periods` periods
 abbrev over : List Bool → List Bool → ℕ → ℕ → ℕ
-over first second periods i = cond (ltb i (periods * per_period first)) (position first i) (periods * length first + position second (i - periods * per_period first))
+over first second periods i =
+    cond (ltb i (periods * per_period first)) (position first i) (periods * length first + position second (i - periods * per_period first))
 
 over_first : (first second : List Bool) (periods i : ℕ) → i < periods * per_period first → over first second periods i ≡ position first i
-over_first first second periods i lt = cond-true (ltb i (periods * per_period first)) (position first i) (periods * length first + position second (i - periods * per_period first)) (lt-ltb i (periods * per_period first) lt)
+over_first first second periods i lt =
+    cond-true (ltb i (periods * per_period first)) (position first i) (periods * length first + position second (i - periods * per_period first))
+    (lt-ltb i (periods * per_period first) lt)
 
-over_second : (first second : List Bool) (periods i : ℕ) → periods * per_period first ≤ i → over first second periods i ≡ periods * length first + position second (i - periods * per_period first)
-over_second first second periods i le = cond-false (ltb i (periods * per_period first)) (position first i) (periods * length first + position second (i - periods * per_period first)) (le-ltb i (periods * per_period first) le)
+over_second : (first second : List Bool) (periods i : ℕ) → periods * per_period first ≤ i → over first second periods i ≡ periods * length first
+    + position second (i - periods * per_period first)
+over_second first second periods i le =
+    cond-false (ltb i (periods * per_period first)) (position first i) (periods * length first + position second (i - periods * per_period first))
+    (le-ltb i (periods * per_period first) le)
 
 over_enumerates : (first second : List Bool) (periods : ℕ) → 0 < per_period first → 0 < per_period second →
     Enumerates (joined (own first) (own second) (periods * length first)) (over first second periods)
@@ -142,7 +162,8 @@ over_enumerates first second periods p1 p2 = record {
         let z : ℕ = i - periods * per_period first in
         let e : over first second periods i ≡ at + position second z = over_second first second periods i le in (
           ap J e ∙ joined_second (own first) (own second) at (position second z) ∙ (positions_law second p2).is_own z,
-          ap (own_before J) e ∙ own_before_second (own first) (own second) at (position second z) ∙ omega (arith, own_before_end first periods, (positions_law second p2).counted z),
+          ap (own_before J) e ∙ own_before_second (own first) (own second) at (position second z)
+              ∙ omega (arith, own_before_end first periods, (positions_law second p2).counted z),
         )
 
     at_number : (i : ℕ) → (J (over first second periods i) ≡ true) × (own_before J (over first second periods i) ≡ i)
@@ -170,7 +191,8 @@ windows_over first second periods m g p1 p2 one two begin across =
         let x : ℕ = n - i in
         let z : ℕ = i + m - n in
         let e : n - x ≡ i = omega arith in
-        let here : position first i + back first x ≡ at = ap (λ (j : ℕ). position first j + back first x) (sym e) ∙ back_spec first x periods p1 (omega arith) (omega arith) in
+        let here : position first i + back first x ≡ at = ap (λ (j : ℕ). position first j + back first x) (sym e)
+        ∙ back_spec first x periods p1 (omega arith) (omega arith) in
         omega (arith, over_first first second periods i lt, over_second first second periods (i + m) le, here, across x z (omega arith) (omega arith))
 
     near : (i : ℕ) → Q (i + m) ≤ Q i + g
@@ -186,7 +208,12 @@ windows_over first second periods m g p1 p2 one two begin across =
     start : 0 < m → Q (m - 1) < g
     start some = elim (cases_lt (m - 1) n) [
       | inl lt ↦ omega (arith, begin some, over_first first second periods (m - 1) lt)
-      | inr le ↦ omega (arith, over_second first second periods (m - 1) le, back_far first (n + 1) periods p1 (omega arith), across (n + 1) (m - 1 - n) (omega arith) (omega arith))
+      | inr le ↦ omega (
+        arith,
+        over_second first second periods (m - 1) le,
+        back_far first (n + 1) periods p1 (omega arith),
+        across (n + 1) (m - 1 - n) (omega arith) (omega arith),
+      )
     ]
 
 pub switch_gap_law : SwitchGapLaw
@@ -199,7 +226,8 @@ switch_gap_law first second periods k g p1 p2 one two across =
 -- ---- pace over the switch
 
 -- the first plan's own slots before the switch: x back against 1 back
-back_spread : (marks : List Bool) (a x : ℕ) → 0 < per_period marks → 0 < x → spread marks ≤ a → per_period marks * back marks x + length marks ≤ per_period marks * back marks 1 + x * length marks + a
+back_spread : (marks : List Bool) (a x : ℕ) → 0 < per_period marks → 0 < x → spread marks ≤ a →
+    per_period marks * back marks x + length marks ≤ per_period marks * back marks 1 + x * length marks + a
 back_spread marks a x pos some le =
     let c : ℕ = per_period marks in
     let long : x * 1 ≤ x * c = mul-le-mul_left x pos in
@@ -208,21 +236,24 @@ back_spread marks a x pos some le =
     let far : position marks i + back marks x ≡ x * length marks = back_spec marks x x pos some (omega (arith, long)) in
     let near : position marks j + back marks 1 ≡ x * length marks = back_spec marks 1 x pos (omega arith) (omega (arith, long)) in
     let e : i + x ≡ j + 1 = omega (arith, long) in
-    back_arith c (length marks) a (position marks i) (position marks j) i j x (x * length marks) (back marks x) (back marks 1) far near e (spreads_all marks a pos le j i)
+    back_arith c (length marks) a (position marks i) (position marks j) i j x (x * length marks) (back marks x) (back marks 1) far near e
+    (spreads_all marks a pos le j i)
   where
     back_arith : (c n a p q i j x t b d : ℕ) → p + b ≡ t → q + d ≡ t → i + x ≡ j + 1 → c * q + i * n ≤ c * p + j * n + a → c * b + n ≤ c * d + x * n + a
     back_arith c n a p q i j x t b d far near e h =
         omega (arith, h, ap (λ (v : ℕ). c * v) far, ap (λ (v : ℕ). c * v) near, ap (λ (v : ℕ). v * n) e)
 
 -- the second plan's own slots after it, counted from its last of the period before
-ahead_spread : (marks : List Bool) (b z : ℕ) → 0 < per_period marks → spread marks ≤ b → per_period marks * (position marks z + back marks 1) ≤ (z + 1) * length marks + b
+ahead_spread : (marks : List Bool) (b z : ℕ) → 0 < per_period marks → spread marks ≤ b →
+    per_period marks * (position marks z + back marks 1) ≤ (z + 1) * length marks + b
 ahead_spread marks b z pos le =
     let c : ℕ = per_period marks in
     let last : position marks (1 * c - 1) + back marks 1 ≡ 1 * length marks = back_spec marks 1 1 pos (omega arith) (omega arith) in
     ahead_arith c (length marks) b (position marks (z + 1 * c)) (position marks z) (position marks (1 * c - 1)) z (1 * c - 1) (back marks 1) (omega arith)
     (position_turns marks z 1 pos) last (spreads_all marks b pos le (z + 1 * c) (1 * c - 1))
   where
-    ahead_arith : (c n b r p q z d back : ℕ) → d + 1 ≡ c → r ≡ p + 1 * n → q + back ≡ 1 * n → c * r + d * n ≤ c * q + (z + 1 * c) * n + b → c * (p + back) ≤ (z + 1) * n + b
+    ahead_arith : (c n b r p q z d back : ℕ) → d + 1 ≡ c → r ≡ p + 1 * n → q + back ≡ 1 * n → c * r + d * n ≤ c * q + (z + 1 * c) * n + b →
+        c * (p + back) ≤ (z + 1) * n + b
     ahead_arith c n b r p q z d back e f last h =
         omega (arith, h, ap (λ (v : ℕ). v * n) e, ap (λ (v : ℕ). c * v) f, ap (λ (v : ℕ). c * v) last)
 
@@ -292,5 +323,6 @@ switch_rate_law first second periods a b p1 p2 le1 le2 m w fast =
     two = second_pace c d n k a b (shift first second) m w fast
 
     joint : (x z : ℕ) → 0 < x → x + z ≡ m → back first x + position second z ≤ w
-    joint x z some e = across_arith c d n k a b (shift first second) (max (n * d) (k * c)) x z w (back second 1) (position second z) (back first x) (back first 1)
+    joint x z some e = across_arith c d n k a b (shift first second) (max (n * d) (k * c)) x z w (back second 1) (position second z) (back first x)
+        (back first 1)
         (back_spread first a x p1 some le1) (ahead_spread second b z p2 le2) (omega arith) (omega arith) (omega arith) some (rw e fast)

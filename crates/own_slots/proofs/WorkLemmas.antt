@@ -1,12 +1,14 @@
 -- Work of a buffer, from one period to all time.
-use Rattle.std.proofs.Common.{◌≡◌, ℕ, ◌+◌, ◌-◌, ◌*◌, ◌%◌, ◌<◌, ◌≤◌, max, ltb, Bool, true, false, cond, List, length, get_or, refl, ap, sym, ◌∙◌, inl, inr, arith}
+use Rattle.std.proofs.Common.{◌≡◌, ℕ, ◌+◌, ◌-◌, ◌*◌, ◌%◌, ◌<◌, ◌≤◌, max, ltb, Bool, true, false, cond, List, length, get_or, refl, ap, sym, ◌∙◌, inl, inr}
+use Rattle.std.proofs.Common.{arith}
 use Rattle.std.proofs.Math.Nat.{mod-eq_of_lt, mod_self, mod-add-mod, mul-mod_left, mul-le-mul_left}
 use Rattle.std.proofs.lemmas.Nat.{mod_below}
 use Rattle.std.proofs.lemmas.Bool.{cases_lt, cond-true, cond-false, lt-ltb, le-ltb}
 use Rattle.std.proofs.lemmas.List.Sums.{fold_more}
 use Rattle.own_slots.specs.Period.{own}
 use Rattle.own_slots.specs.Extremes.{greatest}
-use Rattle.own_slots.specs.Work.{work_step, work_at, before_at, after_at, most_before, most_after, work_left, HoldsWork, WorkStep, periodic_work, WorkWalkLaw, WorkLaw, WorkScaleLaw}
+use Rattle.own_slots.specs.Work.{work_step, work_at, before_at, after_at, most_before, most_after, work_left, HoldsWork, WorkStep, periodic_work, WorkWalkLaw}
+use Rattle.own_slots.specs.Work.{WorkLaw, WorkScaleLaw}
 use Rattle.own_slots.specs.Switch.{joined, joined_work, SwitchWorkLaw}
 use Rattle.own_slots.proofs.Extremes.{at_most_greatest, greatest_more}
 use Rattle.own_slots.proofs.SwitchLemmas.{joined_first, joined_second}
@@ -32,7 +34,8 @@ next_work : (rate drain room start peak : ℕ) (marks : List Bool) → HoldsWork
     work_step rate drain (periodic_work rate drain start marks s) (own marks s) ≤ periodic_work rate drain start marks (s + 1)
 next_work rate drain room start peak marks holds s pos = elim (cases_lt (s % length marks + 1) (length marks)) [
   | inl more ↦ rw (on more) (omega (arith, work_more rate drain start marks (s % length marks) within))
-  | inr end ↦ rw (turn (omega arith)) (omega (arith, work_begin rate drain start marks, work_more rate drain start marks (s % length marks) within, whole (omega arith), holds.carries))
+  | inr end ↦ rw (turn (omega arith))
+      (omega (arith, work_begin rate drain start marks, work_more rate drain start marks (s % length marks) within, whole (omega arith), holds.carries))
 ]
   where
     within : s % length marks < length marks
@@ -55,8 +58,10 @@ busy_step rate drain work m y = ap (λ (b : Bool). (work - 188 * drain) + cond b
 
 pub work_law : WorkLaw
 work_law rate drain room start peak marks pos holds s = record {
-  idle = λ n. omega (arith, idle_step rate drain (periodic_work rate drain start marks s) (own marks s) n, next_work rate drain room start peak marks holds s pos);
-  busy = λ y. omega (arith, busy_step rate drain (periodic_work rate drain start marks s) (own marks s) y, next_work rate drain room start peak marks holds s pos);
+  idle = λ n. omega
+      (arith, idle_step rate drain (periodic_work rate drain start marks s) (own marks s) n, next_work rate drain room start peak marks holds s pos);
+  busy = λ y. omega
+      (arith, busy_step rate drain (periodic_work rate drain start marks s) (own marks s) y, next_work rate drain room start peak marks holds s pos);
   fits = λ y. omega (
     arith,
     holds.fits,
@@ -114,7 +119,8 @@ before_more rate drain start marks s y = greatest_more s (before_at rate drain s
 pub before_same : (rate drain start : ℕ) (marks : List Bool) (s : ℕ) → get_or marks s false ≡ false →
     greatest (s + 1) (before_at rate drain start marks) ≡ greatest s (before_at rate drain start marks)
 before_same rate drain start marks s n = greatest_more s (before_at rate drain start marks)
-    ∙ ap (max (greatest s (before_at rate drain start marks))) (cond-false (get_or marks s false) (work_at rate drain start marks s + 188 * rate) 0 n) ∙ omega arith
+    ∙ ap (max (greatest s (before_at rate drain start marks))) (cond-false (get_or marks s false) (work_at rate drain start marks s + 188 * rate) 0 n)
+    ∙ omega arith
 
 pub after_more : (rate drain start : ℕ) (marks : List Bool) (s : ℕ) → get_or marks s false ≡ true →
     greatest (s + 1) (after_at rate drain start marks) ≡ max (greatest s (after_at rate drain start marks)) (work_at rate drain start marks (s + 1))
@@ -131,7 +137,8 @@ after_same rate drain start marks s n = greatest_more s (after_at rate drain sta
 -- at the last slot of a period, what follows is at least what the period leaves
 last_work : (rate drain room start peak : ℕ) (marks : List Bool) → (s y : ℕ) → 0 < length marks → s + 1 ≡ y * length marks →
     work_step rate drain (periodic_work rate drain start marks s) (own marks s) ≡ work_left rate drain start marks
-last_work rate drain room start peak marks s y pos e = sym (work_more rate drain start marks (s % length marks) within) ∙ ap (work_at rate drain start marks) end
+last_work rate drain room start peak marks s y pos e = sym (work_more rate drain start marks (s % length marks) within)
+    ∙ ap (work_at rate drain start marks) end
   where
     within : s % length marks < length marks
     within = mod_below s (length marks) pos

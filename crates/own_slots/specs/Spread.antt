@@ -37,4 +37,5 @@ abbrev pub most_within : ℕ → ℕ → ℕ → ℕ → ℕ
 most_within c n a w = ((w - 1) * c + a) / n + 1
 
 abbrev pub ShareLaw : Type 0
-ShareLaw = (marks : List Bool) (a w : ℕ) → 0 < per_period marks → spread marks ≤ a → 0 < w → AtMostPerWindow (own marks) w (most_within (per_period marks) (length marks) a w)
+ShareLaw = (marks : List Bool) (a w : ℕ) → 0 < per_period marks → spread marks ≤ a → 0 < w →
+    AtMostPerWindow (own marks) w (most_within (per_period marks) (length marks) a w)

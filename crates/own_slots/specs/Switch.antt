@@ -46,4 +46,5 @@ SwitchWorkLaw = (rate drain room : ℕ) (start peak : ℕ) (first : List Bool) (
 
 -- a window across the switch has at most what the two plans' windows have together; the switch may be at any slot
 abbrev pub SwitchShareLaw : Type 0
-SwitchShareLaw = (first second : ℕ → Bool) (at w m n : ℕ) → AtMostPerWindow first w m → AtMostPerWindow second w n → AtMostPerWindow (joined first second at) w (m + n)
+SwitchShareLaw = (first second : ℕ → Bool) (at w m n : ℕ) → AtMostPerWindow first w m → AtMostPerWindow second w n →
+    AtMostPerWindow (joined first second at) w (m + n)

@@ -60,7 +60,8 @@ periodic_work rate drain start marks s = work_at rate drain start marks (s % len
 abbrev pub WorkWalkLaw : Type 0
 WorkWalkLaw = (rate drain start : ℕ) (marks : List Bool) →
     (work_at rate drain start marks 0 ≡ start) ×
-    ((s : ℕ) → s < length marks → work_at rate drain start marks (s + 1) ≡ work_step rate drain (work_at rate drain start marks s) (slice_index_or marks s false))
+    ((s : ℕ) → s < length marks →
+    work_at rate drain start marks (s + 1) ≡ work_step rate drain (work_at rate drain start marks s) (slice_index_or marks s false))
 
 -- the claims of one period bound the work over all time
 abbrev pub WorkLaw : Type 0

@@ -20,7 +20,8 @@ pub fn pace()
     ensures { PaceLaw }
 {}
 
-/// States that, with a spread of at most a, no window of w slots (w from 1 on) has more than `((w - 1) * c + a) / N + 1` own slots.
+/// States that, with a spread of at most a, no window of w slots (w from 1 on) has more than `((w - 1) * c + a) / N +
+/// 1` own slots.
 pub fn share()
     ensures { ShareLaw }
 {}

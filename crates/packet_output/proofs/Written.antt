@@ -1,5 +1,6 @@
 -- What is written and what waits, after one more packet, a part written, or a part that failed.
-use Rattle.std.proofs.Common.{◌≡◌, ℕ, ◌+◌, ◌<◌, ◌≤◌, Bool, true, false, List, [], ◌∷◌, ◌++◌, length, take, Option, Some, Result, Ok, Err, refl, sym, ap, ◌∙◌, subst, arith, append_assoc, append-nil}
+use Rattle.std.proofs.Common.{◌≡◌, ℕ, ◌+◌, ◌<◌, ◌≤◌, Bool, true, false, List, [], ◌∷◌, ◌++◌, length, take, Option, Some, Result, Ok, Err, refl, sym, ap, ◌∙◌}
+use Rattle.std.proofs.Common.{subst, arith, append_assoc, append-nil}
 use Rattle.std.proofs.lemmas.List.{length-append, length-set, take-append-le, take_all, take_more, take-set, get_or-set_same}
 use Rattle.std.proofs.lemmas.Grind.{flat_map-append}
 use Rattle.std.proofs.lemmas.Option.{get_or_from_slice_get, slice_get-get_or, slice_get_within}
@@ -19,7 +20,8 @@ abbrev pub joined : List (List ℕ) → List ℕ
 joined packets = flat_map (λ packet. packet) packets
 
 -- a packet more waits
-joined_more : (rooms : List (List ℕ)) (n : ℕ) (packet : List ℕ) → slice_get rooms n ≡ Some packet → joined (take (n + 1) rooms) ≡ joined (take n rooms) ++ packet
+joined_more : (rooms : List (List ℕ)) (n : ℕ) (packet : List ℕ) → slice_get rooms n ≡ Some packet → joined (take (n + 1) rooms) ≡ joined (take n rooms)
+    ++ packet
 joined_more rooms n packet at =
     let inside = slice_get_within rooms n packet at in
     ap joined (take_more rooms n [] inside ∙ ap (λ (x : List ℕ). take n rooms ++ x ∷ []) (get_or_from_slice_get rooms n packet [] at))
@@ -71,7 +73,8 @@ unfolding formatted
 packet_waits start now old all packet bytes next h =
     subst (λ (x : Bool). IsOutput start now (record old { count = old.count + 1 }) (all ++ formatted x packet)) (sym bytes)
     (holds_more start now old (record old { count = old.count + 1 }) all packet h
-    (ap (λ (x : List ℕ). old.lines ++ x) (joined_more old.rooms old.count packet next) ∙ sym (append_assoc old.lines (joined (take old.count old.rooms)) packet)) refl)
+    (ap (λ (x : List ℕ). old.lines ++ x) (joined_more old.rooms old.count packet next)
+    ∙ sym (append_assoc old.lines (joined (take old.count old.rooms)) packet)) refl)
 
 -- as a line
 line_waits : (start now : Option (List ℕ)) (old : Buffered) (all packet lines first : List ℕ) → old.hex ≡ true → old.count ≡ 0 → HasNext old packet →
@@ -89,14 +92,17 @@ line_waits start now old all packet lines first hex none next there line h =
 pub packet_waits_inside : (start now : Option (List ℕ)) (inside old : Buffered) (all packet : List ℕ) → inside ≡ old → inside.hex ≡ false → HasNext old packet →
     IsOutput start now old all → IsOutput start now (record inside { count = inside.count + 1 }) (all ++ formatted old.hex packet)
 packet_waits_inside start now inside old all packet same bytes =
-    subst (λ (b : Buffered). HasNext b packet → IsOutput start now b all → IsOutput start now (record inside { count = inside.count + 1 }) (all ++ formatted b.hex packet)) same
+    subst (λ (b : Buffered). HasNext b packet → IsOutput start now b all →
+    IsOutput start now (record inside { count = inside.count + 1 }) (all ++ formatted b.hex packet)) same
     (packet_waits start now inside all packet bytes)
 
-pub line_waits_inside : (start now : Option (List ℕ)) (inside old : Buffered) (all packet lines first : List ℕ) → inside ≡ old → inside.hex ≡ true → inside.count ≡ 0 →
+pub line_waits_inside : (start now : Option (List ℕ)) (inside old : Buffered) (all packet lines first : List ℕ) → inside ≡ old → inside.hex ≡ true →
+    inside.count ≡ 0 →
     HasNext old packet → slice_get inside.rooms 0 ≡ Some first → lines ≡ inside.lines ++ formatted true first → IsOutput start now old all →
     IsOutput start now (record inside { lines = lines }) (all ++ formatted old.hex packet)
 line_waits_inside start now inside old all packet lines first same hex none next at line =
-    subst (λ (b : Buffered). HasNext b packet → IsOutput start now b all → IsOutput start now (record inside { lines = lines }) (all ++ formatted b.hex packet)) same
+    subst (λ (b : Buffered). HasNext b packet → IsOutput start now b all → IsOutput start now (record inside { lines = lines }) (all ++ formatted b.hex packet))
+    same
     (λ there h. line_waits start now inside all packet lines first hex none there at line h) next
 
 -- 3. What waits is written
@@ -114,7 +120,8 @@ pub record PartOut (start now later : Option (List ℕ)) (all : List ℕ) (resul
   pub wrote : Wrote now later (waiting_of buffer) buffer.sent result
 
 -- of a part that is what waited
-pub part_out : (start now later : Option (List ℕ)) (buffer : Buffered) (all part : List ℕ) (before : ℕ) (result : Result ℕ OutputFault) → IsOutput start now buffer all →
+pub part_out : (start now later : Option (List ℕ)) (buffer : Buffered) (all part : List ℕ) (before : ℕ) (result : Result ℕ OutputFault) →
+    IsOutput start now buffer all →
     part ≡ waiting_of buffer → before ≡ buffer.sent → IfOk result (λ n. n ≡ byte_count (before + length part)) → OnOk result (Appends now later part) →
     IfErr result (λ fault. TookPart now later part before fault.sent) → PartOut start now later all result
 part_out start now later buffer all part before result h is same ok bytes err =
@@ -127,12 +134,14 @@ part_out start now later buffer all part before result h is same ok bytes err =
 counts_on : (a b : ℕ) → byte_count (byte_count a + b) ≡ byte_count (a + b)
 counts_on a b = omega arith
 
-pub out_whole : (start now later : Option (List ℕ)) (new : Buffered) (all : List ℕ) (result : Result ℕ OutputFault) → PartOut start now later all result → result ≡ Ok new.sent →
+pub out_whole : (start now later : Option (List ℕ)) (new : Buffered) (all : List ℕ) (result : Result ℕ OutputFault) → PartOut start now later all result →
+    result ≡ Ok new.sent →
     waiting_of new ≡ [] → IsOutput start later new all
 out_whole start now later new all result out ok none =
     let h = out.holds in
     let waiting = waiting_of out.buffer in
-    let wrote : Wrote now later waiting out.buffer.sent (Ok new.sent) = subst (λ (r : Result ℕ OutputFault). Wrote now later waiting out.buffer.sent r) ok out.wrote in record {
+    let wrote : Wrote now later waiting out.buffer.sent (Ok new.sent) =
+    subst (λ (r : Result ℕ OutputFault). Wrote now later waiting out.buffer.sent r) ok out.wrote in record {
       written = h.written ++ waiting;
       taken = Appends-trans start now later h.written waiting h.taken wrote.bytes;
       is = h.is ∙ sym (append-nil (h.written ++ waiting)) ∙ ap (λ (x : List ℕ). (h.written ++ waiting) ++ x) (sym none);
@@ -140,12 +149,14 @@ out_whole start now later new all result out ok none =
           ∙ ap byte_count (sym (length-append h.written waiting));
     }
 
-pub out_in_part : (start now later : Option (List ℕ)) (all : List ℕ) (result : Result ℕ OutputFault) (fault : OutputFault) → PartOut start now later all result → result ≡ Err fault →
+pub out_in_part : (start now later : Option (List ℕ)) (all : List ℕ) (result : Result ℕ OutputFault) (fault : OutputFault) →
+    PartOut start now later all result → result ≡ Err fault →
     Took start later fault.sent all
 out_in_part start now later all result fault out err =
     let h = out.holds in
     let waiting = waiting_of out.buffer in
-    let wrote : Wrote now later waiting out.buffer.sent (Err fault) = subst (λ (r : Result ℕ OutputFault). Wrote now later waiting out.buffer.sent r) err out.wrote in
+    let wrote : Wrote now later waiting out.buffer.sent (Err fault) =
+    subst (λ (r : Result ℕ OutputFault). Wrote now later waiting out.buffer.sent r) err out.wrote in
     let t : TookPart now later waiting out.buffer.sent fault.sent = wrote.err in record {
       count = length h.written + t.count;
       within = omega (arith, t.within, length-append h.written waiting, ap (length {A = ℕ}) h.is);

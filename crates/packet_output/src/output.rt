@@ -34,7 +34,8 @@ pub struct OutputFault {
 pub struct PacketOutput<A: Allocator> {
     // Lines that wait.
     lines: Vec<u8, A>,
-    // The rooms of a part's packets: of the first `count` the packets wait, the next one is the room of the next packet.
+    // The rooms of a part's packets: of the first `count` the packets wait, the next one is the room of the next
+    // packet.
     rooms: Vec<[u8; 188], A>,
     count: usize,
     sent: u64,

@@ -9,7 +9,8 @@ unfolding fields_from
 fields_end zero bs at found short = refl
 fields_end (suc n) bs at found short = let e : nat_lt (length bs) (at + 188) ≡ true = search (arith, short) in rw e refl
 
-next : (n : ℕ) (bs : List ℕ) (at : ℕ) (found : List FieldLeftOut) → at + 188 ≤ length bs → fields_from (suc n) bs at found ≡ with_next bs (slip_size bs at) at found (fields_from n bs)
+next : (n : ℕ) (bs : List ℕ) (at : ℕ) (found : List FieldLeftOut) → at + 188 ≤ length bs →
+    fields_from (suc n) bs at found ≡ with_next bs (slip_size bs at) at found (fields_from n bs)
 unfolding fields_from
 next n bs at found long = let e : nat_lt (length bs) (at + 188) ≡ false = search (arith, long) in rw e refl
 
@@ -23,7 +24,8 @@ pub slip_next : (n : ℕ) (bs : List ℕ) (at size : ℕ) (found : List FieldLef
 unfolding with_next
 slip_next n bs at size found long e = next n bs at found long ∙ (rw e refl)
 
-pub after_packet : (n : ℕ) (bs : List ℕ) (at : ℕ) (found more : List FieldLeftOut) → length bs ≤ n + at → at + 188 ≤ length bs → None ≡ slip_size bs at → more ≡ with_packet (packet_at bs at) found →
+pub after_packet : (n : ℕ) (bs : List ℕ) (at : ℕ) (found more : List FieldLeftOut) → length bs ≤ n + at → at + 188 ≤ length bs → None ≡ slip_size bs at →
+    more ≡ with_packet (packet_at bs at) found →
     fields_from (n - 1) bs (at + 188) more ≡ fields_from n bs at found
 after_packet zero bs at found more left long e is = absurd (let no : ⊥ = omega (arith, left, long) in no)
 after_packet (suc n) bs at found more left long e is = let m : suc n - 1 ≡ n = omega arith in rw (m, is) (sym (packet_next n bs at found long (sym e)))

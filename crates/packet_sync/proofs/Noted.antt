@@ -1,5 +1,6 @@
 -- What is said of a stream, from some of its rest on.
-use Rattle.std.proofs.Common.{◌≡◌, ◌≤◌, ◌<◌, inl, inr, ℕ, zero, suc, ◌+◌, ◌*◌, ◌-◌, ◌/◌, ◌==◌, nat_lt, Bool, true, false, refl, sym, ap, ap₂, subst, arith, ◌∙◌, List, [], ◌∷◌, ◌++◌, length, length-append, length-drop, map, take, drop, Option, None, Some, append_assoc, append-nil, drop-drop}
+use Rattle.std.proofs.Common.{◌≡◌, ◌≤◌, ◌<◌, inl, inr, ℕ, zero, suc, ◌+◌, ◌*◌, ◌-◌, ◌/◌, ◌==◌, nat_lt, Bool, true, false, refl, sym, ap, ap₂, subst, arith, ◌∙◌}
+use Rattle.std.proofs.Common.{List, [], ◌∷◌, ◌++◌, length, length-append, length-drop, map, take, drop, Option, None, Some, append_assoc, append-nil, drop-drop}
 use Rattle.std.proofs.lemmas.Bool.Decides.{nat_tests}
 use Rattle.std.proofs.lemmas.List.{drop_all, drop-append-le, take-append-le}
 use Rattle.packet_sync.specs.Slips.{slips, slips_from, slip_size}
@@ -15,7 +16,8 @@ use Rattle.packet_sync.proofs.Stretches.{Steady, slip_later, slip_some}
 
 -- 1. The slips of the rest of a stream
 
-later_step : (n m : ℕ) (bs : List ℕ) (p q a b : ℕ) → length bs ≤ suc n + (a + b) → length bs ≤ suc m + (a + b) → a + b + 188 ≤ length bs → (o : Option ℕ) → slip_size bs (a + b) ≡ o →
+later_step : (n m : ℕ) (bs : List ℕ) (p q a b : ℕ) → length bs ≤ suc n + (a + b) → length bs ≤ suc m + (a + b) → a + b + 188 ≤ length bs → (o : Option ℕ) →
+    slip_size bs (a + b) ≡ o →
     ((q b : ℕ) → length bs ≤ n + (a + b) → length bs ≤ m + (a + b) → slips_from n bs (p + q) (a + b) ≡ map (later_slip p a) (slips_from m (drop a bs) q b)) →
     slips_from (suc n) bs (p + q) (a + b) ≡ map (later_slip p a) (slips_from (suc m) (drop a bs) q b)
 later_step n m bs p q a b some more long None is rest =
@@ -35,19 +37,22 @@ later_step n m bs p q a b some more long (Some size) is rest =
     (ap (λ (j : ℕ). slips_from n bs (p + q) j) f ∙ rest q (b + size) (omega (arith, some, least)) (omega (arith, more, least)))
     ∙ ap (map (later_slip p a)) (sym (one_slip m (drop a bs) q b size many (sym (slip_later bs a b) ∙ is)))
 
-later_end : (n m : ℕ) (bs : List ℕ) (p q a b : ℕ) → length bs < a + b + 188 → slips_from n bs (p + q) (a + b) ≡ map (later_slip p a) (slips_from m (drop a bs) q b)
+later_end : (n m : ℕ) (bs : List ℕ) (p q a b : ℕ) → length bs < a + b + 188 →
+    slips_from n bs (p + q) (a + b) ≡ map (later_slip p a) (slips_from m (drop a bs) q b)
 later_end n m bs p q a b short =
     let few : length (drop a bs) < b + 188 = omega (arith, length-drop a bs, short) in
     at_end n bs (p + q) (a + b) short ∙ ap (map (later_slip p a)) (sym (at_end m (drop a bs) q b few))
 
-later_place : (n m : ℕ) (bs : List ℕ) (p q a b : ℕ) → length bs ≤ suc n + (a + b) → length bs ≤ suc m + (a + b) → (t : Bool) → nat_lt (length bs) (a + b + 188) ≡ t →
+later_place : (n m : ℕ) (bs : List ℕ) (p q a b : ℕ) → length bs ≤ suc n + (a + b) → length bs ≤ suc m + (a + b) → (t : Bool) →
+    nat_lt (length bs) (a + b + 188) ≡ t →
     ((q b : ℕ) → length bs ≤ n + (a + b) → length bs ≤ m + (a + b) → slips_from n bs (p + q) (a + b) ≡ map (later_slip p a) (slips_from m (drop a bs) q b)) →
     slips_from (suc n) bs (p + q) (a + b) ≡ map (later_slip p a) (slips_from (suc m) (drop a bs) q b)
 later_place n m bs p q a b some more true is rest = let short : length bs < a + b + 188 = search (arith, is) in later_end (suc n) (suc m) bs p q a b short
 later_place n m bs p q a b some more false is rest =
     let long : a + b + 188 ≤ length bs = search (arith, is) in later_step n m bs p q a b some more long (slip_size bs (a + b)) refl rest
 
-later : (n m : ℕ) (bs : List ℕ) (p q a b : ℕ) → length bs ≤ n + (a + b) → length bs ≤ m + (a + b) → slips_from n bs (p + q) (a + b) ≡ map (later_slip p a) (slips_from m (drop a bs) q b)
+later : (n m : ℕ) (bs : List ℕ) (p q a b : ℕ) → length bs ≤ n + (a + b) → length bs ≤ m + (a + b) →
+    slips_from n bs (p + q) (a + b) ≡ map (later_slip p a) (slips_from m (drop a bs) q b)
 later zero m bs p q a b some more = later_end zero m bs p q a b (omega (arith, some))
 later (suc n) zero bs p q a b some more = later_end (suc n) zero bs p q a b (omega (arith, more))
 later (suc n) (suc m) bs p q a b some more =
@@ -107,7 +112,8 @@ lost_slips k size bs long steady is =
     let left : length bs ≤ length bs - k + 188 * k = omega arith in
     steady_slips k bs (omega (arith, long)) steady
     ∙ slip_passed (length bs - k) bs k (188 * k) size left long (sym is)
-    ∙ ap (λ (ss : List Slip). record { packet = k; start = 188 * k; size = size } ∷ ss) (later_all (length bs - k - 1) bs k (188 * k + size) (omega (arith, least)))
+    ∙ ap (λ (ss : List Slip). record { packet = k; start = 188 * k; size = size } ∷ ss)
+    (later_all (length bs - k - 1) bs k (188 * k + size) (omega (arith, least)))
 
 -- 3. Fields
 
@@ -116,8 +122,10 @@ same_packet bs a b =
     let e : a + b + 188 - (a + b) ≡ b + 188 - b = omega arith in
     ap₂ (λ (n : ℕ) (r : List ℕ). take n r) e (sym (drop-drop b a bs))
 
-fields_step : (n m : ℕ) (bs : List ℕ) (a b : ℕ) (found : List FieldLeftOut) → length bs ≤ suc n + (a + b) → length bs ≤ suc m + (a + b) → a + b + 188 ≤ length bs → (o : Option ℕ) → slip_size bs (a + b) ≡ o →
-    ((b : ℕ) (found : List FieldLeftOut) → length bs ≤ n + (a + b) → length bs ≤ m + (a + b) → fields_from n bs (a + b) found ≡ fields_from m (drop a bs) b found) →
+fields_step : (n m : ℕ) (bs : List ℕ) (a b : ℕ) (found : List FieldLeftOut) → length bs ≤ suc n + (a + b) → length bs ≤ suc m + (a + b) →
+    a + b + 188 ≤ length bs → (o : Option ℕ) → slip_size bs (a + b) ≡ o →
+    ((b : ℕ) (found : List FieldLeftOut) → length bs ≤ n + (a + b) → length bs ≤ m + (a + b) →
+    fields_from n bs (a + b) found ≡ fields_from m (drop a bs) b found) →
     fields_from (suc n) bs (a + b) found ≡ fields_from (suc m) (drop a bs) b found
 fields_step n m bs a b found some more long None is rest =
     let many : b + 188 ≤ length (drop a bs) = omega (arith, length-drop a bs, long) in
@@ -135,25 +143,31 @@ fields_step n m bs a b found some more long (Some size) is rest =
     ∙ rest (b + size) found (omega (arith, some, least)) (omega (arith, more, least))
     ∙ sym (slip_next m (drop a bs) b size found many (sym (slip_later bs a b) ∙ is))
 
-fields_short : (n m : ℕ) (bs : List ℕ) (a b : ℕ) (found : List FieldLeftOut) → length bs < a + b + 188 → fields_from n bs (a + b) found ≡ fields_from m (drop a bs) b found
+fields_short : (n m : ℕ) (bs : List ℕ) (a b : ℕ) (found : List FieldLeftOut) → length bs < a + b + 188 →
+    fields_from n bs (a + b) found ≡ fields_from m (drop a bs) b found
 fields_short n m bs a b found short =
     let few : length (drop a bs) < b + 188 = omega (arith, length-drop a bs, short) in
     fields_end n bs (a + b) found short ∙ sym (fields_end m (drop a bs) b found few)
 
-fields_place : (n m : ℕ) (bs : List ℕ) (a b : ℕ) (found : List FieldLeftOut) → length bs ≤ suc n + (a + b) → length bs ≤ suc m + (a + b) → (t : Bool) → nat_lt (length bs) (a + b + 188) ≡ t →
-    ((b : ℕ) (found : List FieldLeftOut) → length bs ≤ n + (a + b) → length bs ≤ m + (a + b) → fields_from n bs (a + b) found ≡ fields_from m (drop a bs) b found) →
+fields_place : (n m : ℕ) (bs : List ℕ) (a b : ℕ) (found : List FieldLeftOut) → length bs ≤ suc n + (a + b) → length bs ≤ suc m + (a + b) → (t : Bool) →
+    nat_lt (length bs) (a + b + 188) ≡ t →
+    ((b : ℕ) (found : List FieldLeftOut) → length bs ≤ n + (a + b) → length bs ≤ m + (a + b) →
+    fields_from n bs (a + b) found ≡ fields_from m (drop a bs) b found) →
     fields_from (suc n) bs (a + b) found ≡ fields_from (suc m) (drop a bs) b found
-fields_place n m bs a b found some more true is rest = let short : length bs < a + b + 188 = search (arith, is) in fields_short (suc n) (suc m) bs a b found short
+fields_place n m bs a b found some more true is rest = let short : length bs < a + b + 188 = search (arith, is) in
+    fields_short (suc n) (suc m) bs a b found short
 fields_place n m bs a b found some more false is rest =
     let long : a + b + 188 ≤ length bs = search (arith, is) in fields_step n m bs a b found some more long (slip_size bs (a + b)) refl rest
 
-fields_later : (n m : ℕ) (bs : List ℕ) (a b : ℕ) (found : List FieldLeftOut) → length bs ≤ n + (a + b) → length bs ≤ m + (a + b) → fields_from n bs (a + b) found ≡ fields_from m (drop a bs) b found
+fields_later : (n m : ℕ) (bs : List ℕ) (a b : ℕ) (found : List FieldLeftOut) → length bs ≤ n + (a + b) → length bs ≤ m + (a + b) →
+    fields_from n bs (a + b) found ≡ fields_from m (drop a bs) b found
 fields_later zero m bs a b found some more = fields_short zero m bs a b found (omega (arith, some))
 fields_later (suc n) zero bs a b found some more = fields_short (suc n) zero bs a b found (omega (arith, more))
 fields_later (suc n) (suc m) bs a b found some more =
     fields_place n m bs a b found some more (nat_lt (length bs) (a + b + 188)) refl (λ b found some more. fields_later n m bs a b found some more)
 
-fields_all : (n : ℕ) (bs : List ℕ) (a : ℕ) (found : List FieldLeftOut) → length bs ≤ n + a → fields_from n bs a found ≡ fields_from (length (drop a bs)) (drop a bs) 0 found
+fields_all : (n : ℕ) (bs : List ℕ) (a : ℕ) (found : List FieldLeftOut) → length bs ≤ n + a →
+    fields_from n bs a found ≡ fields_from (length (drop a bs)) (drop a bs) 0 found
 fields_all n bs a found some =
     let f : a ≡ a + 0 = omega arith in
     ap (λ (j : ℕ). fields_from n bs j found) f
@@ -221,10 +235,16 @@ packets_alike k bytes more old within steady =
     }
 
 -- some packets, and a slip
-lost_alike : (k size : ℕ) (bytes more : List ℕ) (old : NotesView) → 188 * k + size ≤ length bytes → 188 * k + 188 ≤ length (bytes ++ more) → Steady (bytes ++ more) (188 * k) →
+lost_alike : (k size : ℕ) (bytes more : List ℕ) (old : NotesView) → 188 * k + size ≤ length bytes → 188 * k + 188 ≤ length (bytes ++ more) →
+    Steady (bytes ++ more) (188 * k) →
     slip_size (bytes ++ more) (188 * k) ≡ Some size →
     SayAlike old (bytes ++ more)
-    (record { slips = old.slips ++ record { packet = old.packet + k; start = old.start + 188 * k; size = size } ∷ []; fields = with_packets k bytes old.fields; packet = old.packet + k; start = old.start + 188 * k + size })
+    (record {
+      slips = old.slips ++ record { packet = old.packet + k; start = old.start + 188 * k; size = size } ∷ [];
+      fields = with_packets k bytes old.fields;
+      packet = old.packet + k;
+      start = old.start + 188 * k + size;
+    })
     (drop (188 * k + size) bytes ++ more)
 lost_alike k size bytes more old within long steady is =
     let bs = bytes ++ more in
@@ -237,7 +257,8 @@ lost_alike k size bytes more old within long steady is =
           ∙ ap (λ (ss : List Slip). old.slips ++ s ∷ ss)
           (later_twice old.packet old.start k (188 * k + size) (slips (drop (188 * k + size) bs))
           ∙ ap₂ (λ (r : List ℕ) (j : ℕ). map (later_slip (old.packet + k) j) (slips r)) rest e)
-          ∙ sym (append_assoc old.slips (s ∷ []) (map (later_slip (old.packet + k) (old.start + 188 * k + size)) (slips (drop (188 * k + size) bytes ++ more))));
+          ∙ sym (append_assoc old.slips (s ∷ [])
+          (map (later_slip (old.packet + k) (old.start + 188 * k + size)) (slips (drop (188 * k + size) bytes ++ more))));
       fields = lost_fields k size bs old.fields long steady is
           ∙ ap₂ (λ (r : List ℕ) (f : List FieldLeftOut). fields_from (length r) r 0 f) rest (packets_front k bytes more old.fields front);
     }
@@ -270,10 +291,17 @@ no_slip : (n : NotesView) (size : ℕ) → (size == 0) ≡ true → with_slip si
 no_slip n size e = rw e refl
 
 a_slip : (n : NotesView) (size : ℕ) → (size == 0) ≡ false →
-    with_slip size n ≡ record { slips = n.slips ++ record { packet = n.packet; start = n.start; size = size } ∷ []; fields = n.fields; packet = n.packet; start = n.start + size }
+    with_slip size n ≡ record {
+      slips = n.slips ++ record { packet = n.packet; start = n.start; size = size } ∷ [];
+      fields = n.fields;
+      packet =
+          n.packet;
+      start = n.start + size;
+    }
 a_slip n size e = rw e refl
 
-whole_noted : (k : ℕ) (bytes more : List ℕ) (s : Stretch) (old new : NotesView) → s.in_step ≡ 188 * k → s.in_step + s.slipped ≤ length bytes → IsStepped (bytes ++ more) s →
+whole_noted : (k : ℕ) (bytes more : List ℕ) (s : Stretch) (old new : NotesView) → s.in_step ≡ 188 * k → s.in_step + s.slipped ≤ length bytes →
+    IsStepped (bytes ++ more) s →
     new ≡ with_slip s.slipped (with_stretch s.in_step bytes old) → (b : Bool) → (s.slipped == 0) ≡ b →
     SayAlike old (bytes ++ more) new (drop (s.in_step + s.slipped) bytes ++ more)
 whole_noted k bytes more s old new is within st e true t =
@@ -291,7 +319,13 @@ whole_noted k bytes more s old new is within st e false t =
     alike_as old _ new
     (bytes ++ more) (drop (188 * k + s.slipped) bytes ++ more) (drop (s.in_step + s.slipped) bytes ++ more)
     (e ∙ a_slip (with_stretch s.in_step bytes old) s.slipped t
-    ∙ ap (λ (n : NotesView). record { slips = n.slips ++ record { packet = n.packet; start = n.start; size = s.slipped } ∷ []; fields = n.fields; packet = n.packet; start = n.start + s.slipped })
+    ∙ ap (λ (n : NotesView). record {
+      slips = n.slips ++ record { packet = n.packet; start = n.start; size = s.slipped } ∷ [];
+      fields = n.fields;
+      packet =
+          n.packet;
+      start = n.start + s.slipped;
+    })
     (stretch_is s.in_step k bytes old is))
     (ap (λ (i : ℕ). drop i bytes ++ more) at)
     (lost_alike k s.slipped bytes more old (omega (arith, within, is)) (omega (arith, lost.1, is)) (λ i less. st.steady i (omega (arith, less, is)))
@@ -309,15 +343,18 @@ last_noted bytes more s old new whole none ends st e =
     (alike_as old (with_stretch s.in_step bytes old) new bytes [] (drop (s.in_step + s.slipped) bytes ++ more)
     (e ∙ no_slip (with_stretch s.in_step bytes old) s.slipped t)
     (ap₂ (λ (r m : List ℕ). r ++ m) past ends)
-    (last_alike k s.in_step bytes old whole (omega arith) (omega arith) (λ i less. subst (λ (r : List ℕ). slip_size r (188 * i) ≡ None) front (st.steady i (omega (arith, less))))))
+    (last_alike k s.in_step bytes old whole (omega arith) (omega arith)
+    (λ i less. subst (λ (r : List ℕ). slip_size r (188 * i) ≡ None) front (st.steady i (omega (arith, less))))))
 
-noted_by : (bytes more : List ℕ) (ended : Bool) (s : Stretch) (old new : NotesView) → s.in_step + s.slipped ≤ length bytes → IsStepped (bytes ++ more) s → IsOfPackets (length bytes) ended s →
+noted_by : (bytes more : List ℕ) (ended : Bool) (s : Stretch) (old new : NotesView) → s.in_step + s.slipped ≤ length bytes → IsStepped (bytes ++ more) s →
+    IsOfPackets (length bytes) ended s →
     (ended ≡ true → more ≡ []) → new ≡ with_slip s.slipped (with_stretch s.in_step bytes old) →
     SayAlike old (bytes ++ more) new (drop (s.in_step + s.slipped) bytes ++ more)
 noted_by bytes more ended s old new within st (inl whole) none e = whole_noted whole.0 bytes more s old new whole.1 within st e (s.slipped == 0) refl
 noted_by bytes more ended s old new within st (inr last) none e = last_noted bytes more s old new last.1 last.2 (none last.0) st e
 
-pub stretch_noted : (bytes : List ℕ) (ended : Bool) (s : Stretch) (old middle new : NotesView) → s.in_step + s.slipped ≤ length bytes → IsSteppedSoFar bytes ended s → IsOfPackets (length bytes) ended s →
+pub stretch_noted : (bytes : List ℕ) (ended : Bool) (s : Stretch) (old middle new : NotesView) → s.in_step + s.slipped ≤ length bytes →
+    IsSteppedSoFar bytes ended s → IsOfPackets (length bytes) ended s →
     middle ≡ with_stretch s.in_step bytes old → new ≡ with_slip s.slipped middle → IsNoted old new bytes ended s
 stretch_noted bytes ended s old middle new within stepped packets e f =
     λ more none. noted_by bytes more ended s old new within (stepped more none) packets none (f ∙ ap (with_slip s.slipped) e)

@@ -1,5 +1,6 @@
 -- Slips, step by step.
-use Rattle.std.proofs.Common.{◌≡◌, ◌≤◌, ◌<◌, ℕ, zero, suc, ◌+◌, ◌-◌, nat_lt, true, false, refl, sym, ap, arith, ◌∙◌, List, [], ◌∷◌, ◌++◌, append_assoc, length, None, Some}
+use Rattle.std.proofs.Common.{◌≡◌, ◌≤◌, ◌<◌, ℕ, zero, suc, ◌+◌, ◌-◌, nat_lt, true, false, refl, sym, ap, arith, ◌∙◌, List, [], ◌∷◌, ◌++◌, append_assoc, length}
+use Rattle.std.proofs.Common.{None, Some}
 use Rattle.packet_sync.specs.Slips.{slips_from, slip_then, slip_size, new_step, is_new_step}
 use Rattle.packet_sync.specs.declared.slip.Slip.{Slip}
 
@@ -14,7 +15,8 @@ next : (n : ℕ) (bs : List ℕ) (packet at : ℕ) → at + 188 ≤ length bs �
 unfolding slips_from
 next n bs packet at long = let e : nat_lt (length bs) (at + 188) ≡ false = search (arith, long) in rw e refl
 
-pub one_packet : (n : ℕ) (bs : List ℕ) (packet at : ℕ) → at + 188 ≤ length bs → slip_size bs at ≡ None → slips_from (suc n) bs packet at ≡ slips_from n bs (packet + 1) (at + 188)
+pub one_packet : (n : ℕ) (bs : List ℕ) (packet at : ℕ) → at + 188 ≤ length bs → slip_size bs at ≡ None →
+    slips_from (suc n) bs packet at ≡ slips_from n bs (packet + 1) (at + 188)
 unfolding slip_then
 one_packet n bs packet at long e = next n bs packet at long ∙ (rw e refl)
 
@@ -29,7 +31,8 @@ pub found_here : (bs : List ℕ) (at size n : ℕ) → size < n → true ≡ is_
 unfolding new_step
 found_here bs at size n less is = let e : n - size ≡ suc (n - (size + 1)) = omega (arith, less) in rw e (rw (sym is) refl)
 
-pub found_later : (bs : List ℕ) (at size n : ℕ) → size < n → false ≡ is_new_step bs at size → new_step bs at size (n - size) ≡ new_step bs at (size + 1) (n - (size + 1))
+pub found_later : (bs : List ℕ) (at size n : ℕ) → size < n → false ≡ is_new_step bs at size →
+    new_step bs at size (n - size) ≡ new_step bs at (size + 1) (n - (size + 1))
 unfolding new_step
 found_later bs at size n less is = let e : n - size ≡ suc (n - (size + 1)) = omega (arith, less) in rw e (rw (sym is) refl)
 

@@ -1,5 +1,7 @@
 -- What is carried, from the front of a stream on.
-use Rattle.std.proofs.Common.{◌≡◌, ◌≤◌, ◌<◌, ◌⊎◌, inl, inr, ℕ, zero, suc, ◌+◌, ◌*◌, ◌-◌, nat_lt, Bool, true, false, if◌then◌else◌, refl, sym, ap, subst, arith, ◌∙◌, List, [], ◌++◌, length, length-append, length-drop, take, drop, get_or, slice_get, slice_range, Option, None, Some, append_assoc, append-nil, drop-drop, take-add}
+use Rattle.std.proofs.Common.{◌≡◌, ◌≤◌, ◌<◌, ◌⊎◌, inl, inr, ℕ, zero, suc, ◌+◌, ◌*◌, ◌-◌, nat_lt, Bool, true, false, if◌then◌else◌, refl, sym, ap, subst, arith}
+use Rattle.std.proofs.Common.{◌∙◌, List, [], ◌++◌, length, length-append, length-drop, take, drop, get_or, slice_get, slice_range, Option, None, Some}
+use Rattle.std.proofs.Common.{append_assoc, append-nil, drop-drop, take-add}
 use Rattle.std.proofs.lemmas.List.{take-append-drop, drop_all, take_all, get_or-drop, get_or_append_left, drop-append-le, take-append-le}
 use Rattle.std.proofs.lemmas.Option.{slice_get_cases, slice_get_past, slice_get_read}
 use Rattle.packet_sync.specs.Slips.{slips, slips_from, slip_size, new_step, is_new_step, is_in_step, is_sync, is_next, goes_on, carried, carried_from}
@@ -53,7 +55,8 @@ same_slip xs ys a b agree =
 
 -- 2. The rest of a list
 
-at_rest : (bs : List ℕ) (at k : ℕ) → ((x : ℕ) × (at + k < length bs) × (slice_get bs (at + k) ≡ Some x) × (get_or bs (at + k) x ≡ x)) ⊎ ((length bs ≤ at + k) × (slice_get bs (at + k) ≡ None)) →
+at_rest : (bs : List ℕ) (at k : ℕ) →
+    ((x : ℕ) × (at + k < length bs) × (slice_get bs (at + k) ≡ Some x) × (get_or bs (at + k) x ≡ x)) ⊎ ((length bs ≤ at + k) × (slice_get bs (at + k) ≡ None)) →
     slice_get bs (at + k) ≡ slice_get (drop at bs) k
 at_rest bs at k (inl one) =
     let within : k < length (drop at bs) = omega (arith, one.1, length-drop at bs) in
@@ -65,7 +68,8 @@ at_rest bs at k (inr none) =
 at_drop : (bs : List ℕ) (at k : ℕ) → slice_get bs (at + k) ≡ slice_get (drop at bs) k
 at_drop bs at k = at_rest bs at k (slice_get_cases bs (at + k)).1
 
-at_front_by : (xs more : List ℕ) (k : ℕ) → k < length xs → ((x : ℕ) × (k < length xs) × (slice_get xs k ≡ Some x) × (get_or xs k x ≡ x)) ⊎ ((length xs ≤ k) × (slice_get xs k ≡ None)) →
+at_front_by : (xs more : List ℕ) (k : ℕ) → k < length xs →
+    ((x : ℕ) × (k < length xs) × (slice_get xs k ≡ Some x) × (get_or xs k x ≡ x)) ⊎ ((length xs ≤ k) × (slice_get xs k ≡ None)) →
     slice_get xs k ≡ slice_get (xs ++ more) k
 at_front_by xs more k within (inl one) =
     let here : k < length (xs ++ more) = omega (arith, within, length-append xs more) in
@@ -81,7 +85,8 @@ at_zero bs rest at k is = let e : 0 + k ≡ k = omega arith in rw e is
 -- the bytes that have come decide it, or there are no more
 decided : (bs more : List ℕ) (at : ℕ) → (at + 1128 ≤ length bs) ⊎ (more ≡ []) → slip_size bs at ≡ slip_size (drop at bs ++ more) 0
 decided bs more at (inl long) =
-    same_slip bs (drop at bs ++ more) at 0 (λ k less. at_zero bs (drop at bs ++ more) at k (at_drop bs at k ∙ at_front (drop at bs) more k (omega (arith, less, long, length-drop at bs))))
+    same_slip bs (drop at bs ++ more) at 0
+    (λ k less. at_zero bs (drop at bs ++ more) at k (at_drop bs at k ∙ at_front (drop at bs) more k (omega (arith, less, long, length-drop at bs))))
 decided bs more at (inr none) =
     rw (none, append-nil (drop at bs)) (same_slip bs (drop at bs) at 0 (λ k less. at_zero bs (drop at bs) at k (at_drop bs at k)))
 
@@ -133,7 +138,8 @@ unfolding kept kept_then
 kept_slip n bs size long is = let e : nat_lt (length bs) 188 ≡ false = search (arith, long) in rw e (rw is refl)
 
 -- no packet is left
-at_last : (n : ℕ) (bs : List ℕ) (packet a at : ℕ) → a ≤ at → length bs < at + 188 → carried_from bs a (slips_from n bs packet at) ≡ slice_range bs a at ++ kept n (drop at bs)
+at_last : (n : ℕ) (bs : List ℕ) (packet a at : ℕ) → a ≤ at → length bs < at + 188 → carried_from bs a (slips_from n bs packet at) ≡ slice_range bs a at
+    ++ kept n (drop at bs)
 unfolding carried_from
 at_last n bs packet a at order short =
     let few : length (drop at bs) < 188 = omega (arith, length-drop at bs, short) in
@@ -169,7 +175,8 @@ at_place n bs packet a at order within true is rest = let short : length bs < at
 at_place n bs packet a at order within false is rest =
     let long : at + 188 ≤ length bs = search (arith, is) in at_packet n bs packet a at order long (slip_size bs at) refl rest
 
-same_kept : (n : ℕ) (bs : List ℕ) (packet a at : ℕ) → a ≤ at → at ≤ length bs → carried_from bs a (slips_from n bs packet at) ≡ slice_range bs a at ++ kept n (drop at bs)
+same_kept : (n : ℕ) (bs : List ℕ) (packet a at : ℕ) → a ≤ at → at ≤ length bs → carried_from bs a (slips_from n bs packet at) ≡ slice_range bs a at
+    ++ kept n (drop at bs)
 unfolding slips_from carried_from kept
 same_kept zero bs packet a at order within = two_parts bs a at order
 same_kept (suc n) bs packet a at order within = at_place n bs packet a at order within (nat_lt (length bs) (at + 188)) refl (same_kept n bs)
@@ -179,7 +186,8 @@ unfolding slips
 carried_kept bs = same_kept (length bs) bs 0 0 0 (omega arith) (omega arith)
 
 -- however much fuel there is
-first_from : (bs : List ℕ) (at size n k : ℕ) (b : Bool) → is_new_step bs at size ≡ b → (new_step bs at (size + 1) n ≡ Some k → size + 1 ≤ k) → new_step bs at size (suc n) ≡ Some k → size ≤ k
+first_from : (bs : List ℕ) (at size n k : ℕ) (b : Bool) → is_new_step bs at size ≡ b → (new_step bs at (size + 1) n ≡ Some k → size + 1 ≤ k) →
+    new_step bs at size (suc n) ≡ Some k → size ≤ k
 unfolding new_step
 first_from bs at size n k true is later e =
     let found : new_step bs at size (suc n) ≡ Some size = rw is refl in
@@ -234,7 +242,8 @@ front_kept bs long = same_fuel (length bs) (suc (length bs)) bs (omega arith) (o
 
 -- 4. What is known
 
-pub known_by : (ended : Bool) (bs more : List ℕ) (at n : ℕ) → n ≡ (if ended then 188 else 1128) → at ≤ length bs → n ≤ length bs - at → (ended ≡ true → more ≡ []) →
+pub known_by : (ended : Bool) (bs more : List ℕ) (at n : ℕ) → n ≡ (if ended then 188 else 1128) → at ≤ length bs → n ≤ length bs - at →
+    (ended ≡ true → more ≡ []) →
     (at + 1128 ≤ length bs) ⊎ (more ≡ [])
 known_by true bs more at n is within test none = inr (none refl)
 known_by false bs more at n is within test none = inl (omega (arith, is, within, test))
@@ -276,7 +285,8 @@ dropped bs more at n within =
     let fits : n ≤ length (drop at bs) = omega (arith, length-drop at bs, within) in
     drop-append-le n (drop at bs) more fits ∙ ap (λ (r : List ℕ). r ++ more) (drop-drop n at bs)
 
-pub so_far_packet : (bs more : List ℕ) (at : ℕ) → at + 188 ≤ length bs → (at + 1128 ≤ length bs) ⊎ (more ≡ []) → None ≡ slip_size bs at → SoFar bs more at → SoFar bs more (at + 188)
+pub so_far_packet : (bs more : List ℕ) (at : ℕ) → at + 188 ≤ length bs → (at + 1128 ≤ length bs) ⊎ (more ≡ []) → None ≡ slip_size bs at → SoFar bs more at →
+    SoFar bs more (at + 188)
 so_far_packet bs more at long known is so =
     let rest = drop at bs ++ more in
     let fits : 188 ≤ length (drop at bs) = omega (arith, length-drop at bs, long) in
@@ -287,7 +297,8 @@ so_far_packet bs more at long known is so =
     ∙ sym (append_assoc (take at bs) (take 188 (drop at bs)) (carried (drop (at + 188) bs ++ more)))
     ∙ ap (λ (r : List ℕ). r ++ carried (drop (at + 188) bs ++ more)) (sym (take-add at 188 bs))
 
-pub next_slip : (bs more : List ℕ) (at size : ℕ) → at + 188 ≤ length bs → at + size ≤ length bs → (at + 1128 ≤ length bs) ⊎ (more ≡ []) → Some size ≡ slip_size bs at → SoFar bs more at →
+pub next_slip : (bs more : List ℕ) (at size : ℕ) → at + 188 ≤ length bs → at + size ≤ length bs → (at + 1128 ≤ length bs) ⊎ (more ≡ []) →
+    Some size ≡ slip_size bs at → SoFar bs more at →
     IsNextOf bs more (record { in_step = at; slipped = size })
 next_slip bs more at size long within known is so =
     let rest = drop at bs ++ more in
@@ -302,10 +313,12 @@ at_end_is : (bs more : List ℕ) → more ≡ [] → carried (bs ++ more) ≡ bs
 unfolding carried_from slips slips_from
 at_end_is bs more none all = subst (λ (m : List ℕ). carried (bs ++ m) ≡ bs) none all ∙ sym (append-nil bs ∙ refl)
 
-pub next_last : (bs more : List ℕ) (at : ℕ) → at ≤ length bs → length bs < at + 188 → more ≡ [] → SoFar bs more at → IsNextOf bs more (record { in_step = length bs; slipped = 0 })
+pub next_last : (bs more : List ℕ) (at : ℕ) → at ≤ length bs → length bs < at + 188 → more ≡ [] → SoFar bs more at →
+    IsNextOf bs more (record { in_step = length bs; slipped = 0 })
 next_last bs more at within short none so =
     let few : length (drop at bs) < 188 = omega (arith, length-drop at bs, short) in
-    let all : carried (bs ++ more) ≡ bs = so ∙ (rw (none, append-nil (drop at bs)) (ap (λ (r : List ℕ). take at bs ++ r) (carried_few (drop at bs) few) ∙ take-append-drop at bs)) in
+    let all : carried (bs ++ more) ≡ bs =
+    so ∙ (rw (none, append-nil (drop at bs)) (ap (λ (r : List ℕ). take at bs ++ r) (carried_few (drop at bs) few) ∙ take-append-drop at bs)) in
     let past : drop (length bs + 0) bs ≡ [] = drop_all (length bs + 0) bs (omega arith) in
     let front : take (length bs) bs ≡ bs = take_all (length bs) bs (omega arith) in
     rw (front, past, none) (at_end_is bs more none all)
@@ -325,7 +338,8 @@ Steady bs size = (k : ℕ) → 188 * k + 188 ≤ size → slip_size bs (188 * k)
 pub steady_none : (bs : List ℕ) → Steady bs 0
 steady_none bs = λ k less. absurd (let no : ⊥ = omega (arith, less) in no)
 
-steady_by : (bs more : List ℕ) (at n k : ℕ) → at ≡ 188 * n → at + 188 ≤ length bs → slip_size (bs ++ more) at ≡ None → Steady (bs ++ more) at → 188 * k + 188 ≤ at + 188 →
+steady_by : (bs more : List ℕ) (at n k : ℕ) → at ≡ 188 * n → at + 188 ≤ length bs → slip_size (bs ++ more) at ≡ None → Steady (bs ++ more) at →
+    188 * k + 188 ≤ at + 188 →
     (b : Bool) → nat_lt k n ≡ b → slip_size (bs ++ more) (188 * k) ≡ None
 steady_by bs more at n k place long is so less true e = let before : k < n = search (arith, e) in so k (omega (arith, before, place))
 steady_by bs more at n k place long is so less false e =
@@ -333,7 +347,8 @@ steady_by bs more at n k place long is so less false e =
     let same : at ≡ 188 * k = omega (arith, past, place, less) in
     subst (λ (i : ℕ). slip_size (bs ++ more) i ≡ None) same is
 
-pub steady_packet : (bs more : List ℕ) (at n : ℕ) → at ≡ 188 * n → at + 188 ≤ length bs → (at + 1128 ≤ length bs) ⊎ (more ≡ []) → None ≡ slip_size bs at → Steady (bs ++ more) at →
+pub steady_packet : (bs more : List ℕ) (at n : ℕ) → at ≡ 188 * n → at + 188 ≤ length bs → (at + 1128 ≤ length bs) ⊎ (more ≡ []) → None ≡ slip_size bs at →
+    Steady (bs ++ more) at →
     Steady (bs ++ more) (at + 188)
 steady_packet bs more at n place long known is so =
     λ k less. steady_by bs more at n k place long (whole_slip bs more at long known ∙ sym is) so less (nat_lt k n) refl
@@ -341,7 +356,8 @@ steady_packet bs more at n place long known is so =
 pub steady_last : (bs : List ℕ) (at n size : ℕ) → at ≡ 188 * n → size < at + 188 → Steady bs at → Steady bs size
 steady_last bs at n size place short so = λ k less. so k (omega (arith, less, short, place))
 
-pub stepped_slip : (bs more : List ℕ) (at size : ℕ) → at + 188 ≤ length bs → (at + 1128 ≤ length bs) ⊎ (more ≡ []) → Some size ≡ slip_size bs at → Steady (bs ++ more) at →
+pub stepped_slip : (bs more : List ℕ) (at size : ℕ) → at + 188 ≤ length bs → (at + 1128 ≤ length bs) ⊎ (more ≡ []) → Some size ≡ slip_size bs at →
+    Steady (bs ++ more) at →
     IsStepped (bs ++ more) (record { in_step = at; slipped = size })
 stepped_slip bs more at size long known is so = record {
   steady = so;

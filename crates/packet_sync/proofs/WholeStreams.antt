@@ -1,14 +1,19 @@
 -- A stream in step has no slip; of any stream nothing but slips is left out.
-use Rattle.std.proofs.Common.{◌≡◌, ◌≤◌, ◌<◌, ◌⊎◌, inl, inr, ℕ, zero, suc, ◌+◌, ◌*◌, ◌-◌, ◌%◌, ◌==◌, ◌&&◌, not, nat_lt, Bool, true, false, refl, sym, subst, arith, ◌∙◌, List, [], ◌∷◌, length, length-append, length-drop, length-take-le, drop, get_or, slice_get, slice_range, Option, None, Some}
+use Rattle.std.proofs.Common.{◌≡◌, ◌≤◌, ◌<◌, ◌⊎◌, inl, inr, ℕ, zero, suc, ◌+◌, ◌*◌, ◌-◌, ◌%◌, ◌==◌, ◌&&◌, not, nat_lt, Bool, true, false, refl, sym, subst}
+use Rattle.std.proofs.Common.{arith, ◌∙◌, List, [], ◌∷◌, length, length-append, length-drop, length-take-le, drop, get_or, slice_get, slice_range, Option, None}
+use Rattle.std.proofs.Common.{Some}
 use Rattle.std.proofs.lemmas.Option.{slice_get_cases}
 use Rattle.packet_sync.specs.Laws.{slipped, IsInStep}
-use Rattle.packet_sync.specs.Slips.{slips, slips_from, slip_size, new_step, is_new_step, is_in_step, is_sync, is_next, goes_on, carried, carried_from, AreOrdered}
+use Rattle.packet_sync.specs.Slips.{slips, slips_from, slip_size, new_step, is_new_step, is_in_step, is_sync, is_next, goes_on, carried, carried_from}
+use Rattle.packet_sync.specs.Slips.{AreOrdered}
 use Rattle.packet_sync.specs.declared.slip.Slip.{Slip}
 use Rattle.packet_sync.proofs.SlipSteps.{at_end, one_packet, one_slip}
 
 -- 1. A stream in step
 
-next_begins : (bs : List ℕ) (i : ℕ) → IsInStep bs → ((x : ℕ) × (i * 188 + 188 < length bs) × (slice_get bs (i * 188 + 188) ≡ Some x) × (get_or bs (i * 188 + 188) x ≡ x)) ⊎ ((length bs ≤ i * 188 + 188) × (slice_get bs (i * 188 + 188) ≡ None)) →
+next_begins : (bs : List ℕ) (i : ℕ) → IsInStep bs →
+    ((x : ℕ) × (i * 188 + 188 < length bs) × (slice_get bs (i * 188 + 188) ≡ Some x) × (get_or bs (i * 188 + 188) x ≡ x)) ⊎
+    ((length bs ≤ i * 188 + 188) × (slice_get bs (i * 188 + 188) ≡ None)) →
     is_next bs (i * 188 + 188) ≡ true
 unfolding is_next
 next_begins bs i step (inl one) =
@@ -58,7 +63,8 @@ unfolding new_step
 first_is bs at size zero k e = absurd cc
 first_is bs at size (suc n) k e = first_is_by bs at size n k (first_is bs at (size + 1) n k) (is_new_step bs at size) refl e
 
-stands_within : (bs : List ℕ) (at : ℕ) → is_sync bs at ≡ true → ((x : ℕ) × (at < length bs) × (slice_get bs at ≡ Some x) × (get_or bs at x ≡ x)) ⊎ ((length bs ≤ at) × (slice_get bs at ≡ None)) → at < length bs
+stands_within : (bs : List ℕ) (at : ℕ) → is_sync bs at ≡ true →
+    ((x : ℕ) × (at < length bs) × (slice_get bs at ≡ Some x) × (get_or bs at x ≡ x)) ⊎ ((length bs ≤ at) × (slice_get bs at ≡ None)) → at < length bs
 unfolding is_sync
 stands_within bs at e (inl one) = one.1
 stands_within bs at e (inr none) =
@@ -140,7 +146,14 @@ unfolding AreOrdered carried_from slipped
 both_parts bs at [] order = omega (arith, length-drop at bs)
 both_parts bs at (s ∷ ss) order =
     let rest = both_parts bs (s.start + s.size) ss order.2 in
-    omega (arith, order.0, order.1, rest, length_between bs at s.start (omega (arith, order.1)), length-append (slice_range bs at s.start) (carried_from bs (s.start + s.size) ss))
+    omega (
+      arith,
+      order.0,
+      order.1,
+      rest,
+      length_between bs at s.start (omega (arith, order.1)),
+      length-append (slice_range bs at s.start) (carried_from bs (s.start + s.size) ss),
+    )
 
 pub nothing_else : (bs : List ℕ) → length (carried bs) + slipped (slips bs) ≡ length bs
 nothing_else bs = let whole : length bs - 0 ≡ length bs = omega arith in both_parts bs 0 (slips bs) (ordered bs) ∙ whole

@@ -1,8 +1,11 @@
 -- The fields of packets and of PES headers that are not written again (ISO/IEC 13818-1, 2.4.3.5 and 2.4.3.7).
-use Rattle.std.specs.Prelude.{ℕ, ◌+◌, ◌*◌, ◌/◌, ◌%◌, ◌==◌, ◌&&◌, ◌||◌, not, nat_lt, nat_le, Bool, true, false, if◌then◌else◌, List, [], length, slice_index, slice_range}
+use Rattle.std.specs.Prelude.{ℕ, ◌+◌, ◌*◌, ◌/◌, ◌%◌, ◌==◌, ◌&&◌, ◌||◌, not, nat_lt, nat_le, Bool, true, false, if◌then◌else◌, List, [], length, slice_index}
+use Rattle.std.specs.Prelude.{slice_range}
 use Rattle.pes_packet.specs.StreamIds.{has_flags}
 use Rattle.packet_sync.specs.declared.field.Field.{Field}
-use Rattle.packet_sync.specs.declared.field.Field.TheVariants.{TransportPriority, Discontinuity, RandomAccess, StreamPriority, OriginalClock, SpliceCountdown, AdaptationPrivateData, AdaptationExtension, Alignment, Flags, Scrambling, LongHeader, PrivateData, OtherHeaderData, UnreadHeader}
+use Rattle.packet_sync.specs.declared.field.Field.TheVariants.{TransportPriority, Discontinuity, RandomAccess, StreamPriority, OriginalClock, SpliceCountdown}
+use Rattle.packet_sync.specs.declared.field.Field.TheVariants.{AdaptationPrivateData, AdaptationExtension, Alignment, Flags, Scrambling, LongHeader}
+use Rattle.packet_sync.specs.declared.field.Field.TheVariants.{PrivateData, OtherHeaderData, UnreadHeader}
 
 -- 1. The header and the adaptation field of a packet
 

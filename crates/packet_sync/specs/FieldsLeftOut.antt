@@ -1,10 +1,16 @@
 -- The fields that are not written again, each once of a PID, in packets that stand in step.
-use Rattle.std.specs.Prelude.{ℕ, zero, suc, ◌+◌, ◌*◌, ◌%◌, ◌==◌, ◌&&◌, not, nat_lt, Bool, true, if◌then◌else◌, List, [], ◌∷◌, ◌++◌, length, slice_index, slice_range, Option, None, Some}
+use Rattle.std.specs.Prelude.{ℕ, zero, suc, ◌+◌, ◌*◌, ◌%◌, ◌==◌, ◌&&◌, not, nat_lt, Bool, true, if◌then◌else◌, List, [], ◌∷◌, ◌++◌, length, slice_index}
+use Rattle.std.specs.Prelude.{slice_range, Option, None, Some}
 use Rattle.std.specs.List.{list_any}
 use Rattle.packet_sync.specs.Slips.{slip_size}
-use Rattle.packet_sync.specs.Fields.{adaptation_flags, begins_unit, extension_flags, goes_on, has_adaptation_extension, has_adaptation_private_data, has_original_clock, has_other_data, has_other_flags, has_priority, has_splice_countdown, has_stream_priority, is_aligned, is_cut, is_discontinuity, is_flagged, is_long, is_random_access, is_scrambled, loses_private_data, number_of, start_payload}
+use Rattle.packet_sync.specs.Fields.{adaptation_flags, begins_unit, extension_flags, goes_on, has_adaptation_extension, has_adaptation_private_data}
+use Rattle.packet_sync.specs.Fields.{has_original_clock, has_other_data, has_other_flags, has_priority, has_splice_countdown, has_stream_priority, is_aligned}
+use Rattle.packet_sync.specs.Fields.{is_cut, is_discontinuity, is_flagged, is_long, is_random_access, is_scrambled, loses_private_data, number_of}
+use Rattle.packet_sync.specs.Fields.{start_payload}
 use Rattle.packet_sync.specs.declared.field.Field.{Field}
-use Rattle.packet_sync.specs.declared.field.Field.TheVariants.{TransportPriority, Discontinuity, RandomAccess, StreamPriority, OriginalClock, SpliceCountdown, AdaptationPrivateData, AdaptationExtension, Alignment, Flags, Scrambling, LongHeader, PrivateData, OtherHeaderData, UnreadHeader}
+use Rattle.packet_sync.specs.declared.field.Field.TheVariants.{TransportPriority, Discontinuity, RandomAccess, StreamPriority, OriginalClock, SpliceCountdown}
+use Rattle.packet_sync.specs.declared.field.Field.TheVariants.{AdaptationPrivateData, AdaptationExtension, Alignment, Flags, Scrambling, LongHeader}
+use Rattle.packet_sync.specs.declared.field.Field.TheVariants.{PrivateData, OtherHeaderData, UnreadHeader}
 use Rattle.packet_sync.specs.declared.left_out.FieldLeftOut.{FieldLeftOut}
 
 -- 1. One packet
@@ -24,7 +30,8 @@ with_field pid field stands found = if stands && not (is_noted found pid field) 
 unfoldable pub with_indicators : ℕ → ℕ → Bool → List FieldLeftOut → List FieldLeftOut
 with_indicators pid flags begins found =
     with_field pid OriginalClock (has_original_clock flags)
-    (with_field pid StreamPriority (has_stream_priority flags) (with_field pid RandomAccess (is_random_access flags && not begins) (with_field pid Discontinuity (is_discontinuity flags) found)))
+    (with_field pid StreamPriority (has_stream_priority flags)
+    (with_field pid RandomAccess (is_random_access flags && not begins) (with_field pid Discontinuity (is_discontinuity flags) found)))
 
 -- with the data of an adaptation field
 unfoldable pub with_adaptation_data : ℕ → ℕ → List FieldLeftOut → List FieldLeftOut
@@ -46,7 +53,8 @@ with_flags pid p found =
 unfoldable pub with_data : ℕ → List ℕ → List FieldLeftOut → List FieldLeftOut
 with_data pid p found =
     with_field pid UnreadHeader (is_cut p)
-    (with_field pid OtherHeaderData (has_other_data (slice_index p 7) (extension_flags p)) (with_field pid PrivateData (loses_private_data p) (with_field pid LongHeader (goes_on p && is_long p) found)))
+    (with_field pid OtherHeaderData (has_other_data (slice_index p 7) (extension_flags p))
+    (with_field pid PrivateData (loses_private_data p) (with_field pid LongHeader (goes_on p && is_long p) found)))
 
 -- with those of the PES header at the front of a payload; of one that is cut before its header data nothing is read
 unfoldable pub with_header : ℕ → List ℕ → List FieldLeftOut → List FieldLeftOut
@@ -59,7 +67,8 @@ with_header pid p found =
 unfoldable pub with_packet : List ℕ → List FieldLeftOut → List FieldLeftOut
 with_packet packet found =
     with_header (pid_of packet) (start_payload packet)
-    (with_adaptation (pid_of packet) (adaptation_flags packet) (begins_unit (start_payload packet)) (with_field (pid_of packet) TransportPriority (has_priority packet) found))
+    (with_adaptation (pid_of packet) (adaptation_flags packet) (begins_unit (start_payload packet))
+    (with_field (pid_of packet) TransportPriority (has_priority packet) found))
 
 -- 2. All packets
 

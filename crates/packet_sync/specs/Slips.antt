@@ -1,5 +1,6 @@
 -- Where the step of packets is lost: packets of 188 bytes, each with a sync byte at its front (ISO/IEC 13818-1, 2.4.3.2).
-use Rattle.std.specs.Prelude.{◌≤◌, ℕ, zero, suc, ◌+◌, ◌%◌, ◌==◌, ◌&&◌, ◌||◌, not, nat_lt, Bool, true, false, if◌then◌else◌, List, [], ◌∷◌, ◌++◌, length, drop, slice_get, slice_range, Option, None, Some}
+use Rattle.std.specs.Prelude.{◌≤◌, ℕ, zero, suc, ◌+◌, ◌%◌, ◌==◌, ◌&&◌, ◌||◌, not, nat_lt, Bool, true, false, if◌then◌else◌, List, [], ◌∷◌, ◌++◌, length, drop}
+use Rattle.std.specs.Prelude.{slice_get, slice_range, Option, None, Some}
 use Rattle.std.specs.Option.{option_map_or}
 use Rattle.packet_sync.specs.declared.slip.Slip.{Slip}
 

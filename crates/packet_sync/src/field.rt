@@ -34,8 +34,8 @@ pub enum Field {
     /// The header of 45 bytes that teletext (EN 300 472, 4.2) and VBI data (EN 301 775, 4.3) have, so that their data
     /// units stand in step with packets.
     LongHeader,
-    /// PES_private_data, 16 bytes, where audio description has its levels (ETSI TS 101 154, annex E): of a PES packet that
-    /// goes on with a unit, or not whole.
+    /// PES_private_data, 16 bytes, where audio description has its levels (ETSI TS 101 154, annex E): of a PES packet
+    /// that goes on with a unit, or not whole.
     PrivateData,
     /// ESCR, ES_rate, DSM_trick_mode, additional_copy_info, PES_CRC, or another part of PES_extension.
     OtherHeaderData,
@@ -146,8 +146,8 @@ pub(crate) fn is_flagged(payload: &[u8]) -> bool
     payload[0] == 0 && payload[1] == 0 && payload[2] == 1 && has_flags(payload[3])
 }
 
-/// Returns whether a PES header with a PTS is at the front of a payload: a unit begins with it. Of a header that goes on
-/// in another packet before its PTS_DTS_flags the same is taken.
+/// Returns whether a PES header with a PTS is at the front of a payload: a unit begins with it. Of a header that goes
+/// on in another packet before its PTS_DTS_flags the same is taken.
 #[tactic(auto, unfolding(crate::specs::Fields::begins_unit))]
 pub(crate) fn begins_unit(payload: &[u8]) -> bool
     ensures { result ≡ spec.begins_unit payload.now }

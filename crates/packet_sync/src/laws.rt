@@ -2,7 +2,8 @@
 
 ghost use Rattle.packet_sync.specs.Laws.{CarriedInStep, NothingElseIsLeftOut};
 
-/// States that a stream whose packets each begin 188 bytes after the packet before has no slip, and is carried unchanged.
+/// States that a stream whose packets each begin 188 bytes after the packet before has no slip, and is carried
+/// unchanged.
 pub fn carried_in_step()
     ensures { CarriedInStep }
 {}

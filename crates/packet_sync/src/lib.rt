@@ -1,10 +1,11 @@
-//! Whether the packets of a stream are in step, 188 bytes apart (ISO/IEC 13818-1, 2.4.3.2), and where that step is lost.
+//! Whether the packets of a stream are in step, 188 bytes apart (ISO/IEC 13818-1, 2.4.3.2), and where that step is
+//! lost.
 //!
 //! A [`Slip`] is a place where a packet gained or lost bytes, so that the packets after it are in another step
 //! (`specs/Slips`); the bytes between slips are carried. `laws` say that a stream in step has no slip and is carried
 //! unchanged, and that nothing but the bytes of slips is left out. [`next_stretch`] returns the carried bytes while a
-//! stream arrives (`specs/Stretches`). [`StreamNotes`] keeps the notes about its packets (`specs/Notes`): its
-//! slips, and the fields of adaptation fields and PES headers that are not written again (`specs/Fields`), each once of a PID
+//! stream arrives (`specs/Stretches`). [`StreamNotes`] keeps the notes about its packets (`specs/Notes`): its slips,
+//! and the fields of adaptation fields and PES headers that are not written again (`specs/Fields`), each once of a PID
 //! (`specs/FieldsLeftOut`). [`other_packets`] knows packets of other sizes (`specs/OtherPackets`).
 #![tactic(auto)]
 

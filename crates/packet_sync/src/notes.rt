@@ -11,8 +11,8 @@ use crate::sync_bytes::PACKET_SIZE;
 use std::alloc::{AllocError, Allocator, Global};
 use std::marker::Model;
 
-/// Notes about the packets so far: the slips, and the fields that are not written again, each once for a PID, in the order of
-/// their first packets.
+/// Notes about the packets so far: the slips, and the fields that are not written again, each once for a PID, in the
+/// order of their first packets.
 #[derive(Drop)]
 pub struct StreamNotes<A: Allocator = Global> {
     pub slips: Vec<Slip, A>,
@@ -77,8 +77,8 @@ impl<A: Allocator> StreamNotes<A> {
         Ok(())
     }
 
-    /// Notes the next bytes of a stream, as far as the bytes at hand decide, and returns how many of them are in step and left
-    /// out; `ended`: whether no more bytes follow.
+    /// Notes the next bytes of a stream, as far as the bytes at hand decide, and returns how many of them are in step
+    /// and left out; `ended`: whether no more bytes follow.
     pub fn take_stretch(&mut self, bytes: &[u8], ended: bool) -> Result<Stretch, AllocError>
         ensures noted { IfOk result (spec.IsNoted self.old self.new bytes.now ended) }
         ensures stretch { IfOk result (stretches.IsStretch bytes.now ended) }

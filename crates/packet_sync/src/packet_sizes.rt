@@ -5,7 +5,8 @@ ghost use Rattle.packet_sync.specs.OtherPackets as spec;
 
 use crate::sync_bytes::{is_in_step, is_sync};
 
-/// The first bytes of a stream that show its packets' size: the bytes up to the third sync byte of packets of 204 bytes.
+/// The first bytes of a stream that show its packets' size: the bytes up to the third sync byte of packets of 204
+/// bytes.
 pub const FRONT: usize = 409;
 
 /// What other packets a stream has.

@@ -5,8 +5,8 @@ ghost use Rattle.packet_sync.specs.Stretches as spec;
 
 use crate::sync_bytes::{PACKET_SIZE, slip_size};
 
-/// The number of bytes that decide whether the step continues after a packet, and if not, where a new step begins: up to the
-/// third sync byte of the last place that is searched.
+/// The number of bytes that decide whether the step continues after a packet, and if not, where a new step begins: up
+/// to the third sync byte of the last place that is searched.
 pub const REACH: usize = 1128;
 
 /// Bytes in step, and the bytes after them that are in no packet.
@@ -23,8 +23,8 @@ fn decisive(ended: bool) -> usize
     if ended { PACKET_SIZE } else { REACH }
 }
 
-/// Returns which of the next bytes of a stream are carried, as far as the bytes at hand decide, and how many are left out
-/// after them; `ended`: whether no more bytes follow.
+/// Returns which of the next bytes of a stream are carried, as far as the bytes at hand decide, and how many are left
+/// out after them; `ended`: whether no more bytes follow.
 pub fn next_stretch(bytes: &[u8], ended: bool) -> Stretch
     ensures stretch { spec.IsStretch bytes.now ended result }
     ensures stepped { spec.IsSteppedSoFar bytes.now ended result }

@@ -1,5 +1,6 @@
 -- A header is read exactly if the bytes are one by the table of its fields.
-use Rattle.std.proofs.Common.{◌≡◌, ℕ, ◌+◌, ◌*◌, ◌/◌, ◌%◌, ◌^◌, ◌<◌, ◌≤◌, ◌&&◌, not, Bool, true, false, cond, Option, None, Result, Ok, Err, List, [], ◌∷◌, ◌++◌, length, take, drop, slice_index, refl, sym, ap, ◌∙◌, subst, arith, ltb, eqb, suc, ◌⊎◌, inl, inr, IfOk}
+use Rattle.std.proofs.Common.{◌≡◌, ℕ, ◌+◌, ◌*◌, ◌/◌, ◌%◌, ◌^◌, ◌<◌, ◌≤◌, ◌&&◌, not, Bool, true, false, cond, Option, None, Result, Ok, Err, List, [], ◌∷◌, ◌++◌}
+use Rattle.std.proofs.Common.{length, take, drop, slice_index, refl, sym, ap, ◌∙◌, subst, arith, ltb, eqb, suc, ◌⊎◌, inl, inr, IfOk}
 use Rattle.std.proofs.lemmas.Bool.{eqb-true, eq-eqb, or_parts, or_from, ltb-false, le-ltb, ne_eqb, cases_eq}
 use Rattle.std.proofs.lemmas.List.{length-append, length-take-le, take-append-drop, take_at}
 use Rattle.bit_fields.specs.Fields.{number, fields, bit, flag, IsBytes}
@@ -86,8 +87,15 @@ flags_takes id len (first ∷ second ∷ count ∷ bytes) header size fits flagg
     let b = bind_ok (stamps_at (second / 64) (take count bytes)) _ (header, size) n.1 in
     let more : IsBytes bytes = IsBytes-tail count bytes (IsBytes-tail second (count ∷ bytes) (IsBytes-tail first (second ∷ count ∷ bytes) fits)) in
     let s = stamps_takes (second / 64) (take count bytes) b.0 (IsBytes-take count bytes more) b.1 in
-    let made : ◌≡◌ {A = Result (PesHeader × ℕ) PesError} (Ok (record { id = id; len = len; stamps = b.0; flags = flags_in first; data_length = count; private_data = private_at second (take count bytes) }, 9 + count)) (Ok (header, size)) = b.2 in
-    let is : ◌≡◌ {A = PesHeader × ℕ} (record { id = id; len = len; stamps = b.0; flags = flags_in first; data_length = count; private_data = private_at second (take count bytes) }, 9 + count) (header, size) = cc (made) in
+    let made : ◌≡◌ {A = Result (PesHeader × ℕ) PesError}
+    (Ok (
+      record { id = id; len = len; stamps = b.0; flags = flags_in first; data_length = count; private_data = private_at second (take count bytes) },
+      9 + count,
+    )) (Ok (header, size)) = b.2 in
+    let is : ◌≡◌ {A = PesHeader × ℕ} (
+      record { id = id; len = len; stamps = b.0; flags = flags_in first; data_length = count; private_data = private_at second (take count bytes) },
+      9 + count,
+    ) (header, size) = cc (made) in
     let there : count ≤ length bytes = ltb-false _ _ g.0 in
     let took : length (take count bytes) ≡ count = length-take-le count bytes there in
     let parts : length (take count bytes) ≡ length s.front + length s.others = ap (length {A = ℕ}) s.is ∙ length-append s.front s.others in
@@ -121,14 +129,17 @@ flags_takes id len (first ∷ []) header size fits flagged read = absurd cc
 flags_takes id len (first ∷ second ∷ []) header size fits flagged read = absurd cc
 
 after_takes : (id len : ℕ) (bytes : List ℕ) (header : PesHeader) (size : ℕ) → IsBytes bytes
-    → cond (has_flags id) (flags_at id len bytes) (Ok (record { id = id; len = len; stamps = Absent; flags = no_flags; data_length = 0; private_data = None }, 6)) ≡ Ok (header, size)
+    → cond (has_flags id) (flags_at id len bytes)
+    (Ok (record { id = id; len = len; stamps = Absent; flags = no_flags; data_length = 0; private_data = None }, 6)) ≡ Ok (header, size)
     → ReadsAfter id len bytes header size
 after_takes id len bytes header size fits read =
     elim (chosen (has_flags id) _ _ _ read) [
       | inl some ↦ flags_takes id len bytes header size fits some.0 some.1
       | inr none ↦
-          let made : ◌≡◌ {A = Result (PesHeader × ℕ) PesError} (Ok (record { id = id; len = len; stamps = Absent; flags = no_flags; data_length = 0; private_data = None }, 6)) (Ok (header, size)) = none.1 in
-          let is : ◌≡◌ {A = PesHeader × ℕ} (record { id = id; len = len; stamps = Absent; flags = no_flags; data_length = 0; private_data = None }, 6) (header, size) = cc (made) in
+          let made : ◌≡◌ {A = Result (PesHeader × ℕ) PesError}
+          (Ok (record { id = id; len = len; stamps = Absent; flags = no_flags; data_length = 0; private_data = None }, 6)) (Ok (header, size)) = none.1 in
+          let is : ◌≡◌ {A = PesHeader × ℕ} (record { id = id; len = len; stamps = Absent; flags = no_flags; data_length = 0; private_data = None }, 6)
+          (header, size) = cc (made) in
           subst (λ (x : PesHeader × ℕ). ReadsAfter id len bytes x.0 x.1) is (record {
             after = [];
             rest = bytes;
@@ -176,10 +187,14 @@ header_takes (p ∷ q ∷ r ∷ id ∷ high ∷ low ∷ bytes) header size fits 
     }
 header_takes [] header size fits read = ok_not_err (header, size) Short (sym (guard_ok (misses_prefix []) Prefix (Err Short) (header, size) read).1)
 header_takes (p ∷ []) header size fits read = ok_not_err (header, size) Short (sym (guard_ok (misses_prefix (p ∷ [])) Prefix (Err Short) (header, size) read).1)
-header_takes (p ∷ q ∷ []) header size fits read = ok_not_err (header, size) Short (sym (guard_ok (misses_prefix (p ∷ q ∷ [])) Prefix (Err Short) (header, size) read).1)
-header_takes (p ∷ q ∷ r ∷ []) header size fits read = ok_not_err (header, size) Short (sym (guard_ok (misses_prefix (p ∷ q ∷ r ∷ [])) Prefix (Err Short) (header, size) read).1)
-header_takes (p ∷ q ∷ r ∷ id ∷ []) header size fits read = ok_not_err (header, size) Short (sym (guard_ok (misses_prefix (p ∷ q ∷ r ∷ id ∷ [])) Prefix (Err Short) (header, size) read).1)
-header_takes (p ∷ q ∷ r ∷ id ∷ high ∷ []) header size fits read = ok_not_err (header, size) Short (sym (guard_ok (misses_prefix (p ∷ q ∷ r ∷ id ∷ high ∷ [])) Prefix (Err Short) (header, size) read).1)
+header_takes (p ∷ q ∷ []) header size fits read =
+    ok_not_err (header, size) Short (sym (guard_ok (misses_prefix (p ∷ q ∷ [])) Prefix (Err Short) (header, size) read).1)
+header_takes (p ∷ q ∷ r ∷ []) header size fits read =
+    ok_not_err (header, size) Short (sym (guard_ok (misses_prefix (p ∷ q ∷ r ∷ [])) Prefix (Err Short) (header, size) read).1)
+header_takes (p ∷ q ∷ r ∷ id ∷ []) header size fits read =
+    ok_not_err (header, size) Short (sym (guard_ok (misses_prefix (p ∷ q ∷ r ∷ id ∷ [])) Prefix (Err Short) (header, size) read).1)
+header_takes (p ∷ q ∷ r ∷ id ∷ high ∷ []) header size fits read =
+    ok_not_err (header, size) Short (sym (guard_ok (misses_prefix (p ∷ q ∷ r ∷ id ∷ high ∷ [])) Prefix (Err Short) (header, size) read).1)
 
 start_numbers : (p q r id high low : ℕ) (header : PesHeader) → p < 256 → q < 256 → r < 256 → id < 256 → high < 256 → low < 256
     → number (p ∷ q ∷ r ∷ id ∷ high ∷ low ∷ []) ≡ fields ((24, 1) ∷ (8, header.id) ∷ (16, header.len) ∷ [])
@@ -275,7 +290,8 @@ flagged_again header first second count stamps others rest hf hs hc fits flags s
     let there : ltb (length ((stamps ++ others) ++ rest)) count ≡ false = le-ltb _ _ (omega (arith, length-append (stamps ++ others) rest, whole)) in
     let took : take count ((stamps ++ others) ++ rest) ≡ stamps ++ others = take_at (stamps ++ others) rest count whole in
     let good : is_bad_flags first second ≡ false = bad_again first second n.two (λ one. flags_not_one header.stamps (sym n.stamps_are ∙ one)) in
-    let long : is_too_short header.len count ≡ false = counts_again header.len count (subst (λ (x : ℕ). (header.len ≡ 0) ⊎ (3 + x ≤ header.len)) (sym sum) counted) in
+    let long : is_too_short header.len count ≡ false =
+    counts_again header.len count (subst (λ (x : ℕ). (header.len ≡ 0) ⊎ (3 + x ≤ header.len)) (sym sum) counted) in
     let stamp : stamps_at (second / 64) (take count ((stamps ++ others) ++ rest)) ≡ Ok header.stamps =
     rw (n.stamps_are, took) (stamps_again header.stamps stamps others fits stand) in
     let same : private_at second (take count ((stamps ++ others) ++ rest)) ≡ header.private_data = ap (private_at second) took ∙ sym private in
@@ -307,10 +323,12 @@ flagged_by header (first ∷ second ∷ count ∷ []) stamps others rest fits_fl
 flagged_by header [] stamps others rest fits_flags fits stands sized stand counted private = absurd (omega (arith, stands.len))
 flagged_by header (first ∷ []) stamps others rest fits_flags fits stands sized stand counted private = absurd (omega (arith, stands.len))
 flagged_by header (first ∷ second ∷ []) stamps others rest fits_flags fits stands sized stand counted private = absurd (omega (arith, stands.len))
-flagged_by header (first ∷ second ∷ count ∷ more ∷ flags) stamps others rest fits_flags fits stands sized stand counted private = absurd (omega (arith, stands.len))
+flagged_by header (first ∷ second ∷ count ∷ more ∷ flags) stamps others rest fits_flags fits stands sized stand counted private =
+    absurd (omega (arith, stands.len))
 
 after_by : (b : Bool) (header : PesHeader) (after rest : List ℕ) → IsBytes after → IsAfter b after header
-    → cond b (flags_at header.id header.len (after ++ rest)) (Ok (record { id = header.id; len = header.len; stamps = Absent; flags = no_flags; data_length = 0; private_data = None }, 6))
+    → cond b (flags_at header.id header.len (after ++ rest))
+    (Ok (record { id = header.id; len = header.len; stamps = Absent; flags = no_flags; data_length = 0; private_data = None }, 6))
     ≡ Ok (header, 6 + length after)
 after_by true header after rest fits stands =
     let whole : IsBytes (stands.flags ++ (stands.stamps ++ stands.others)) = subst IsBytes stands.is fits in
@@ -322,7 +340,8 @@ after_by true header after rest fits stands =
     (IsBytes-append_left stands.flags (stands.stamps ++ stands.others) whole) (IsBytes-append_left stands.stamps stands.others later)
     stands.flags_stand stands.data_is stands.stamps_stand counted stands.private_is)
 after_by false header after rest fits stands =
-    let whole : ◌≡◌ {A = PesHeader} (record { id = header.id; len = header.len; stamps = Absent; flags = no_flags; data_length = 0; private_data = None }) header =
+    let whole : ◌≡◌ {A = PesHeader} (record { id = header.id; len = header.len; stamps = Absent; flags = no_flags; data_length = 0; private_data = None })
+    header =
     header_by header Absent no_flags 0 None (sym stands.1) (sym stands.2) (sym stands.3) (sym stands.4) in
     let size : 6 ≡ 6 + length after = sym (ap (λ (t : List ℕ). 6 + length t) stands.0) in
     ap (λ (h : PesHeader). Ok (h, 6)) whole ∙ ap (λ (n : ℕ). Ok (header, n)) size
@@ -330,14 +349,16 @@ after_by false header after rest fits stands =
 -- what follows PES_packet_length is read
 abbrev pub ReadsRest : PesHeader → List ℕ → List ℕ → Type 0
 ReadsRest header after rest =
-    cond (has_flags header.id) (flags_at header.id header.len (after ++ rest)) (Ok (record { id = header.id; len = header.len; stamps = Absent; flags = no_flags; data_length = 0; private_data = None }, 6))
+    cond (has_flags header.id) (flags_at header.id header.len (after ++ rest))
+    (Ok (record { id = header.id; len = header.len; stamps = Absent; flags = no_flags; data_length = 0; private_data = None }, 6))
     ≡ Ok (header, 6 + length after)
 
 after_again : (header : PesHeader) (after rest : List ℕ) → IsBytes after → IsAfter (has_flags header.id) after header → ReadsRest header after rest
 after_again header after rest fits stands = after_by (has_flags header.id) header after rest fits stands
 
 -- and so is the whole
-pub start_again : (header : PesHeader) (start after rest : List ℕ) → IsBytes start → IsStart start header → ReadsRest header after rest → header_at (start ++ (after ++ rest)) ≡ Ok (header, length start + length after)
+pub start_again : (header : PesHeader) (start after rest : List ℕ) → IsBytes start → IsStart start header → ReadsRest header after rest →
+    header_at (start ++ (after ++ rest)) ≡ Ok (header, length start + length after)
 unfolding header_at start_at
 start_again header (p ∷ q ∷ r ∷ id ∷ high ∷ low ∷ []) after rest fits stands read =
     let n = start_numbers p q r id high low header (fits 0) (fits 1) (fits 2) (fits 3) (fits 4) (fits 5) stands.spelled stands.id stands.packet_length in

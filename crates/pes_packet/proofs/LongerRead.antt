@@ -1,5 +1,6 @@
 -- More bytes change no answer but that the bytes were too short.
-use Rattle.std.proofs.Common.{◌≡◌, ◌≢◌, ℕ, ◌+◌, ◌*◌, ◌≤◌, ◌==◌, ◌||◌, not, Bool, true, false, cond, None, Result, Ok, Err, List, [], ◌∷◌, ◌++◌, length, refl, arith, ltb}
+use Rattle.std.proofs.Common.{◌≡◌, ◌≢◌, ℕ, ◌+◌, ◌*◌, ◌≤◌, ◌==◌, ◌||◌, not, Bool, true, false, cond, None, Result, Ok, Err, List, [], ◌∷◌, ◌++◌, length, refl}
+use Rattle.std.proofs.Common.{arith, ltb}
 use Rattle.std.proofs.lemmas.Bool.{ltb-false, le-ltb}
 use Rattle.std.proofs.lemmas.List.{length-append, take-append-le}
 use Rattle.std.specs.List.{zip, list_any}
@@ -37,7 +38,8 @@ tested : (b : Bool) (x y : Result (PesHeader × ℕ) PesError) → (b ≡ false 
 tested true x y h some = absurd (some refl)
 tested false x y h some = h refl
 
-sized : (b c : Bool) (x y : Result (PesHeader × ℕ) PesError) → (b ≡ false → c ≡ false) → (b ≡ false → x ≡ y) → Stays (cond b (Err Short) y) (cond c (Err Short) x)
+sized : (b c : Bool) (x y : Result (PesHeader × ℕ) PesError) → (b ≡ false → c ≡ false) → (b ≡ false → x ≡ y) →
+    Stays (cond b (Err Short) y) (cond c (Err Short) x)
 sized true c x y h k some = absurd (some refl)
 sized false c x y h k some = rw (h refl) (k refl)
 
@@ -61,7 +63,8 @@ start_stays : (bytes more : List ℕ) → Stays (start_at bytes) (start_at (byte
 unfolding start_at
 start_stays (p ∷ q ∷ r ∷ id ∷ high ∷ low ∷ bytes) more =
     either_stays (has_flags id) (flags_at id (high * 256 + low) bytes) (flags_at id (high * 256 + low) (bytes ++ more))
-    (Ok (record { id = id; len = high * 256 + low; stamps = Absent; flags = no_flags; data_length = 0; private_data = None }, 6)) (flags_stay id (high * 256 + low) bytes more)
+    (Ok (record { id = id; len = high * 256 + low; stamps = Absent; flags = no_flags; data_length = 0; private_data = None }, 6))
+    (flags_stay id (high * 256 + low) bytes more)
 start_stays [] more = λ some. absurd (some refl)
 start_stays (p ∷ []) more = λ some. absurd (some refl)
 start_stays (p ∷ q ∷ []) more = λ some. absurd (some refl)

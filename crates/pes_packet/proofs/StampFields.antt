@@ -1,5 +1,6 @@
 -- A stamp is read exactly if the bytes are one by the table of its fields.
-use Rattle.std.proofs.Common.{◌≡◌, ℕ, ◌+◌, ◌*◌, ◌/◌, ◌%◌, ◌^◌, ◌<◌, ◌≤◌, ◌==◌, Bool, true, false, cond, Result, Ok, Err, List, [], ◌∷◌, ◌++◌, length, take, drop, refl, sym, ap, ◌∙◌, subst, arith, ltb, append_assoc, ◌⊎◌, inl, inr}
+use Rattle.std.proofs.Common.{◌≡◌, ℕ, ◌+◌, ◌*◌, ◌/◌, ◌%◌, ◌^◌, ◌<◌, ◌≤◌, ◌==◌, Bool, true, false, cond, Result, Ok, Err, List, [], ◌∷◌, ◌++◌, length, take}
+use Rattle.std.proofs.Common.{drop, refl, sym, ap, ◌∙◌, subst, arith, ltb, append_assoc, ◌⊎◌, inl, inr}
 use Rattle.std.proofs.lemmas.Bool.{eqb-true, eq-eqb, and_parts, and_from, ltb-false, le-ltb}
 use Rattle.std.proofs.lemmas.List.{length-append, length-take-le, take-append-drop, take_at, drop_at}
 use Rattle.bit_fields.specs.Fields.{number, fields, IsBytes}
@@ -134,7 +135,8 @@ pts_dts_takes flags bytes stamps fits three read =
     let pts_stands : IsStamp (take 5 bytes) p.0 =
     stamp_takes (take 5 bytes) p.0 (IsBytes-take 5 bytes fits) (five_long bytes first.some) (ap stamp_at (sym first.front) ∙ p.1) in
     let dts_stands : IsStamp (take 5 (drop 5 bytes)) d.0 =
-    stamp_takes (take 5 (drop 5 bytes)) d.0 (IsBytes-take 5 (drop 5 bytes) (IsBytes-drop 5 bytes fits)) (five_long (drop 5 bytes) more) (ap stamp_at (sym front) ∙ d.1) in
+    stamp_takes (take 5 (drop 5 bytes)) d.0 (IsBytes-take 5 (drop 5 bytes) (IsBytes-drop 5 bytes fits)) (five_long (drop 5 bytes) more)
+    (ap stamp_at (sym front) ∙ d.1) in
     subst (λ (x : Stamps). ReadsStamps flags bytes x) is (record {
       front = take 5 bytes ++ take 5 (drop 5 bytes);
       others = drop 5 (drop 5 bytes);
@@ -191,12 +193,14 @@ pts_dts_again front others pts dts fits stands =
     ap (λ (t : List ℕ). t ++ others) stands.is ∙ append_assoc stands.first stands.second others in
     let p : stamp_at stands.first ≡ Ok pts = stamp_again stands.first pts (IsBytes-append_left stands.first stands.second both) stands.pts_stands in
     let d : stamp_at stands.second ≡ Ok dts = stamp_again stands.second dts (IsBytes-append_right stands.first stands.second both) stands.dts_stands in
-    let f : five_at (stands.first ++ (stands.second ++ others)) ≡ Ok (stands.first, stands.second ++ others) = five_front stands.first (stands.second ++ others) stands.pts_stands.len in
+    let f : five_at (stands.first ++ (stands.second ++ others)) ≡ Ok (stands.first, stands.second ++ others) =
+    five_front stands.first (stands.second ++ others) stands.pts_stands.len in
     let s : five_at (stands.second ++ others) ≡ Ok (stands.second, others) = five_front stands.second others stands.dts_stands.len in
     rw (is, f, s, p, d) refl
 
 -- stamps are read from the front of header data
-pub stamps_again : (stamps : Stamps) (front others : List ℕ) → IsBytes front → IsStamps front stamps → stamps_at (stamp_flags stamps) (front ++ others) ≡ Ok stamps
+pub stamps_again : (stamps : Stamps) (front others : List ℕ) → IsBytes front → IsStamps front stamps →
+    stamps_at (stamp_flags stamps) (front ++ others) ≡ Ok stamps
 unfolding stamps_at
 stamps_again Absent front others fits stands = refl
 stamps_again (Pts pts) front others fits stands = pts_again front others pts fits stands

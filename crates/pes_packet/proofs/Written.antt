@@ -1,5 +1,7 @@
 -- A written header is one by the table of fields, and is read again.
-use Rattle.std.proofs.Common.{◌≡◌, ℕ, ◌+◌, ◌*◌, ◌/◌, ◌%◌, ◌^◌, ◌<◌, ◌≤◌, ◌==◌, ◌&&◌, ◌||◌, not, nat_le, zero, suc, ◌-◌, Bool, true, false, cond, Option, Some, None, is_some, option_map, IfSome, Ok, drop, List, [], ◌∷◌, ◌++◌, length, replicate, refl, sym, ap, ◌∙◌, arith, ◌⊎◌, inl, inr, IsTrue}
+use Rattle.std.proofs.Common.{◌≡◌, ℕ, ◌+◌, ◌*◌, ◌/◌, ◌%◌, ◌^◌, ◌<◌, ◌≤◌, ◌==◌, ◌&&◌, ◌||◌, not, nat_le, zero, suc, ◌-◌, Bool, true, false, cond, Option, Some}
+use Rattle.std.proofs.Common.{None, is_some, option_map, IfSome, Ok, drop, List, [], ◌∷◌, ◌++◌, length, replicate, refl, sym, ap, ◌∙◌, arith, ◌⊎◌, inl, inr}
+use Rattle.std.proofs.Common.{IsTrue}
 use Rattle.std.proofs.lemmas.Bool.{eqb-true, ne_eqb, and_parts, or_from, leb-true, le-leb, le-ltb}
 use Rattle.std.proofs.lemmas.List.{length-append, length-replicate, take_at, drop_at}
 use Rattle.bit_fields.specs.Fields.{IsBytes, bit, flag}
@@ -11,7 +13,8 @@ use Rattle.pes_packet.specs.Marks.{flag_bits, data_length, extension, first_sixt
 use Rattle.pes_packet.specs.PrivateData.{before_extension, private_at, private_in}
 use Rattle.pes_packet.specs.Reading.{header_at}
 use Rattle.pes_packet.specs.Syntax.{IsStamp, IsStamps, IsStart, IsFlags, IsPesHeader, stamp_flags}
-use Rattle.pes_packet.specs.Laws.{written_header, plain_header, HasSixteen, MarksAreRead, WrittenIsRead, WrittenIsHeader, HeaderSizes, HeaderCounts, WithoutMarks}
+use Rattle.pes_packet.specs.Laws.{written_header, plain_header, HasSixteen, MarksAreRead, WrittenIsRead, WrittenIsHeader, HeaderSizes, HeaderCounts}
+use Rattle.pes_packet.specs.Laws.{WithoutMarks}
 use Rattle.pes_packet.specs.declared.time_stamps.Stamps.{Stamps}
 use Rattle.pes_packet.specs.declared.time_stamps.Stamps.TheVariants.{Pts, PtsDts}
 use Rattle.pes_packet.specs.declared.reading.PesHeader.{PesHeader}
@@ -151,7 +154,8 @@ first_again bytes more =
     rw (le-ltb (length (sixteen bytes ++ more)) 16 some, take_at (sixteen bytes) more 16 (sixteen_size bytes)) refl
 
 private_again : (second : ℕ) (private : Option (List ℕ)) (wire more : List ℕ) → flag (second + 0) 1 ≡ false → flag (second + 1) 1 ≡ true
-    → before_extension (second + 1) ≡ length wire → private_at (second + bit (is_some private)) (wire ++ (extension private ++ more)) ≡ option_map sixteen private
+    → before_extension (second + 1) ≡ length wire →
+    private_at (second + bit (is_some private)) (wire ++ (extension private ++ more)) ≡ option_map sixteen private
 unfolding private_at private_in
 private_again second None wire more unset set skips = rw unset refl
 private_again second (Some bytes) wire more unset set skips =
@@ -196,7 +200,8 @@ with_stands id size marks second stamps wire rest hi flagged hs announced unset 
       | inl none ↦ inl none
       | inr some ↦ inr (omega (arith, some, joined))
     ] in
-    let front : IsStart start header = start_stands id (packet_length (3 + data_length marks n + size)) header hi (packet_length_fits (3 + data_length marks n + size)) refl refl in
+    let front : IsStart start header =
+    start_stands id (packet_length (3 + data_length marks n + size)) header hi (packet_length_fits (3 + data_length marks n + size)) refl refl in
     let flag_bytes : IsFlags flags marks.flags stamps (data_length marks n) =
     flags_stand second (data_length marks n) (is_some marks.private_data) marks.flags stamps below announced hs in
     let flags_fit : IsBytes flags =
@@ -224,7 +229,8 @@ with_stands id size marks second stamps wire rest hi flagged hs announced unset 
           counted = counted;
         });
       };
-      read = start_again header start (flags ++ (wire ++ others)) rest (start_is_bytes id (packet_length (3 + data_length marks n + size)) hi (packet_length_fits (3 + data_length marks n + size)))
+      read = start_again header start (flags ++ (wire ++ others)) rest
+          (start_is_bytes id (packet_length (3 + data_length marks n + size)) hi (packet_length_fits (3 + data_length marks n + size)))
           front (rw flagged (flagged_by header flags wire others rest flags_fit fits flag_bytes filled stand counted private))
           ∙ ap (λ (k : ℕ). Ok (header, k)) (sym (length-append start (flags ++ (wire ++ others))));
     }
@@ -317,7 +323,11 @@ with_size : (id size : ℕ) (marks : Marks) (second : ℕ) (wire : List ℕ) →
     → length (header_with id size marks second wire) ≡ 9 + data_length marks (length wire)
 unfolding header_with pes_start_bytes
 with_size id size marks second wire short =
-    omega (arith, length-append wire (extension marks.private_data ++ stuffing marks (length wire)), filled_by marks.long marks.private_data (length wire) short)
+    omega (
+      arith,
+      length-append wire (extension marks.private_data ++ stuffing marks (length wire)),
+      filled_by marks.long marks.private_data (length wire) short,
+    )
 
 sizes : (b : Bool) (id size : ℕ) (marks : Marks) (p d : ℕ)
     → length (cond b (pts_header id size marks p) (pts_dts_header id size marks p d)) ≡ cond b (9 + data_length marks 5) (9 + data_length marks 10)

@@ -1,5 +1,6 @@
 -- What the laws of this crate say.
-use Rattle.std.specs.Prelude.{◌≡◌, ◌≢◌, ℕ, option_map, IfSome, ◌+◌, ◌*◌, ◌<◌, ◌≤◌, ◌==◌, if◌then◌else◌, Ok, Err, Some, List, [], ◌∷◌, ◌++◌, length, take, drop, slice_get, All, Bool, IsTrue}
+use Rattle.std.specs.Prelude.{◌≡◌, ◌≢◌, ℕ, option_map, IfSome, ◌+◌, ◌*◌, ◌<◌, ◌≤◌, ◌==◌, if◌then◌else◌, Ok, Err, Some, List, [], ◌∷◌, ◌++◌, length, take, drop}
+use Rattle.std.specs.Prelude.{slice_get, All, Bool, IsTrue}
 use Rattle.std.specs.List.{concat}
 use Rattle.pes_packet.specs.StreamIds.{fits_packet}
 use Rattle.pes_packet.specs.Reading.{header_at}
@@ -98,5 +99,6 @@ pub record PayloadsJoin (bytes : List ℕ) : Type 0 where
 -- the payloads of a unit: their number, their bytes, and that joined they are its PES packet
 pub record UnitPiecesJoin (access : Bool) (pes : List ℕ) : Type 0 where
   pub count : length (unit_pieces access pes) ≡ piece_count (field_size access + length pes)
-  pub each : (q : ℕ) → q < piece_count (field_size access + length pes) → slice_get (unit_pieces access pes) q ≡ Some (part_of (field_size access) (184 * q) pes)
+  pub each : (q : ℕ) → q < piece_count (field_size access + length pes) →
+      slice_get (unit_pieces access pes) q ≡ Some (part_of (field_size access) (184 * q) pes)
   pub joined : concat (unit_pieces access pes) ≡ pes

@@ -1,5 +1,6 @@
 -- Reading a PES header from left to right: the value, or the first refusal (ISO/IEC 13818-1, 2.4.3.6 and 2.4.3.7).
-use Rattle.std.specs.Prelude.{ℕ, ◌+◌, ◌*◌, ◌/◌, ◌%◌, ◌^◌, ◌==◌, ◌&&◌, ◌||◌, not, nat_lt, Bool, if◌then◌else◌, None, Result, Ok, Err, List, [], ◌∷◌, length, take, drop, slice_index}
+use Rattle.std.specs.Prelude.{ℕ, ◌+◌, ◌*◌, ◌/◌, ◌%◌, ◌^◌, ◌==◌, ◌&&◌, ◌||◌, not, nat_lt, Bool, if◌then◌else◌, None, Result, Ok, Err, List, [], ◌∷◌, length}
+use Rattle.std.specs.Prelude.{take, drop, slice_index}
 use Rattle.std.specs.List.{zip, list_any}
 use Rattle.bit_fields.specs.Reading.{◌>>=◌}
 use Rattle.pes_packet.specs.StreamIds.{has_flags}
@@ -67,7 +68,10 @@ data_at id len first second size bytes =
     if is_bad_flags first second then Err BadFlags
     else (if is_too_short len size then Err Length
     else (stamps_at (second / 64) (take size bytes) >>= (λ stamps.
-    Ok (record { id = id; len = len; stamps = stamps; flags = flags_in first; data_length = size; private_data = private_at second (take size bytes) }, 9 + size))))
+    Ok (
+      record { id = id; len = len; stamps = stamps; flags = flags_in first; data_length = size; private_data = private_at second (take size bytes) },
+      9 + size,
+    ))))
 
 -- two flag bytes, PES_header_data_length, and that many bytes at hand
 unfoldable pub flags_at : ℕ → ℕ → List ℕ → Result (PesHeader × ℕ) PesError

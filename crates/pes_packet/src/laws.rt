@@ -24,8 +24,8 @@ pub fn marks_have_sixteen()
     ensures { MarksHaveSixteen }
 {}
 
-/// States that a header that `write_header` writes has 45 bytes where it is long, else 14, or 19 with a DTS, and 17 more
-/// with PES_private_data.
+/// States that a header that `write_header` writes has 45 bytes where it is long, else 14, or 19 with a DTS, and 17
+/// more with PES_private_data.
 pub fn header_sizes()
     ensures { HeaderSizes }
 {}
@@ -51,8 +51,8 @@ pub fn payloads_join()
     ensures { (bytes : List ℕ) → PayloadsJoin bytes }
 {}
 
-/// States that the payloads of a unit have 184 bytes each, less the two in front of a unit with which a decoder may begin,
-/// and that joined they are its PES packet.
+/// States that the payloads of a unit have 184 bytes each, less the two in front of a unit with which a decoder may
+/// begin, and that joined they are its PES packet.
 pub fn unit_pieces_join()
     ensures { (access : Bool) (pes : List ℕ) → UnitPiecesJoin access pes }
 {}

@@ -1,10 +1,10 @@
 //! Packetized elementary streams (ISO/IEC 13818-1, 2.4.3.6 and 2.4.3.7): access units, the headers of
 //! PES packets, written and read, and the payloads that a PES packet is cut into.
 //!
-//! Definitions first: `specs/StreamIds` says what each stream_id may carry, `specs/Marks` what packets say of a unit beside
-//! its stamps, `specs/PrivateData` where PES_private_data is in a header, `specs/Syntax` is the
-//! standard's table of the header's fields, `specs/Reading` reads them from left to right, `specs/Encoding`
-//! writes them, `specs/Payloads` has the payloads of a packet.
+//! Definitions first: `specs/StreamIds` says what each stream_id may carry, `specs/Marks` what packets say of a unit
+//! beside its stamps, `specs/PrivateData` where PES_private_data is in a header, `specs/Syntax` is the standard's table
+//! of the header's fields, `specs/Reading` reads them from left to right, `specs/Encoding` writes them,
+//! `specs/Payloads` has the payloads of a packet.
 #![tactic(auto)]
 
 mod access_unit;

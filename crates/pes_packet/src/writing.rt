@@ -43,11 +43,11 @@ pub fn packet_size<A: Allocator>(base0: u64, unit: &Unit<A>) -> u64
     header + unit.marks.extension_size() as u64 + size
 }
 
-/// Writes the header of a PES packet: stream_id `id`, a unit of `size` bytes with its marks, its stamps in
-/// units of 90 kHz, each modulo 2^33. A DTS is written exactly where the two stamps on the wire differ, so
-/// the header has 14 bytes or 19, and 17 more with PES_private_data, or 45 where the marks ask for a long one. PES_packet_length is 0 where 16
-/// bits do not count the packet: if the unit and what its marks take have at most 65,522 bytes, they do.
-/// `fits_packet` tests the requirements.
+/// Writes the header of a PES packet: stream_id `id`, a unit of `size` bytes with its marks, its stamps in units of 90
+/// kHz, each modulo 2^33. A DTS is written exactly where the two stamps on the wire differ, so the header has 14 bytes
+/// or 19, and 17 more with PES_private_data, or 45 where the marks ask for a long one. PES_packet_length is 0 where 16
+/// bits do not count the packet: if the unit and what its marks take have at most 65,522 bytes, they do. `fits_packet`
+/// tests the requirements.
 #[tactic(auto, unfolding(crate::specs::Encoding::pes_header_bytes))]
 pub fn write_header(id: u8, size: usize, marks: Marks, pts: u64, dts: u64) -> ArrayVec<u8, 45>
     requires { IsTrue (fits_packet id size) }

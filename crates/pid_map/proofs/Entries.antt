@@ -10,7 +10,8 @@ use Rattle.indexmap.proofs.RemoveLemmas.{own_first}
 
 module _ {X : Type 0} (pid i : ℕ) (entries : List (ℕ × X)) where
   -- a PID has its index where its entry is
-  pub index_there : (value : X) → IsDistinct nat_eq (keys_of entries) → slice_get entries i ≡ Some (pid, value) → position (nat_eq pid) (keys_of entries) ≡ Some i
+  pub index_there : (value : X) → IsDistinct nat_eq (keys_of entries) → slice_get entries i ≡ Some (pid, value) →
+      position (nat_eq pid) (keys_of entries) ≡ Some i
   index_there value unique at = index-first (nat_eq pid) entries i (own_first nat_eq nat_eq_equiv entries i pid value unique at)
 
   -- its value is there

@@ -58,7 +58,8 @@ impl<V, A: Allocator> PidMap<V, A> {
         &self.entries
     }
 
-    /// Returns the index of the PID's entry, if it is the entry of the last PID with the same rest. It searches nothing.
+    /// Returns the index of the PID's entry, if it is the entry of the last PID with the same rest. It searches
+    /// nothing.
     #[inline(always)]
     pub fn noted(&self, pid: u16) -> Option<usize>
         ensures index { IfSome result (λ i. position (nat_eq pid) (keys_of self.now.entries) ≡ Some i) }

@@ -1,5 +1,6 @@
 -- The packets of the last window are counted.
-use Rattle.std.proofs.Common.{◌≡◌, ℕ, ◌+◌, ◌^◌, ◌<◌, ◌≤◌, ◌==◌, Bool, true, false, cond, nat_eq, List, [], ◌∷◌, length, filter, Option, Some, true≢false, refl, sym, ap, subst, ◌∙◌, arith}
+use Rattle.std.proofs.Common.{◌≡◌, ℕ, ◌+◌, ◌^◌, ◌<◌, ◌≤◌, ◌==◌, Bool, true, false, cond, nat_eq, List, [], ◌∷◌, length, filter, Option, Some, true≢false, refl}
+use Rattle.std.proofs.Common.{sym, ap, subst, ◌∙◌, arith}
 use Rattle.std.specs.Prelude.{◌&&◌}
 use Rattle.std.proofs.lemmas.Bool.Decides.{nat_tests}
 use Rattle.std.specs.Map.{lookup}
@@ -34,8 +35,10 @@ found : (pid q : ℕ) (x : PidCounts) (es : List (ℕ × PidCounts)) (t : Bool) 
 found pid q x [] t e = rw (turned_test pid q ∙ e) refl
 found pid q x (y ∷ es) t e = by t e (q == y.0) refl (found pid q x es t e)
   where
-    by : (t : Bool) → (q == pid) ≡ t → (u : Bool) → (q == y.0) ≡ u → lookup (nat_eq pid) (insert_entry nat_eq es q x) ≡ cond t (Some x) (lookup (nat_eq pid) es) →
-        lookup (nat_eq pid) (cond u ((y.0, x) ∷ es) (y ∷ insert_entry nat_eq es q x)) ≡ cond t (Some x) (cond (nat_eq pid y.0) (Some y.1) (lookup (nat_eq pid) es))
+    by : (t : Bool) → (q == pid) ≡ t → (u : Bool) → (q == y.0) ≡ u →
+        lookup (nat_eq pid) (insert_entry nat_eq es q x) ≡ cond t (Some x) (lookup (nat_eq pid) es) →
+        lookup (nat_eq pid) (cond u ((y.0, x) ∷ es) (y ∷ insert_entry nat_eq es q x)) ≡ cond t (Some x)
+        (cond (nat_eq pid y.0) (Some y.1) (lookup (nat_eq pid) es))
     by true e true f h = let g : (pid == y.0) ≡ true = subst (λ (k : ℕ). (k == y.0) ≡ true) (same_number q pid e) f in rw g refl
     by false e true f h = let g : (pid == y.0) ≡ false = subst (λ (k : ℕ). (pid == k) ≡ false) (same_number q y.0 f) (turned_test pid q ∙ e) in rw g refl
     by true e false f h = let g : (pid == y.0) ≡ false = subst (λ (k : ℕ). (k == y.0) ≡ false) (same_number q pid e) f in rw g h
@@ -108,7 +111,9 @@ count_one : (f : PidCounts → ℕ) (m : Bool → Bool) (pid q : ℕ) (pcr : Boo
     f (counts_of pid (with_packet es q pcr)) ≡ cond (q == pid) (cond (m pcr) (one_more (f (counts_of pid es))) (f (counts_of pid es))) (f (counts_of pid es))
 count_one f m pid q pcr es is = ap f (entry_is pid q pcr es (q == pid) refl) ∙ by (q == pid)
   where
-    by : (t : Bool) → f (cond t (with_one (counts_of pid es) pcr) (counts_of pid es)) ≡ cond t (cond (m pcr) (one_more (f (counts_of pid es))) (f (counts_of pid es))) (f (counts_of pid es))
+    by : (t : Bool) →
+        f (cond t (with_one (counts_of pid es) pcr) (counts_of pid es)) ≡ cond t (cond (m pcr) (one_more (f (counts_of pid es))) (f (counts_of pid es)))
+        (f (counts_of pid es))
     by true = is.more (counts_of pid es) pcr
     by false = refl
 
@@ -117,7 +122,8 @@ unfolding counts_or_zero
 no_counts f m pid is = is.none
 
 -- the packets of the last window, by those of them that came before the last packet
-counted_by : (f : PidCounts → ℕ) (m : Bool → Bool) (test : ℕ → ℕ → Placed → Bool) (packet : Placed) (earlier : List Placed) (pid : ℕ) → IsCounter f m → IsTest test m →
+counted_by : (f : PidCounts → ℕ) (m : Bool → Bool) (test : ℕ → ℕ → Placed → Bool) (packet : Placed) (earlier : List Placed) (pid : ℕ) → IsCounter f m →
+    IsTest test m →
     f (counts_of pid (counts_in (state_of earlier) packet.window)) ≡ length (filter (test packet.window pid) earlier) → length (packet ∷ earlier) < 2 ^ 64 →
     f (counts_of pid (state_of (packet ∷ earlier)).counts) ≡ length (filter (test packet.window pid) (packet ∷ earlier))
 counted_by f m test packet earlier pid is tests so_far room =
@@ -126,7 +132,8 @@ counted_by f m test packet earlier pid is tests so_far room =
     let here : test w pid packet ≡ (packet.pid == pid) && m packet.pcr =
     tests w pid packet ∙ ap (λ (t : Bool). t && ((packet.pid == pid) && m packet.pcr)) (itself w) in
     count_one f m pid packet.pid packet.pcr (counts_in (state_of earlier) w) is
-    ∙ step (packet.pid == pid) (m packet.pcr) (f (counts_of pid (counts_in (state_of earlier) w))) (length (filter (test w pid) earlier)) so_far (omega (arith, few, room))
+    ∙ step (packet.pid == pid) (m packet.pcr) (f (counts_of pid (counts_in (state_of earlier) w))) (length (filter (test w pid) earlier)) so_far
+    (omega (arith, few, room))
     ∙ ap (λ (t : Bool). cond t 1 0 + length (filter (test w pid) earlier)) (sym here)
     ∙ sym (filter_one (test w pid) packet earlier)
 
@@ -142,7 +149,8 @@ before f m test w [] pid is tests order room = by (0 == w)
     by true = no_counts f m pid is
     by false = no_counts f m pid is
 before f m test w (e ∷ es) pid is tests order room =
-    by (e.window == w) refl (counted_by f m test e es pid is tests (before f m test e.window es pid is tests order.1 (omega (arith, room))) (omega (arith, room)))
+    by (e.window == w) refl
+    (counted_by f m test e es pid is tests (before f m test e.window es pid is tests order.1 (omega (arith, room))) (omega (arith, room)))
   where
     by : (t : Bool) → (e.window == w) ≡ t → f (counts_of pid (state_of (e ∷ es)).counts) ≡ length (filter (test e.window pid) (e ∷ es)) →
         f (counts_of pid (cond t (state_of (e ∷ es)).counts [])) ≡ length (filter (test w pid) (e ∷ es))
@@ -152,7 +160,8 @@ before f m test w (e ∷ es) pid is tests order room =
         let here : e.window ≤ e.window = omega arith in
         no_counts f m pid is ∙ sym (none_of_it test m w pid e.window (e ∷ es) tests (here, order.1) less)
 
-counted : (f : PidCounts → ℕ) (m : Bool → Bool) (test : ℕ → ℕ → Placed → Bool) (packet : Placed) (earlier : List Placed) (pid : ℕ) → IsCounter f m → IsTest test m →
+counted : (f : PidCounts → ℕ) (m : Bool → Bool) (test : ℕ → ℕ → Placed → Bool) (packet : Placed) (earlier : List Placed) (pid : ℕ) → IsCounter f m →
+    IsTest test m →
     InOrder packet.window (packet ∷ earlier) → length (packet ∷ earlier) < 2 ^ 64 →
     f (counts_of pid (state_of (packet ∷ earlier)).counts) ≡ length (filter (test packet.window pid) (packet ∷ earlier))
 unfolding InOrder

@@ -1,8 +1,9 @@
-//! Laws of windows. Each is a function that does nothing: its contract is the law, over the definitions of `specs/` alone,
-//! and a caller may cite it.
+//! Laws of windows. Each is a function that does nothing: its contract is the law, over the definitions of `specs/`
+//! alone, and a caller may cite it.
 ghost use Rattle.pid_windows.specs.Laws.{ClockLaw, CountLaw};
 
-/// States that the counts are the counts of all packets of the last packet's window, if packets are in the order of their windows.
+/// States that the counts are the counts of all packets of the last packet's window, if packets are in the order of
+/// their windows.
 pub fn counts()
     ensures packets { CountLaw }
     ensures clocks { ClockLaw }

@@ -108,8 +108,8 @@ impl<A: Allocator + Copy> PidWindow<A> {
         self.counts.entries()
     }
 
-    /// Takes a packet of a window. If the window is not the last packet's window, the packet is the window's first, and the
-    /// counts of the last window are forgotten.
+    /// Takes a packet of a window. If the window is not the last packet's window, the packet is the window's first, and
+    /// the counts of the last window are forgotten.
     ///
     /// After an `AllocError` the window describes no packets: drop it.
     #[tactic(auto, unfolding(crate::specs::Windows::counts_in))]

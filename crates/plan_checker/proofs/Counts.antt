@@ -16,7 +16,8 @@ at_most_one false x = omega arith
 
 few_service_tables : (d : Described) → length (service_tables d) ≤ 4
 few_service_tables d =
-    let n = only_if (is_some d.network) Nit in let s = only_if d.has_sdt Sdt in let e = only_if (list_any has_event d.programs) Eit in let t = only_if d.has_tdt Tdt in
+    let n = only_if (is_some d.network) Nit in let s = only_if d.has_sdt Sdt in let e = only_if (list_any has_event d.programs) Eit in let t =
+    only_if d.has_tdt Tdt in
     omega (
       arith,
       length-append n (s ++ e ++ t),

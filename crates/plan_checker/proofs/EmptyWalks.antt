@@ -1,5 +1,6 @@
 -- A walk over the slots of a period finds those in which a buffer becomes empty.
-use Rattle.std.proofs.Common.{◌≡◌, ℕ, zero, suc, ◌+◌, ◌-◌, ◌*◌, ◌/◌, ◌%◌, ◌<◌, ◌≤◌, ◌==◌, max, Bool, true, false, List, [], ◌∷◌, length, get_or, refl, ap, sym, ◌∙◌, inl, inr, arith, add-one}
+use Rattle.std.proofs.Common.{◌≡◌, ℕ, zero, suc, ◌+◌, ◌-◌, ◌*◌, ◌/◌, ◌%◌, ◌<◌, ◌≤◌, ◌==◌, max, Bool, true, false, List, [], ◌∷◌, length, get_or, refl, ap, sym}
+use Rattle.std.proofs.Common.{◌∙◌, inl, inr, arith, add-one}
 use Rattle.std.proofs.Math.Nat.{mod-eq_of_lt}
 use Rattle.std.proofs.lemmas.Bool.{cases_Bool, cases_lt}
 use Rattle.std.proofs.lemmas.Bool.Decides.{nat_tests}
@@ -133,7 +134,8 @@ walk_past E s w other walks = record {
   few = omega (arith, walks.few);
 }
 
-pub walk_on : (E : List Bool) (s : ℕ) (w : EmptyWalk) (is_empty : Bool) → s < length E → own E s ≡ is_empty → Walks E s w → Walks E (s + 1) (passed w s is_empty)
+pub walk_on : (E : List Bool) (s : ℕ) (w : EmptyWalk) (is_empty : Bool) → s < length E → own E s ≡ is_empty → Walks E s w →
+    Walks E (s + 1) (passed w s is_empty)
 walk_on E s w true lt is walks = walk_one E s w lt is walks
 walk_on E s w false lt is walks = walk_past E s w is walks
 

@@ -17,7 +17,8 @@ by_count k es xs so = so ∙ sym (take_min k es) ∙ ap (λ (n : ℕ). take n es
 
 -- 2. A window of k after those that are found
 
-module _ (all : List Entry) (xs more : List Refusal) (so : map entry_of xs ≡ take (length xs) all) (k : ℕ) (next : map entry_of more ≡ take k (drop (length xs) all)) where
+module _ (all : List Entry) (xs more : List Refusal) (so : map entry_of xs ≡ take (length xs) all) (k : ℕ)
+    (next : map entry_of more ≡ take k (drop (length xs) all)) where
   appended : (ys : List Entry) → map entry_of more ≡ ys → map entry_of (xs ++ more) ≡ take (length xs) all ++ ys
   appended ys is = map-append entry_of xs more ∙ ap (λ (es : List Entry). es ++ map entry_of more) so ∙ ap (λ (es : List Entry). take (length xs) all ++ es) is
 

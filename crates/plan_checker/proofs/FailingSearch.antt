@@ -1,6 +1,7 @@
 -- The search for conditions that fail, through the conditions of a plan in their order.
 use Rattle.std.specs.Prelude.{is_none, is_some, nat_le, not, take}
-use Rattle.std.proofs.Common.{◌≡◌, ℕ, zero, suc, ◌+◌, ◌-◌, ◌<◌, ◌≤◌, ◌==◌, Bool, true, false, cond, List, [], ◌∷◌, ◌++◌, length, drop, get_or, slice_get, Option, Some, None, refl, ap, sym, ◌∙◌, add-one, arith}
+use Rattle.std.proofs.Common.{◌≡◌, ℕ, zero, suc, ◌+◌, ◌-◌, ◌<◌, ◌≤◌, ◌==◌, Bool, true, false, cond, List, [], ◌∷◌, ◌++◌, length, drop, get_or, slice_get}
+use Rattle.std.proofs.Common.{Option, Some, None, refl, ap, sym, ◌∙◌, add-one, arith}
 use Rattle.std.proofs.Math.Seq.{drop-cons}
 use Rattle.std.specs.Option.{unwrap_or}
 use Rattle.std.proofs.lemmas.Bool.Decides.{nat_tests}
@@ -116,7 +117,8 @@ nothing_from zero (suc k) = refl
 nothing_from (suc n) zero = refl
 nothing_from (suc n) (suc k) = refl
 
-module _ (m : ℕ) (e : Entry) (es : List Entry) (later : (n : ℕ) (kept : List Entry) → kept_after m es n kept ≡ kept ++ take (m - length kept) (drop n (failing_of es))) where
+module _ (m : ℕ) (e : Entry) (es : List Entry)
+    (later : (n : ℕ) (kept : List Entry) → kept_after m es n kept ≡ kept ++ take (m - length kept) (drop n (failing_of es))) where
   -- one more is kept
   one_kept : (kept : List Entry) → length kept < m → kept_after m es 0 (kept ++ e ∷ []) ≡ kept ++ take (m - length kept) (e ∷ failing_of es)
   one_kept kept lt =
@@ -131,7 +133,8 @@ module _ (m : ℕ) (e : Entry) (es : List Entry) (later : (n : ℕ) (kept : List
   fails_within (suc n) kept lt =
       let some : (suc n == 0) ≡ false = grind (arith, nat_tests) in
       let one : suc n - 1 ≡ n = omega arith in
-      ap (λ (b : Bool). (after (cond b (record { left = suc n; most = m; found = kept ++ e ∷ [] }) (record { left = suc n - 1; most = m; found = kept })) es).found) some
+      ap (λ (b : Bool).
+      (after (cond b (record { left = suc n; most = m; found = kept ++ e ∷ [] }) (record { left = suc n - 1; most = m; found = kept })) es).found) some
       ∙ ap (λ (k : ℕ). kept_after m es k kept) one ∙ later n kept
 
   fails_step : (f : Bool) (n : ℕ) (kept : List Entry) → nat_le m (length kept) ≡ f →
@@ -206,7 +209,8 @@ none_fails : (es : List Entry) → first_failing es ≡ None → failing_of es �
 none_fails [] none = refl
 none_fails (e ∷ es) none = none_step (entry_holds e) e es none (none_fails es)
 
-asked_step : (b : Bool) (shape timing : List Entry) → (b ≡ true → failing_of shape ≡ []) → failing_of (cond b timing shape) ≡ failing_of (cond b (shape ++ timing) shape)
+asked_step : (b : Bool) (shape timing : List Entry) → (b ≡ true → failing_of shape ≡ []) →
+    failing_of (cond b timing shape) ≡ failing_of (cond b (shape ++ timing) shape)
 asked_step true shape timing none = sym (filter-append fails shape timing ∙ ap (λ (es : List Entry). es ++ failing_of timing) (none refl))
 asked_step false shape timing none = refl
 

@@ -1,5 +1,6 @@
 -- The marks of an item at the slots of a plan, one slot after another.
-use Rattle.std.proofs.Common.{◌≡◌, ℕ, zero, suc, ◌+◌, ◌-◌, ◌*◌, ◌/◌, ◌%◌, ◌^◌, ◌<◌, ◌≤◌, inl, inr, Bool, true, false, List, length, get_or, refl, ap, ◌∙◌, sym, arith, add-one}
+use Rattle.std.proofs.Common.{◌≡◌, ℕ, zero, suc, ◌+◌, ◌-◌, ◌*◌, ◌/◌, ◌%◌, ◌^◌, ◌<◌, ◌≤◌, inl, inr, Bool, true, false, List, length, get_or, refl, ap, ◌∙◌, sym}
+use Rattle.std.proofs.Common.{arith, add-one}
 use Rattle.std.proofs.Math.Nat.{add-zero, add-mod_right, mod-eq_of_lt, mod-add-div', mul-le-mul_left, mul-le-mul_right}
 use Rattle.std.proofs.lemmas.Nat.{mod_below, mul-le}
 use Rattle.std.proofs.lemmas.List.{get_or-map, length-map}
@@ -52,9 +53,11 @@ position_found item slots i number d lt y e pos =
 -- ---- the period repeated
 
 -- at any slot, by its place in the period
-pub mark_cyclic : (item : Item) (slots : List Slot) (i : ℕ) (d : Slot) → 0 < length slots → own (marks item slots) i ≡ is_own item (get_or slots (i % length slots) d)
+pub mark_cyclic : (item : Item) (slots : List Slot) (i : ℕ) (d : Slot) → 0 < length slots →
+    own (marks item slots) i ≡ is_own item (get_or slots (i % length slots) d)
 mark_cyclic item slots i d pos =
-    ap (λ (n : ℕ). get_or (marks item slots) (i % n) false) (length_marks item slots) ∙ get_or-map (is_own item) slots (i % length slots) d false (mod_below i (length slots) pos)
+    ap (λ (n : ℕ). get_or (marks item slots) (i % n) false) (length_marks item slots)
+    ∙ get_or-map (is_own item) slots (i % length slots) d false (mod_below i (length slots) pos)
 
 pub some_slots : (item : Item) (slots : List Slot) → 0 < per_period (marks item slots) → 0 < length slots
 some_slots item slots pos = grow (length slots) (own_before_all item slots) (own_before_none item slots)
@@ -87,14 +90,17 @@ pub position_here : (item : Item) (slots : List Slot) (i number : ℕ) → own (
     0 < per_period (marks item slots) → position (marks item slots) number ≡ i
 position_here item slots i number y e pos = ap (position (marks item slots)) (sym e) ∙ (positions_law (marks item slots) pos).found i y
 
-pub own_before_after_own : (item : Item) (slots : List Slot) (i : ℕ) → own (marks item slots) i ≡ true → own_before (own (marks item slots)) (i + 1) ≡ own_before (own (marks item slots)) i + 1
+pub own_before_after_own : (item : Item) (slots : List Slot) (i : ℕ) → own (marks item slots) i ≡ true →
+    own_before (own (marks item slots)) (i + 1) ≡ own_before (own (marks item slots)) i + 1
 own_before_after_own item slots i y = rw (add-one i) (own_before_own (own (marks item slots)) i y)
 
-pub own_before_after_other : (item : Item) (slots : List Slot) (i : ℕ) → own (marks item slots) i ≡ false → own_before (own (marks item slots)) (i + 1) ≡ own_before (own (marks item slots)) i
+pub own_before_after_other : (item : Item) (slots : List Slot) (i : ℕ) → own (marks item slots) i ≡ false →
+    own_before (own (marks item slots)) (i + 1) ≡ own_before (own (marks item slots)) i
 own_before_after_other item slots i n = rw (add-one i) (own_before_other (own (marks item slots)) i n)
 
 -- an own slot is own a period on, where it has the number that is counted there
-pub a_period_on : (item : Item) (slots : List Slot) (i number : ℕ) → own (marks item slots) i ≡ true → own_before (own (marks item slots)) (i + length slots) ≡ number →
+pub a_period_on : (item : Item) (slots : List Slot) (i number : ℕ) → own (marks item slots) i ≡ true →
+    own_before (own (marks item slots)) (i + length slots) ≡ number →
     0 < per_period (marks item slots) → position (marks item slots) number ≡ i + length slots
 a_period_on item slots i number y e pos = position_here item slots (i + length slots) number (turned ∙ y) e pos
   where
@@ -112,31 +118,44 @@ own_before_rise own s = elim (cases_Bool (own s)) [
 pub position_own : (item : Item) (slots : List Slot) (i : ℕ) → 0 < per_period (marks item slots) → own (marks item slots) (position (marks item slots) i) ≡ true
 position_own item slots i pos = (positions_law (marks item slots) pos).is_own i
 
-pub own_before_position : (item : Item) (slots : List Slot) (i : ℕ) → 0 < per_period (marks item slots) → own_before (own (marks item slots)) (position (marks item slots) i) ≡ i
+pub own_before_position : (item : Item) (slots : List Slot) (i : ℕ) → 0 < per_period (marks item slots) →
+    own_before (own (marks item slots)) (position (marks item slots) i) ≡ i
 own_before_position item slots i pos = (positions_law (marks item slots) pos).counted i
 
 -- the k-th own slot after an own slot is not before it
 pub position_ahead : (item : Item) (slots : List Slot) (i k : ℕ) → own (marks item slots) i ≡ true → 0 < per_period (marks item slots) →
     i ≤ position (marks item slots) (own_before (own (marks item slots)) i + k)
 position_ahead item slots i k y pos =
-    omega (arith, (positions_law (marks item slots) pos).found i y, position_le (marks item slots) (own_before (own (marks item slots)) i) (own_before (own (marks item slots)) i + k) pos (omega arith))
+    omega (
+      arith,
+      (positions_law (marks item slots) pos).found i y,
+      position_le (marks item slots) (own_before (own (marks item slots)) i) (own_before (own (marks item slots)) i + k) pos (omega arith),
+    )
 
 -- and not too far for 64 bits
 pub position_near : (item : Item) (slots : List Slot) (i k : ℕ) → 0 < per_period (marks item slots) → length slots ≤ 65536 → k < 2 ^ 31 → i ≤ length slots →
     position (marks item slots) (own_before (own (marks item slots)) i + k) < 2 ^ 60
 position_near item slots i k pos short near within =
     let few : own_before (own (marks item slots)) i ≤ i = own_before_few i in
-    omega (arith, position_bound item slots (own_before (own (marks item slots)) i + k) pos, mul-le (own_before (own (marks item slots)) i + k + 1) (length slots) 2147549184 65536 (omega (arith, few)) short)
+    omega (
+      arith,
+      position_bound item slots (own_before (own (marks item slots)) i + k) pos,
+      mul-le (own_before (own (marks item slots)) i + k + 1) (length slots) 2147549184 65536 (omega (arith, few)) short,
+    )
   where
     own_before_few : (i : ℕ) → own_before (own (marks item slots)) i ≤ i
     own_before_few zero = omega (arith, own_before_none item slots)
     own_before_few (suc i) = omega (arith, own_before_few i, own_before_rise (own (marks item slots)) i)
 
 -- past an own slot, the k-th own slot ahead is the one after the k-th ahead before
-pub one_ahead : (item : Item) (slots : List Slot) (i k ahead : ℕ) → own (marks item slots) i ≡ true → ahead ≡ position (marks item slots) (own_before (own (marks item slots)) i + k) →
-    0 < per_period (marks item slots) → position (marks item slots) (own_before (own (marks item slots)) ahead + 1) ≡ position (marks item slots) (own_before (own (marks item slots)) (i + 1) + k)
+pub one_ahead : (item : Item) (slots : List Slot) (i k ahead : ℕ) → own (marks item slots) i ≡ true →
+    ahead ≡ position (marks item slots) (own_before (own (marks item slots)) i + k) →
+    0 < per_period (marks item slots) →
+    position (marks item slots) (own_before (own (marks item slots)) ahead + 1) ≡ position (marks item slots)
+    (own_before (own (marks item slots)) (i + 1) + k)
 one_ahead item slots i k ahead y e pos =
-    let there : own_before (own (marks item slots)) ahead ≡ own_before (own (marks item slots)) i + k = ap (own_before (own (marks item slots))) e ∙ own_before_position item slots (own_before (own (marks item slots)) i + k) pos in
+    let there : own_before (own (marks item slots)) ahead ≡ own_before (own (marks item slots)) i + k = ap (own_before (own (marks item slots))) e
+    ∙ own_before_position item slots (own_before (own (marks item slots)) i + k) pos in
     let next : own_before (own (marks item slots)) (i + 1) ≡ own_before (own (marks item slots)) i + 1 = own_before_after_own item slots i y in
     let both : own_before (own (marks item slots)) ahead + 1 ≡ own_before (own (marks item slots)) (i + 1) + k = omega (arith, there, next) in
     ap (position (marks item slots)) both
@@ -147,8 +166,10 @@ one_ahead item slots i k ahead y e pos =
 pub few_own_before : (item : Item) (slots : List Slot) (i : ℕ) → i ≤ length slots → own_before (own (marks item slots)) i ≤ per_period (marks item slots)
 few_own_before item slots i le = omega (arith, own_before_le (own (marks item slots)) i (length slots) le, own_before_all item slots)
 
-pub raised_here : (item : Item) (slots : List Slot) (count at number : ℕ) → count ≡ per_period (marks item slots) → number ≡ own_before (own (marks item slots)) at →
-    count * at + (count - number) * length slots ≡ raised (per_period (marks item slots)) (length (marks item slots)) at (own_before (own (marks item slots)) at)
+pub raised_here : (item : Item) (slots : List Slot) (count at number : ℕ) → count ≡ per_period (marks item slots) →
+    number ≡ own_before (own (marks item slots)) at →
+    count * at + (count - number) * length slots ≡ raised (per_period (marks item slots)) (length (marks item slots)) at
+    (own_before (own (marks item slots)) at)
 raised_here item slots count at number e f = rw (e, f, length_marks item slots) refl
 
 -- ---- work

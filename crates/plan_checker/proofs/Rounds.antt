@@ -1,13 +1,15 @@
 -- The round of a table is not long.
 use Rattle.std.specs.Prelude.{sum_by, filter, All, cond}
-use Rattle.std.proofs.Common.{◌≡◌, ℕ, suc, ◌*◌, ◌≤◌, Bool, true, false, List, [], ◌∷◌, length, map, get_or, Option, None, Some, slice_get, refl, ap, sym, ◌∙◌, arith}
+use Rattle.std.proofs.Common.{◌≡◌, ℕ, suc, ◌*◌, ◌≤◌, Bool, true, false, List, [], ◌∷◌, length, map, get_or, Option, None, Some, slice_get, refl, ap, sym, ◌∙◌}
+use Rattle.std.proofs.Common.{arith}
 use Rattle.std.specs.Option.{option_to_list, unwrap_or}
 use Rattle.std.proofs.lemmas.List.Elements.{All-get_or, All-head, All-tail}
 use Rattle.std.proofs.lemmas.List.Sums.{sum_by-cons}
 use Rattle.std.proofs.lemmas.Option.{slice_get_within, unwrap_or-slice_get}
 use Rattle.description_parts.specs.Described.{Described, DescribedProgram, DescribedEvent, DescribedTable}
 use Rattle.description_parts.specs.Ranges.{IsInRange, IsProgram, IsEvent, IsBytes, IsTable}
-use Rattle.description_parts.specs.Tables.{packets_of_section, pmt_length, nit_length, service_length, longest_event, eit_length, eit_lengths, has_event, kind_lengths, table_kind, round_packets}
+use Rattle.description_parts.specs.Tables.{packets_of_section, pmt_length, nit_length, service_length, longest_event, eit_length, eit_lengths, has_event}
+use Rattle.description_parts.specs.Tables.{kind_lengths, table_kind, round_packets}
 use Rattle.description_parts.specs.declared.table_kind.TableKind.{TableKind}
 use Rattle.description_parts.specs.declared.table_kind.TableKind.TheVariants.{Pat, Pmt, Nit, Sdt, Eit, Tdt, Private}
 
@@ -29,7 +31,8 @@ at_most_one (Some x) = omega arith
 
 few_services : (ps : List DescribedProgram) → All IsProgram ps → sum_by service_length ps ≤ 210 * length ps
 few_services [] all = omega arith
-few_services (p ∷ ps) all = let is = All-head IsProgram p ps all in omega (arith, is.provider.fits, is.name.fits, few_services ps (All-tail IsProgram p ps all), sum_by-cons service_length p ps)
+few_services (p ∷ ps) all = let is = All-head IsProgram p ps all in
+    omega (arith, is.provider.fits, is.name.fits, few_services ps (All-tail IsProgram p ps all), sum_by-cons service_length p ps)
 
 longest : (es : List DescribedEvent) → All IsEvent es → longest_event es ≤ 269
 longest [] all = omega arith
@@ -40,7 +43,13 @@ few_of_program : (p : DescribedProgram) (ps : List DescribedProgram) → IsProgr
     sum_by packets_of_section (eit_lengths (cond b (p ∷ filter has_event ps) (filter has_event ps))) ≤ 1200 * suc (length ps)
 few_of_program p ps is true rest =
     let more = eit_lengths (filter has_event ps) in
-    omega (arith, longest p.events is.events, rest, sum_by-cons packets_of_section (eit_length p) (eit_length p ∷ more), sum_by-cons packets_of_section (eit_length p) more)
+    omega (
+      arith,
+      longest p.events is.events,
+      rest,
+      sum_by-cons packets_of_section (eit_length p) (eit_length p ∷ more),
+      sum_by-cons packets_of_section (eit_length p) more,
+    )
 few_of_program p ps is false rest = omega (arith, rest)
 
 few_events : (ps : List DescribedProgram) → All IsProgram ps → sum_by packets_of_section (eit_lengths (filter has_event ps)) ≤ 1200 * length ps
@@ -49,7 +58,8 @@ few_events (p ∷ ps) all = few_of_program p ps (All-head IsProgram p ps all) (h
 
 few_privates : (ss : List (List ℕ)) → All (IsBytes 4096) ss → sum_by packets_of_section (map length ss) ≤ 24 * length ss
 few_privates [] all = omega arith
-few_privates (s ∷ ss) all = let is = All-head (IsBytes 4096) s ss all in omega (arith, is.fits, few_privates ss (All-tail (IsBytes 4096) s ss all), sum_by-cons packets_of_section (length s) (map length ss))
+few_privates (s ∷ ss) all = let is = All-head (IsBytes 4096) s ss all in
+    omega (arith, is.fits, few_privates ss (All-tail (IsBytes 4096) s ss all), sum_by-cons packets_of_section (length s) (map length ss))
 
 few_of_table : (o : Option DescribedTable) → ((t : DescribedTable) → o ≡ Some t → IsTable t) →
     sum_by packets_of_section (elim o [ None ↦ [] | Some private ↦ map length private.sections ]) ≤ 20000

@@ -32,7 +32,8 @@ claim_bound : (spread packets period count rx peak lead interval rate : ℕ) →
 claim_bound spread packets period count rx peak lead interval rate some few short slow holds =
     let times : spread * slot_units_at_1bps * rx ≤ count * lead * rate * rx = omega (arith, holds) in
     let once : spread * slot_units_at_1bps ≤ count * lead * rate = cancelled (spread * slot_units_at_1bps) (count * lead * rate) rx some times in
-    let most : count * lead * rate ≤ 65536 * 90000 * 100000000 = mul-le (count * lead) rate (65536 * 90000) 100000000 (mul-le count lead 65536 90000 few short) slow in
+    let most : count * lead * rate ≤ 65536 * 90000 * 100000000 =
+    mul-le (count * lead) rate (65536 * 90000) 100000000 (mul-le count lead 65536 90000 few short) slow in
     omega (arith, once, most)
 
 -- the spread that a plan claims of a stream whose deadlines hold

@@ -9,14 +9,16 @@ use Rattle.slot_plan.specs.SwitchConditions.{joint_entries, switch_entries}
 use Rattle.plan_checker.proofs.FailingSearch.{then_after}
 
 -- a condition of the second plan alone fails
-pub second_fails : (d : Described) (first second : Planned) (e : Entry) → Some e ≡ first_failing (entries d second) → Some e ≡ first_failing (switch_entries d first second)
+pub second_fails : (d : Described) (first second : Planned) (e : Entry) → Some e ≡ first_failing (entries d second) →
+    Some e ≡ first_failing (switch_entries d first second)
 second_fails d first second e some = some ∙ ap first_failing (sym same)
   where
     same : switch_entries d first second ≡ entries d second
     same = rw (← some) refl
 
 -- none does: those of the two together follow
-pub second_serves : (d : Described) (first second : Planned) (r : Option Entry) → None ≡ first_failing (entries d second) → r ≡ first_failing (joint_entries d first second) →
+pub second_serves : (d : Described) (first second : Planned) (r : Option Entry) → None ≡ first_failing (entries d second) →
+    r ≡ first_failing (joint_entries d first second) →
     r ≡ first_failing (switch_entries d first second)
 second_serves d first second r none joint = then_after (entries d second) (joint_entries d first second) r none joint ∙ ap first_failing (sym same)
   where

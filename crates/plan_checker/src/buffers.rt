@@ -49,8 +49,8 @@ fn buffer(
     at_most(condition, 3, item, work.left as u128, start as u128, search);
 }
 
-/// Two parts more of the buffer of stream number `i`, if it has to be empty at least once a second: a period has a slot in
-/// which it becomes empty, and the longest time from one of them to the next is at most a second.
+/// Two parts more of the buffer of stream number `i`, if it has to be empty at least once a second: a period has a slot
+/// in which it becomes empty, and the longest time from one of them to the next is at most a second.
 fn emptied(
     condition: Condition,
     i: usize,

@@ -102,7 +102,8 @@ fn is_emptied(drain: u64, work: u64, owns: bool) -> bool
     !owns && work.saturating_sub(drained) < drained
 }
 
-/// Returns the slots of a period in which the buffer of an item becomes empty, if the period begins with the work `start`.
+/// Returns the slots of a period in which the buffer of an item becomes empty, if the period begins with the work
+/// `start`.
 pub fn empty_slots(slots: &[Slot], item: Item, rate: u64, drain: u64, start: u64) -> EmptySlots
     requires short { length slots.now ≤ 65536 }
     requires rate { rate ≤ 100000000 }

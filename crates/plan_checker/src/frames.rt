@@ -1,5 +1,5 @@
-//! Access units that are removed from the main buffer one by one (ISO/IEC 13818-1, 2.4.2.3): the access units that are left and the
-//! bytes of later units find room.
+//! Access units that are removed from the main buffer one by one (ISO/IEC 13818-1, 2.4.2.3): the access units that are
+//! left and the bytes of later units find room.
 
 ghost use Rattle.std.specs.Prelude.{◌≡◌, ◌-◌, ◌*◌, ◌^◌, ◌<◌, ◌≤◌, ◌∷◌, [], length};
 ghost use Rattle.description_parts.specs.Ranges.{IsStream};
@@ -16,8 +16,8 @@ use slot_plan::{Condition, StreamDescription};
 use std::alloc::Allocator;
 use unit_timing::framing::Framing;
 
-/// Returns how long after the moment at which access unit number `gone` is removed a later unit is due at the earliest, up to the
-/// lead: units of 90 kHz.
+/// Returns how long after the moment at which access unit number `gone` is removed a later unit is due at the earliest,
+/// up to the lead: units of 90 kHz.
 pub fn ahead_of(stream: &StreamDescription, framing: Framing, gone: u8) -> u64
     ensures ahead { result ≡ ahead_of (declaration stream.now) framing gone }
     ensures bound { result ≤ stream.now.lead }

@@ -8,7 +8,8 @@ ghost use Rattle.slot_plan.specs.Items.{marks};
 use crate::own_positions::{next_own_slot, position};
 use slot_plan::{Item, Slot};
 
-/// Returns the greatest distance in slots from an own slot to the `row`-th own slot after it, round the period's end too.
+/// Returns the greatest distance in slots from an own slot to the `row`-th own slot after it, round the period's end
+/// too.
 pub fn greatest_gap(slots: &[Slot], item: Item, row: u64) -> u64
     requires owned { 0 < per_period (marks item slots.now) }
     requires short { length slots.now ≤ 65536 }

@@ -57,8 +57,8 @@ pub fn group_part(stream: &StreamDescription, units: u8) -> u8
     }
 }
 
-/// The way of a stream's packets to the buffer where they wait for their decoding time: the rate in bits a second of the
-/// buffer before it, and the most work of this earlier buffer after an own slot.
+/// The way of a stream's packets to the buffer where they wait for their decoding time: the rate in bits a second of
+/// the buffer before it, and the most work of this earlier buffer after an own slot.
 #[derive(Clone, Copy)]
 pub struct Way {
     pub drain: u64,

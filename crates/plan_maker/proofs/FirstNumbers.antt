@@ -62,7 +62,8 @@ first_below (suc n) f i e = step (first_of n f) (f n) (first_below n f i) e
     same : (a b : ℕ) → Some a ≡ Some b → a ≡ b
     same a b e = cc
 
-    step : (o : Option ℕ) (b : Bool) → (o ≡ Some i → i < n) → ◌≡◌ {A = Option ℕ} (elim o [ Some x ↦ Some x | None ↦ if b then Some n else None ]) (Some i) → i < suc n
+    step : (o : Option ℕ) (b : Bool) → (o ≡ Some i → i < n) → ◌≡◌ {A = Option ℕ} (elim o [ Some x ↦ Some x | None ↦ if b then Some n else None ]) (Some i) →
+        i < suc n
     step (Some x) b under e = omega (arith, under e)
     step None true under e = omega (arith, same n i e)
     step None false under e = absurd (cc)

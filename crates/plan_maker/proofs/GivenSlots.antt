@@ -1,6 +1,7 @@
 -- The slots of a period, given to an item one after another.
 use Rattle.std.specs.Prelude.{if◌then◌else◌, ◌==◌}
-use Rattle.std.proofs.Common.{◌≡◌, ℕ, suc, ◌+◌, ◌*◌, ◌/◌, ◌%◌, ◌<◌, ◌≤◌, false, List, [], ◌∷◌, length, get_or, refl, ap, ap₂, sym, ◌∙◌, inl, inr, ◌≢◌, set, eq-eqb, arith}
+use Rattle.std.proofs.Common.{◌≡◌, ℕ, suc, ◌+◌, ◌*◌, ◌/◌, ◌%◌, ◌<◌, ◌≤◌, false, List, [], ◌∷◌, length, get_or, refl, ap, ap₂, sym, ◌∙◌, inl, inr, ◌≢◌, set}
+use Rattle.std.proofs.Common.{eq-eqb, arith}
 use Rattle.std.proofs.lemmas.Bool.{cases_eq}
 use Rattle.std.proofs.lemmas.Bool.Decides.{nat_tests}
 use Rattle.std.proofs.lemmas.Grind.{get_or-set_at}
@@ -23,7 +24,9 @@ numbered_same f k [] (n ∷ ns) same all = absurd (omega (arith, same))
 numbered_same f k (o ∷ os) [] same all = absurd (omega (arith, same))
 numbered_same f k (o ∷ os) (n ∷ ns) same all =
     let first : n ≡ f k o = all 0 (omega arith) ∙ ap (λ (i : ℕ). f i o) (add_none k) in
-    let rest : ns ≡ numbered (λ s o. f s o ∷ []) (suc k) os = numbered_same f (suc k) os ns (omega (arith, same)) (λ s lt. all (suc s) (omega (arith, lt)) ∙ ap (λ (i : ℕ). f i (get_or os s Null)) (add_one_more k s)) in
+    let rest : ns ≡ numbered (λ s o. f s o ∷ []) (suc k) os =
+    numbered_same f (suc k) os ns (omega (arith, same))
+    (λ s lt. all (suc s) (omega (arith, lt)) ∙ ap (λ (i : ℕ). f i (get_or os s Null)) (add_one_more k s)) in
     ap₂ (λ (a : Slot) (more : List Slot). a ∷ more) first rest
   where
     add_none : (k : ℕ) → k + 0 ≡ k
@@ -72,7 +75,8 @@ given_item item g x s old e = rw (eq-eqb (s % g) x e) refl
 given_old : (item : Slot) (g x s : ℕ) (old : Slot) → s % g ≢ x → given item g x s old ≡ old
 given_old item g x s old other = rw (different (s % g) x other) refl
 
-pub given_here : (item : Slot) (g x : ℕ) (old now : List Slot) (s : ℕ) → s < length now → s % g ≡ x → GivenUpTo item g x old now s → GivenUpTo item g x old (set now s item) (s + 1)
+pub given_here : (item : Slot) (g x : ℕ) (old now : List Slot) (s : ℕ) → s < length now → s % g ≡ x → GivenUpTo item g x old now s →
+    GivenUpTo item g x old (set now s item) (s + 1)
 given_here item g x old now s lt e r = record {
   same = length-set now s item ∙ r.same;
   done = λ k small. elim (cases_eq k s) [

@@ -12,10 +12,12 @@ module _ {A B : Type 0} (f : ℕ → A → B) (xs : List A) where
       now ≡ before ++ numbered (λ j y. f j y ∷ []) 0 (take i xs) → now ++ f i x ∷ [] ≡ before ++ numbered (λ j y. f j y ∷ []) 0 (take (i + 1) xs)
   pushed before now i x lt is e =
       ap (λ (ys : List B). ys ++ f i x ∷ []) e ∙ append_assoc before (numbered (λ j y. f j y ∷ []) 0 (take i xs)) (f i x ∷ [])
-      ∙ ap (λ (ys : List B). before ++ ys) (ap (λ (y : A). numbered (λ j y. f j y ∷ []) 0 (take i xs) ++ f i y ∷ []) is ∙ sym (numbered-more (λ j y. f j y ∷ []) xs i x lt))
+      ∙ ap (λ (ys : List B). before ++ ys)
+      (ap (λ (y : A). numbered (λ j y. f j y ∷ []) 0 (take i xs) ++ f i y ∷ []) is ∙ sym (numbered-more (λ j y. f j y ∷ []) xs i x lt))
 
   -- at the end
-  pub all_pushed : (before now : List B) (i : ℕ) → length xs ≤ i → now ≡ before ++ numbered (λ j y. f j y ∷ []) 0 (take i xs) → now ≡ before ++ numbered (λ j y. f j y ∷ []) 0 xs
+  pub all_pushed : (before now : List B) (i : ℕ) → length xs ≤ i → now ≡ before ++ numbered (λ j y. f j y ∷ []) 0 (take i xs) →
+      now ≡ before ++ numbered (λ j y. f j y ∷ []) 0 xs
   all_pushed before now i le e = e ∙ ap (λ (ys : List A). before ++ numbered (λ j y. f j y ∷ []) 0 ys) (take_all i xs le)
 
 -- an element of a list, at a number within it

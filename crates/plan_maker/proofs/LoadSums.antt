@@ -1,5 +1,6 @@
 -- Sums that grow by one element, and loads of faster outputs.
-use Rattle.std.proofs.Common.{◌≡◌, ℕ, zero, suc, ◌+◌, ◌-◌, ◌*◌, ◌/◌, ◌<◌, ◌≤◌, max, false, Option, Some, None, List, [], ◌∷◌, ◌++◌, length, take, get_or, nat_le, refl, ap, sym, ◌∙◌, arith}
+use Rattle.std.proofs.Common.{◌≡◌, ℕ, zero, suc, ◌+◌, ◌-◌, ◌*◌, ◌/◌, ◌<◌, ◌≤◌, max, false, Option, Some, None, List, [], ◌∷◌, ◌++◌, length, take, get_or}
+use Rattle.std.proofs.Common.{nat_le, refl, ap, sym, ◌∙◌, arith}
 use Rattle.std.specs.Prelude.{IfSome, IsNone, option_map}
 use Rattle.std.specs.List.{sum_by}
 use Rattle.std.proofs.Math.Nat.{mul-le-mul_left, div-mul-le_self, zero-mul}
@@ -21,7 +22,8 @@ use Rattle.plan_maker.proofs.OwnSlotCounts.{each_at_most}
 
 -- ---- one element more
 
-pub total_more : {A : Type 0} (f : ℕ → A → ℕ) (xs : List A) (i : ℕ) (x : A) → i < length xs → x ≡ get_or xs i x → total f (take (i + 1) xs) ≡ total f (take i xs) + f i x
+pub total_more : {A : Type 0} (f : ℕ → A → ℕ) (xs : List A) (i : ℕ) (x : A) → i < length xs → x ≡ get_or xs i x →
+    total f (take (i + 1) xs) ≡ total f (take i xs) + f i x
 total_more f xs i x lt is =
     let before = numbered (λ j y. f j y ∷ []) 0 (take i xs) in
     let here : ℕ = f i (get_or xs i x) in
@@ -58,7 +60,8 @@ stream_less x (suc t) r r' pos le = less_of x (suc t * r) (suc t * r') (omega (a
 recurring_less : (r r' limit k : ℕ) → r ≤ r' → recurring_load r' limit k ≤ recurring_load r limit k
 recurring_less r r' limit k le =
     let near : limit * r / slot_ms_at_1bps ≤ limit * r' / slot_ms_at_1bps =
-    le-div (limit * r / slot_ms_at_1bps) (limit * r') slot_ms_at_1bps (omega arith) (omega (arith, div-mul-le_self (limit * r) slot_ms_at_1bps, mul-le-mul_left limit le)) in
+    le-div (limit * r / slot_ms_at_1bps) (limit * r') slot_ms_at_1bps (omega arith)
+    (omega (arith, div-mul-le_self (limit * r) slot_ms_at_1bps, mul-le-mul_left limit le)) in
     less_of (parts * k) (max 1 (limit * r / slot_ms_at_1bps)) (max 1 (limit * r' / slot_ms_at_1bps)) (omega arith) (omega (arith, near))
 
 pub load_less : (d : Described) (r r' : ℕ) → 0 < r → r ≤ r' → load d r' ≤ load d r
@@ -67,7 +70,8 @@ load_less d r r' pos le =
     (λ i s is. omega (arith, stream_less (parts * steady_packets s.allowance) (steady_time s.allowance s.interval) r r' pos le)) in
     let pcrs = each_at_most (λ _ p. recurring_load r' p.pcr_limit 1) (λ _ p. recurring_load r p.pcr_limit 1) 1 1 0 d.programs
     (λ i p is. omega (arith, recurring_less r r' p.pcr_limit 1 le)) in
-    let tables = each_at_most (λ t _. recurring_load r' (table_limit d t) (round_packets d t)) (λ t _. recurring_load r (table_limit d t) (round_packets d t)) 1 1 0 (table_kinds d)
+    let tables = each_at_most (λ t _. recurring_load r' (table_limit d t) (round_packets d t)) (λ t _. recurring_load r (table_limit d t) (round_packets d t)) 1
+    1 0 (table_kinds d)
     (λ t x is. omega (arith, recurring_less r r' (table_limit d (0 + t)) (round_packets d (0 + t)) le)) in
     omega (arith, streams, pcrs, tables)
 
@@ -87,11 +91,14 @@ still_full d r r' pos le full =
 pub is_least_rate : (d : Described) (from : ℕ) (found : Option ℕ) → from ≡ d.rate + 1 → IfSome found (IsLeastRate (has_slots d) from) →
     (IsNone found → HasNoRate (has_slots d) from) → found ≡ least_rate d
 is_least_rate d from None same least none = sym (ap (option_map (λ more. d.rate + 1 + more))
-    (first_fails (GREATEST_RATE - d.rate) (λ more. has_slots d (d.rate + 1 + more)) (λ more lt. none refl (d.rate + 1 + more) (omega (arith, same)) (omega (arith, lt)))))
+    (first_fails (GREATEST_RATE - d.rate) (λ more. has_slots d (d.rate + 1 + more))
+    (λ more lt. none refl (d.rate + 1 + more) (omega (arith, same)) (omega (arith, lt)))))
 is_least_rate d from (Some rate) same least none =
     let is : IsLeastRate (has_slots d) from rate = least in
     let more : ℕ = rate - (d.rate + 1) in
     let back : d.rate + 1 + more ≡ rate = omega (arith, is.low, same) in
-    let before = first_fails more (λ more. has_slots d (d.rate + 1 + more)) (λ k lt. is.least (d.rate + 1 + k) (omega (arith, same)) (omega (arith, lt, is.low, same))) in
-    let first = first_here (GREATEST_RATE - d.rate) (λ more. has_slots d (d.rate + 1 + more)) more (omega (arith, is.low, is.high, same)) before (ap (has_slots d) back ∙ is.enough) in
+    let before = first_fails more (λ more. has_slots d (d.rate + 1 + more))
+    (λ k lt. is.least (d.rate + 1 + k) (omega (arith, same)) (omega (arith, lt, is.low, same))) in
+    let first = first_here (GREATEST_RATE - d.rate) (λ more. has_slots d (d.rate + 1 + more)) more (omega (arith, is.low, is.high, same)) before
+    (ap (has_slots d) back ∙ is.enough) in
     sym (ap (option_map (λ more. d.rate + 1 + more)) first ∙ ap (λ (n : ℕ). Some n) back)

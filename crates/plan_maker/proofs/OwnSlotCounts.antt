@@ -84,7 +84,8 @@ none_held item k (x ∷ xs) slot none = omega (
 )
 
 -- only that of one number
-one_held : {A : Type 0} (item : ℕ → Item) (number k : ℕ) (xs : List A) (slot : Slot) → ((i : ℕ) → is_own (item i) slot ≡ (i == number)) → held item k xs slot ≤ 1
+one_held : {A : Type 0} (item : ℕ → Item) (number k : ℕ) (xs : List A) (slot : Slot) → ((i : ℕ) → is_own (item i) slot ≡ (i == number)) →
+    held item k xs slot ≤ 1
 one_held item number k [] slot is = omega arith
 one_held item number k (x ∷ xs) slot is = elim (cases_eq k number) [
   | inl e ↦ let later = none_held item (suc k) xs slot (λ i le. is i ∙ other i (omega (arith, le, e))) in
@@ -109,9 +110,27 @@ one_held item number k (x ∷ xs) slot is = elim (cases_eq k number) [
 
 module _ {A B C : Type 0} (xs : List A) (ys : List B) (zs : List C) where
   one_owner : (slot : Slot) → held Stream 0 xs slot + (held Pcr 0 ys slot + held Table 0 zs slot) ≤ 1
-  one_owner (StreamSlot n) = omega (arith, one_held Stream n 0 xs (StreamSlot n) (λ i. refl), none_held Pcr 0 ys (StreamSlot n) (λ i _. refl), none_held Table 0 zs (StreamSlot n) (λ i _. refl))
-  one_owner (PcrSlot n) = omega (arith, none_held Stream 0 xs (PcrSlot n) (λ i _. refl), one_held Pcr n 0 ys (PcrSlot n) (λ i. refl), none_held Table 0 zs (PcrSlot n) (λ i _. refl))
-  one_owner (TableSlot n) = omega (arith, none_held Stream 0 xs (TableSlot n) (λ i _. refl), none_held Pcr 0 ys (TableSlot n) (λ i _. refl), one_held Table n 0 zs (TableSlot n) (λ i. refl))
+  one_owner (StreamSlot n) =
+      omega (
+        arith,
+        one_held Stream n 0 xs (StreamSlot n) (λ i. refl),
+        none_held Pcr 0 ys (StreamSlot n) (λ i _. refl),
+        none_held Table 0 zs (StreamSlot n) (λ i _. refl),
+      )
+  one_owner (PcrSlot n) =
+      omega (
+        arith,
+        none_held Stream 0 xs (PcrSlot n) (λ i _. refl),
+        one_held Pcr n 0 ys (PcrSlot n) (λ i. refl),
+        none_held Table 0 zs (PcrSlot n) (λ i _. refl),
+      )
+  one_owner (TableSlot n) =
+      omega (
+        arith,
+        none_held Stream 0 xs (TableSlot n) (λ i _. refl),
+        none_held Pcr 0 ys (TableSlot n) (λ i _. refl),
+        one_held Table n 0 zs (TableSlot n) (λ i. refl),
+      )
   one_owner Null = omega (arith, none_held Stream 0 xs Null (λ i _. refl), none_held Pcr 0 ys Null (λ i _. refl), none_held Table 0 zs Null (λ i _. refl))
 
   -- so all own slots together are slots of the period

@@ -12,5 +12,7 @@ length_numbered f k (x ∷ xs) = omega (arith, length_numbered f (suc k) xs)
 not_over : (most n : ℕ) → n ≤ most → nat_lt most n ≡ false
 not_over most n le = grind (arith, nat_tests)
 
-pub no_error : (slots : List Slot) (c : Certified) → length slots ≤ 99999 → length c.streams ≤ 256 → length c.programs ≤ 256 → has_small_numbers c ≡ true → plan_error slots c ≡ None
-no_error slots c few streams programs small = rw (not_over 99999 (length slots) few, not_over 256 (length c.streams) streams, not_over 256 (length c.programs) programs, small) refl
+pub no_error : (slots : List Slot) (c : Certified) → length slots ≤ 99999 → length c.streams ≤ 256 → length c.programs ≤ 256 → has_small_numbers c ≡ true →
+    plan_error slots c ≡ None
+no_error slots c few streams programs small =
+    rw (not_over 99999 (length slots) few, not_over 256 (length c.streams) streams, not_over 256 (length c.programs) programs, small) refl

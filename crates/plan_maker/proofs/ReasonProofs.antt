@@ -1,5 +1,6 @@
 -- Where a description has a reason, no plan serves it.
-use Rattle.std.proofs.Common.{◌≡◌, ℕ, zero, suc, ◌+◌, ◌-◌, ◌*◌, ◌/◌, ◌%◌, ◌<◌, ◌≤◌, max, Bool, true, false, List, [], ◌∷◌, Option, Some, None, length, get_or, nat_lt, nat_le, refl, ap, ◌∙◌, inl, inr, arith, add-one}
+use Rattle.std.proofs.Common.{◌≡◌, ℕ, zero, suc, ◌+◌, ◌-◌, ◌*◌, ◌/◌, ◌%◌, ◌<◌, ◌≤◌, max, Bool, true, false, List, [], ◌∷◌, Option, Some, None, length, get_or}
+use Rattle.std.proofs.Common.{nat_lt, nat_le, refl, ap, ◌∙◌, inl, inr, arith, add-one}
 use Rattle.std.specs.Prelude.{slice_get}
 use Rattle.std.proofs.Math.Nat.{mul-le-mul_left, le_of_mul-le-mul_right, mod-eq_of_lt}
 use Rattle.std.proofs.lemmas.Nat.{le-div}
@@ -32,13 +33,15 @@ use Rattle.plan_timing.proofs.OnePlan.{length_marks, claim_of, stream_holds, lea
 use Rattle.plan_maker.specs.declared.reason.Reason.{Reason}
 use Rattle.unit_timing.specs.Shares.{parts}
 use Rattle.plan_maker.specs.Loads.{stream_load, recurring_load, streams_load, pcrs_load, tables_load, load}
-use Rattle.plan_maker.specs.Reasons.{units_lead, least_lead, least_main, pcr_reason, table_reason, drain_reason, leak_reason, lead_reason, main_reason, stream_reason, load_reason, pcr_reasons, table_reasons, stream_reasons, ReasonLaw}
+use Rattle.plan_maker.specs.Reasons.{units_lead, least_lead, least_main, pcr_reason, table_reason, drain_reason, leak_reason, lead_reason, main_reason}
+use Rattle.plan_maker.specs.Reasons.{stream_reason, load_reason, pcr_reasons, table_reasons, stream_reasons, ReasonLaw}
 use Rattle.plan_maker.proofs.OwnSlotCounts.{owned, each_at_most, all_owned}
 use Rattle.plan_maker.proofs.LeastShares.{recurs, least_peak, recurring_kept, stream_kept, window_kept, ceil_at_most, lead_kept}
 
 -- ---- lists of reasons
 
-no_parts : {A : Type 0} (part : ℕ → A → List Reason) (k : ℕ) (xs : List A) → ((i : ℕ) (x : A) → slice_get xs i ≡ Some x → part (k + i) x ≡ []) → numbered part k xs ≡ []
+no_parts : {A : Type 0} (part : ℕ → A → List Reason) (k : ℕ) (xs : List A) → ((i : ℕ) (x : A) → slice_get xs i ≡ Some x → part (k + i) x ≡ []) →
+    numbered part k xs ≡ []
 no_parts part k [] none = refl
 no_parts part k (x ∷ xs) none =
     let here : k + 0 ≡ k = omega arith in
@@ -85,8 +88,20 @@ least_work rate drain start marks (suc s) le =
     let before = least_work rate drain start marks s (omega (arith, le)) in
     let more = work_more rate drain start marks s (omega (arith, le)) in
     elim (cases_Bool (get_or marks s false)) [
-      | inl y ↦ omega (arith, before, rw y at more, ap (λ (n : ℕ). work_at rate drain start marks n) (add-one s), ap (λ (n : ℕ). n * (188 * rate)) (own_before_own (own marks) s (own_here marks s true le y)))
-      | inr n ↦ omega (arith, before, rw n at more, ap (λ (n : ℕ). work_at rate drain start marks n) (add-one s), ap (λ (n : ℕ). n * (188 * rate)) (own_before_other (own marks) s (own_here marks s false le n)))
+      | inl y ↦ omega (
+        arith,
+        before,
+        rw y at more,
+        ap (λ (n : ℕ). work_at rate drain start marks n) (add-one s),
+        ap (λ (n : ℕ). n * (188 * rate)) (own_before_own (own marks) s (own_here marks s true le y)),
+      )
+      | inr n ↦ omega (
+        arith,
+        before,
+        rw n at more,
+        ap (λ (n : ℕ). work_at rate drain start marks n) (add-one s),
+        ap (λ (n : ℕ). n * (188 * rate)) (own_before_other (own marks) s (own_here marks s false le n)),
+      )
     ]
 
 -- so a buffer that a period does not fill is drained as fast as its packets come
@@ -117,63 +132,74 @@ module _ (d : Described) (p : Planned) (k : ServingConditions d p) where
   table_kept : (t : ℕ) → t < table_count d → table_reason d t ≡ []
   table_kept t lt =
       let le = table_gap_holds d p t k lt in
-      let least : round_packets d t ≤ gap (marks (Table t) p.slots) (round_packets d t) = least_gap (marks (Table t) p.slots) (round_packets d t) (k.shape.tables_own t lt) in
+      let least : round_packets d t ≤ gap (marks (Table t) p.slots) (round_packets d t) =
+      least_gap (marks (Table t) p.slots) (round_packets d t) (k.shape.tables_own t lt) in
       rw (not_less (table_limit d t * d.rate) (round_packets d t * 1504000) (omega (arith, le, least))) refl
 
 -- ---- streams
 
-module _ (d : Described) (p : Planned) (i : ℕ) (s : DescribedStream) (holds : StreamConditions d.rate (declaration s) (claim_of p i) (marks (Stream i) p.slots)) where
-  own_marks : List Bool
-  own_marks = marks (Stream i) p.slots
+module _ (d : Described) (p : Planned) (i : ℕ) (s : DescribedStream) (holds : StreamConditions d.rate (declaration s) (claim_of p i) (marks (Stream i) p.slots))
+  where
+    own_marks : List Bool
+    own_marks = marks (Stream i) p.slots
 
-  some_slots : 0 < length (marks (Stream i) p.slots)
-  some_slots = omega (arith, holds.owned, per_period_le (marks (Stream i) p.slots))
+    some_slots : 0 < length (marks (Stream i) p.slots)
+    some_slots = omega (arith, holds.owned, per_period_le (marks (Stream i) p.slots))
 
-  -- the transport buffer is drained as fast as the own slots come
-  pace : per_period (marks (Stream i) p.slots) * d.rate ≤ length (marks (Stream i) p.slots) * s.rx
-  pace = drains d.rate s.rx (claim_of p i).start (marks (Stream i) p.slots) holds.work.carries
+    -- the transport buffer is drained as fast as the own slots come
+    pace : per_period (marks (Stream i) p.slots) * d.rate ≤ length (marks (Stream i) p.slots) * s.rx
+    pace = drains d.rate s.rx (claim_of p i).start (marks (Stream i) p.slots) holds.work.carries
 
-  -- the own slots are enough in the long run
-  enough : steady_packets s.allowance * length (marks (Stream i) p.slots) ≤ per_period (marks (Stream i) p.slots) * (steady_time s.allowance s.interval * d.rate)
-  enough = omega (arith, holds.rate_serves)
+    -- the own slots are enough in the long run
+    enough : steady_packets s.allowance * length (marks (Stream i) p.slots) ≤ per_period (marks (Stream i) p.slots) *
+        (steady_time s.allowance s.interval * d.rate)
+    enough = omega (arith, holds.rate_serves)
 
-  drain_kept : (j : ℕ) → drain_reason j s ≡ []
-  drain_kept j = rw (not_less (steady_time s.allowance s.interval * s.rx) (steady_packets s.allowance)
-      (divided (length (marks (Stream i) p.slots)) (steady_packets s.allowance) (per_period (marks (Stream i) p.slots)) (steady_time s.allowance s.interval) d.rate s.rx some_slots enough pace)) refl
+    drain_kept : (j : ℕ) → drain_reason j s ≡ []
+    drain_kept j = rw (not_less (steady_time s.allowance s.interval * s.rx) (steady_packets s.allowance)
+        (divided (length (marks (Stream i) p.slots)) (steady_packets s.allowance) (per_period (marks (Stream i) p.slots)) (steady_time s.allowance s.interval)
+        d.rate s.rx some_slots enough pace)) refl
 
-  -- so does its multiplexing buffer
-  leak_kept : (j : ℕ) (o : Option MultiplexingBuffer) → ((b : MultiplexingBuffer) → o ≡ Some b →
-      per_period (marks (Stream i) p.slots) * d.rate ≤ length (marks (Stream i) p.slots) * b.rbx) → leak_reason j s o ≡ []
-  leak_kept j None leaks = refl
-  leak_kept j (Some b) leaks = rw (not_less (steady_time s.allowance s.interval * b.rbx) (steady_packets s.allowance)
-      (divided (length (marks (Stream i) p.slots)) (steady_packets s.allowance) (per_period (marks (Stream i) p.slots)) (steady_time s.allowance s.interval) d.rate b.rbx
-      some_slots enough (leaks b refl))) refl
+    -- so does its multiplexing buffer
+    leak_kept : (j : ℕ) (o : Option MultiplexingBuffer) → ((b : MultiplexingBuffer) → o ≡ Some b →
+        per_period (marks (Stream i) p.slots) * d.rate ≤ length (marks (Stream i) p.slots) * b.rbx) → leak_reason j s o ≡ []
+    leak_kept j None leaks = refl
+    leak_kept j (Some b) leaks = rw (not_less (steady_time s.allowance s.interval * b.rbx) (steady_packets s.allowance)
+        (divided (length (marks (Stream i) p.slots)) (steady_packets s.allowance) (per_period (marks (Stream i) p.slots)) (steady_time s.allowance s.interval)
+        d.rate b.rbx
+        some_slots enough (leaks b refl))) refl
 
-  units_kept : (m : ℕ) → 0 < m → m ≤ allowance_rows s.allowance → units_lead d s m ≤ s.lead
-  units_kept m some rows =
-      let peak = least_peak d.rate s.rx (claim_of p i).start (marks (Stream i) p.slots) holds.owned in
-      let needed = lead_kept (per_period (marks (Stream i) p.slots)) (length (marks (Stream i) p.slots)) d.rate s.rx (packets_in_row (declaration s) m)
-      (claim_of p i).spread (claim_of p i).peak (s.lead + (m - 1) * s.interval)
-      holds.owned (per_period_le (marks (Stream i) p.slots)) pace (omega (arith, peak, holds.work.peaks)) (holds.lead_serves m some rows) in
-      omega (arith, ceil_at_most ((packets_in_row (declaration s) m * max d.rate s.rx + s.rx + d.rate) * slot_units_at_1bps) (d.rate * s.rx) (s.lead + (m - 1) * s.interval) needed)
+    units_kept : (m : ℕ) → 0 < m → m ≤ allowance_rows s.allowance → units_lead d s m ≤ s.lead
+    units_kept m some rows =
+        let peak = least_peak d.rate s.rx (claim_of p i).start (marks (Stream i) p.slots) holds.owned in
+        let needed = lead_kept (per_period (marks (Stream i) p.slots)) (length (marks (Stream i) p.slots)) d.rate s.rx (packets_in_row (declaration s) m)
+        (claim_of p i).spread (claim_of p i).peak (s.lead + (m - 1) * s.interval)
+        holds.owned (per_period_le (marks (Stream i) p.slots)) pace (omega (arith, peak, holds.work.peaks)) (holds.lead_serves m some rows) in
+        omega (
+          arith,
+          ceil_at_most ((packets_in_row (declaration s) m * max d.rate s.rx + s.rx + d.rate) * slot_units_at_1bps) (d.rate * s.rx)
+              (s.lead + (m - 1) * s.interval) needed,
+        )
 
-  lead_reason_kept : (j : ℕ) → lead_reason d j s ≡ []
-  lead_reason_kept j =
-      let most : least_lead d s ≤ s.lead = greatest_at_most (allowance_rows s.allowance) (λ before. units_lead d s (before + 1)) s.lead (λ before lt. units_kept (before + 1) (omega arith) (omega (arith, lt))) in
-      rw (not_less s.lead (least_lead d s) most) refl
+    lead_reason_kept : (j : ℕ) → lead_reason d j s ≡ []
+    lead_reason_kept j =
+        let most : least_lead d s ≤ s.lead =
+        greatest_at_most (allowance_rows s.allowance) (λ before. units_lead d s (before + 1)) s.lead
+        (λ before lt. units_kept (before + 1) (omega arith) (omega (arith, lt))) in
+        rw (not_less s.lead (least_lead d s) most) refl
 
-  main_kept : (j : ℕ) → main_reason d j s ≡ []
-  main_kept j =
-      let c : ℕ = per_period (marks (Stream i) p.slots) in
-      let window : ℕ = waiting_slots d.rate (declaration s) - 1 in
-      let few = window_kept (length (marks (Stream i) p.slots)) c (steady_packets s.allowance) (steady_time s.allowance s.interval * d.rate) window
-      (window * c + (claim_of p i).spread) some_slots enough (omega arith) in
-      let most : least_main d s ≤ s.main = omega (arith, few, holds.main_fits) in
-      rw (not_less s.main (least_main d s) most) refl
+    main_kept : (j : ℕ) → main_reason d j s ≡ []
+    main_kept j =
+        let c : ℕ = per_period (marks (Stream i) p.slots) in
+        let window : ℕ = waiting_slots d.rate (declaration s) - 1 in
+        let few = window_kept (length (marks (Stream i) p.slots)) c (steady_packets s.allowance) (steady_time s.allowance s.interval * d.rate) window
+        (window * c + (claim_of p i).spread) some_slots enough (omega arith) in
+        let most : least_main d s ≤ s.main = omega (arith, few, holds.main_fits) in
+        rw (not_less s.main (least_main d s) most) refl
 
-  stream_kept_whole : (j : ℕ) → ((b : MultiplexingBuffer) → s.multiplexing ≡ Some b →
-      per_period (marks (Stream i) p.slots) * d.rate ≤ length (marks (Stream i) p.slots) * b.rbx) → stream_reason d j s ≡ []
-  stream_kept_whole j leaks = rw (drain_kept j, leak_kept j s.multiplexing leaks, lead_reason_kept j, main_kept j) refl
+    stream_kept_whole : (j : ℕ) → ((b : MultiplexingBuffer) → s.multiplexing ≡ Some b →
+        per_period (marks (Stream i) p.slots) * d.rate ≤ length (marks (Stream i) p.slots) * b.rbx) → stream_reason d j s ≡ []
+    stream_kept_whole j leaks = rw (drain_kept j, leak_kept j s.multiplexing leaks, lead_reason_kept j, main_kept j) refl
 
 -- the multiplexing buffer of a stream leaks as fast as its own slots come
 leak_pace : (d : Described) (p : Planned) (i : ℕ) (s : DescribedStream) → ServingConditions d p → slice_get d.streams i ≡ Some s → (b : MultiplexingBuffer) →
@@ -185,13 +211,16 @@ leak_pace d p i s k is b some =
 
 module _ (d : Described) (p : Planned) (k : ServingConditions d p) where
   streams_share : length p.slots * streams_load d d.rate ≤ parts * owned Stream 0 d.streams p.slots
-  streams_share = each_at_most (λ _ s. stream_load d.rate s) (λ i _. per_period (marks (Stream i) p.slots)) (length p.slots) parts 0 d.streams (λ i s is. share i s is)
+  streams_share = each_at_most (λ _ s. stream_load d.rate s) (λ i _. per_period (marks (Stream i) p.slots)) (length p.slots) parts 0 d.streams
+      (λ i s is. share i s is)
     where
-      share : (i : ℕ) (s : DescribedStream) → slice_get d.streams i ≡ Some s → length p.slots * stream_load d.rate s ≤ parts * per_period (marks (Stream (0 + i)) p.slots)
+      share : (i : ℕ) (s : DescribedStream) → slice_get d.streams i ≡ Some s →
+          length p.slots * stream_load d.rate s ≤ parts * per_period (marks (Stream (0 + i)) p.slots)
       share i s is =
           let e : 0 + i ≡ i = omega arith in
           let holds = stream_holds d p i s k is in
-          let kept = stream_kept (length (marks (Stream i) p.slots)) (per_period (marks (Stream i) p.slots)) (steady_packets s.allowance) (steady_time s.allowance s.interval * d.rate) parts
+          let kept = stream_kept (length (marks (Stream i) p.slots)) (per_period (marks (Stream i) p.slots)) (steady_packets s.allowance)
+          (steady_time s.allowance s.interval * d.rate) parts
           (some_slots d p i s holds) (enough d p i s holds) in
           rw e (rw (length_marks (Stream i) p.slots) at kept)
 
@@ -202,16 +231,20 @@ module _ (d : Described) (p : Planned) (k : ServingConditions d p) where
       (recurs marks k pos) (le-div (gap marks k) (limit * d.rate) slot_ms_at_1bps (omega arith) le)
 
   pcrs_share : length p.slots * pcrs_load d d.rate ≤ parts * owned Pcr 0 d.programs p.slots
-  pcrs_share = each_at_most (λ _ q. recurring_load d.rate q.pcr_limit 1) (λ i _. per_period (marks (Pcr i) p.slots)) (length p.slots) parts 0 d.programs (λ i q is. share i q is)
+  pcrs_share = each_at_most (λ _ q. recurring_load d.rate q.pcr_limit 1) (λ i _. per_period (marks (Pcr i) p.slots)) (length p.slots) parts 0 d.programs
+      (λ i q is. share i q is)
     where
-      share : (i : ℕ) (q : DescribedProgram) → slice_get d.programs i ≡ Some q → length p.slots * recurring_load d.rate q.pcr_limit 1 ≤ parts * per_period (marks (Pcr (0 + i)) p.slots)
+      share : (i : ℕ) (q : DescribedProgram) → slice_get d.programs i ≡ Some q →
+          length p.slots * recurring_load d.rate q.pcr_limit 1 ≤ parts * per_period (marks (Pcr (0 + i)) p.slots)
       share i q is =
           let e : 0 + i ≡ i = omega arith in
-          let kept = recurring_share (marks (Pcr i) p.slots) q.pcr_limit 1 (k.shape.programs_own i (slice_get_within d.programs i q is)) (pcr_gap_holds d p i q k is) in
+          let kept = recurring_share (marks (Pcr i) p.slots) q.pcr_limit 1 (k.shape.programs_own i (slice_get_within d.programs i q is))
+          (pcr_gap_holds d p i q k is) in
           rw e (rw (length_marks (Pcr i) p.slots) at kept)
 
   tables_share : length p.slots * tables_load d d.rate ≤ parts * owned Table 0 (table_kinds d) p.slots
-  tables_share = each_at_most (λ t _. recurring_load d.rate (table_limit d t) (round_packets d t)) (λ t _. per_period (marks (Table t) p.slots)) (length p.slots) parts 0 (table_kinds d)
+  tables_share = each_at_most (λ t _. recurring_load d.rate (table_limit d t) (round_packets d t)) (λ t _. per_period (marks (Table t) p.slots))
+      (length p.slots) parts 0 (table_kinds d)
       (λ t x is. share t (slice_get_within (table_kinds d) t x is))
     where
       share : (t : ℕ) → t < table_count d →
@@ -238,7 +271,10 @@ pub reason_law : ReasonLaw
 reason_law d p serving =
     let k = serves d p serving in
     let e : (i : ℕ) → 0 + i ≡ i = λ i. omega arith in
-    let pcrs : pcr_reasons d ≡ [] = no_parts (pcr_reason d) 0 d.programs (λ i x is. pcr_kept d p k (0 + i) x (rw (e i) is) (rw (e i) (slice_get_within d.programs i x is))) in
-    let tables : table_reasons d ≡ [] = no_parts (λ t _. table_reason d t) 0 (table_kinds d) (λ t x is. table_kept d p k (0 + t) (rw (e t) (slice_get_within (table_kinds d) t x is))) in
-    let streams : stream_reasons d ≡ [] = no_parts (stream_reason d) 0 d.streams (λ i s is. stream_kept_whole d p i s (stream_holds d p i s k is) (0 + i) (leak_pace d p i s k is)) in
+    let pcrs : pcr_reasons d ≡ [] =
+    no_parts (pcr_reason d) 0 d.programs (λ i x is. pcr_kept d p k (0 + i) x (rw (e i) is) (rw (e i) (slice_get_within d.programs i x is))) in
+    let tables : table_reasons d ≡ [] =
+    no_parts (λ t _. table_reason d t) 0 (table_kinds d) (λ t x is. table_kept d p k (0 + t) (rw (e t) (slice_get_within (table_kinds d) t x is))) in
+    let streams : stream_reasons d ≡ [] =
+    no_parts (stream_reason d) 0 d.streams (λ i s is. stream_kept_whole d p i s (stream_holds d p i s k is) (0 + i) (leak_pace d p i s k is)) in
     rw (pcrs, tables, streams, load_kept d p k) refl

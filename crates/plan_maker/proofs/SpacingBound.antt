@@ -31,7 +31,10 @@ longest_numbered f few k (x ∷ xs) = omega (arith, few k x, longest_numbered f 
 
 pub few_slots : (d : Described) → longest (spaced_items d) ≤ 65536
 few_slots d =
-    let streams : longest (spaced_streams d) ≤ 65536 = longest_numbered (λ i s. record { slot = Stream i; spacing = spacing (stream_room d s) }) (λ i s. few_spacing (stream_room d s)) 0 d.streams in
-    let pcrs : longest (spaced_pcrs d) ≤ 65536 = longest_numbered (λ i p. record { slot = Pcr i; spacing = spacing (pcr_room d p) }) (λ i p. few_spacing (pcr_room d p)) 0 d.programs in
-    let tables : longest (spaced_tables d) ≤ 65536 = longest_numbered (λ t _. record { slot = Table t; spacing = spacing (table_room d t) }) (λ t _. few_spacing (table_room d t)) 0 (table_kinds d) in
+    let streams : longest (spaced_streams d) ≤ 65536 =
+    longest_numbered (λ i s. record { slot = Stream i; spacing = spacing (stream_room d s) }) (λ i s. few_spacing (stream_room d s)) 0 d.streams in
+    let pcrs : longest (spaced_pcrs d) ≤ 65536 =
+    longest_numbered (λ i p. record { slot = Pcr i; spacing = spacing (pcr_room d p) }) (λ i p. few_spacing (pcr_room d p)) 0 d.programs in
+    let tables : longest (spaced_tables d) ≤ 65536 =
+    longest_numbered (λ t _. record { slot = Table t; spacing = spacing (table_room d t) }) (λ t _. few_spacing (table_room d t)) 0 (table_kinds d) in
     omega (arith, streams, pcrs, tables, longest_append (spaced_streams d) (spaced_pcrs d ++ spaced_tables d), longest_append (spaced_pcrs d) (spaced_tables d))

@@ -1,6 +1,7 @@
 -- Items placed one after another, in rising order of their spacings.
 use Rattle.std.specs.Prelude.{◌==◌}
-use Rattle.std.proofs.Common.{◌≡◌, ℕ, suc, ◌+◌, ◌-◌, ◌^◌, ◌<◌, ◌≤◌, true, false, List, [], ◌∷◌, ◌++◌, length, drop, get_or, ◌≢◌, max, nat_cmp, Option, Some, None, refl, ap, sym, ◌∙◌, arith, add-one, eq-eqb}
+use Rattle.std.proofs.Common.{◌≡◌, ℕ, suc, ◌+◌, ◌-◌, ◌^◌, ◌<◌, ◌≤◌, true, false, List, [], ◌∷◌, ◌++◌, length, drop, get_or, ◌≢◌, max, nat_cmp, Option, Some}
+use Rattle.std.proofs.Common.{None, refl, ap, sym, ◌∙◌, arith, add-one, eq-eqb}
 use Rattle.std.proofs.lemmas.Bool.Decides.{nat_tests}
 use Rattle.std.proofs.lemmas.List.{at_drop_more, drop_all, get_or_default}
 use Rattle.std.specs.Ordering.{ord_max}
@@ -20,7 +21,8 @@ placed_after (item ∷ items) rest slots next e =
     step (first_of item.spacing (is_free slots item.spacing)) (λ x. placed_after items rest (with_item item.slot item.spacing x slots) next) e
   where
     step : (o : Option ℕ) →
-        ((x : ℕ) → placed items (with_item item.slot item.spacing x slots) ≡ Some next → placed (items ++ rest) (with_item item.slot item.spacing x slots) ≡ placed rest next) →
+        ((x : ℕ) → placed items (with_item item.slot item.spacing x slots) ≡ Some next →
+        placed (items ++ rest) (with_item item.slot item.spacing x slots) ≡ placed rest next) →
         (elim o [ None ↦ None | Some x ↦ placed items (with_item item.slot item.spacing x slots) ]) ≡ Some next →
         (elim o [ None ↦ None | Some x ↦ placed (items ++ rest) (with_item item.slot item.spacing x slots) ]) ≡ placed rest next
     step None more e = absurd (cc)
@@ -46,7 +48,8 @@ module _ (g : ℕ) (items : List Spaced) where
   -- the items of one spacing from number i on, where item number i is one of them
   pub comes_next : (i : ℕ) (x : Spaced) → i < length items → x ≡ get_or items i x → x.spacing ≡ g →
       of_spacing g (drop i items) ≡ x ∷ of_spacing g (drop (i + 1) items)
-  comes_next i x lt is same = at_drop_more (of_spacing g) items i x lt ∙ ap (λ (y : Spaced). of_spacing g (y ∷ drop (i + 1) items)) (sym is) ∙ taken (drop (i + 1) items)
+  comes_next i x lt is same = at_drop_more (of_spacing g) items i x lt ∙ ap (λ (y : Spaced). of_spacing g (y ∷ drop (i + 1) items)) (sym is)
+      ∙ taken (drop (i + 1) items)
     where
       taken : (rest : List Spaced) → of_spacing g (x ∷ rest) ≡ x ∷ of_spacing g rest
       taken rest = rw (eq-eqb x.spacing g same) refl
@@ -54,7 +57,8 @@ module _ (g : ℕ) (items : List Spaced) where
   -- and where it is not
   pub passes_by : (i : ℕ) (x : Spaced) → i < length items → x ≡ get_or items i x → x.spacing ≢ g →
       of_spacing g (drop i items) ≡ of_spacing g (drop (i + 1) items)
-  passes_by i x lt is other = at_drop_more (of_spacing g) items i x lt ∙ ap (λ (y : Spaced). of_spacing g (y ∷ drop (i + 1) items)) (sym is) ∙ left (drop (i + 1) items)
+  passes_by i x lt is other = at_drop_more (of_spacing g) items i x lt ∙ ap (λ (y : Spaced). of_spacing g (y ∷ drop (i + 1) items)) (sym is)
+      ∙ left (drop (i + 1) items)
     where
       left : (rest : List Spaced) → of_spacing g (x ∷ rest) ≡ of_spacing g rest
       left rest = rw (different x.spacing g other) refl
@@ -88,7 +92,8 @@ placed_one item slots x e = step (first_of item.spacing (is_free slots item.spac
     same a b e = cc
 
     step : (o : Option ℕ) → o ≡ Some x →
-        ◌≡◌ {A = Option (List Slot)} (elim o [ None ↦ None | Some y ↦ placed [] (with_item item.slot item.spacing y slots) ]) (Some (with_item item.slot item.spacing x slots))
+        ◌≡◌ {A = Option (List Slot)} (elim o [ None ↦ None | Some y ↦ placed [] (with_item item.slot item.spacing y slots) ])
+        (Some (with_item item.slot item.spacing x slots))
     step None e = absurd (cc)
     step (Some y) e = ap (λ (v : ℕ). Some (with_item item.slot item.spacing v slots)) (same y x e)
 
@@ -109,7 +114,8 @@ never_true e = absurd (cc)
 module _ (g : ℕ) (items : List Spaced) (i : ℕ) (d : Spaced) (now : List Slot) (whole : Option (List Slot)) (lt : i < length items)
     (inv : placed (of_spacing g (drop i items)) now ≡ whole) where
   -- item number i has its slots
-  pub place_next : (next : List Slot) → (get_or items i d).spacing ≡ g → placed (get_or items i d ∷ []) now ≡ Some next → placed (of_spacing g (drop (i + 1) items)) next ≡ whole
+  pub place_next : (next : List Slot) → (get_or items i d).spacing ≡ g → placed (get_or items i d ∷ []) now ≡ Some next →
+      placed (of_spacing g (drop (i + 1) items)) next ≡ whole
   place_next next same e =
       let x : Spaced = get_or items i d in
       let list = comes_next g items i x lt (get_or_default items i d x lt) same in
@@ -129,7 +135,8 @@ module _ (g : ℕ) (items : List Spaced) (i : ℕ) (d : Spaced) (now : List Slot
       let list = passes_by g items i x lt (get_or_default items i d x lt) other in
       ap (λ (l : List Spaced). placed l now) (sym list) ∙ inv
 
-pub place_end : (g : ℕ) (items : List Spaced) (i : ℕ) (now : List Slot) (whole : Option (List Slot)) → length items ≤ i → placed (of_spacing g (drop i items)) now ≡ whole → whole ≡ Some now
+pub place_end : (g : ℕ) (items : List Spaced) (i : ℕ) (now : List Slot) (whole : Option (List Slot)) → length items ≤ i →
+    placed (of_spacing g (drop i items)) now ≡ whole → whole ≡ Some now
 place_end g items i now whole le inv = sym inv ∙ ap (λ (l : List Spaced). placed l now) (none_left g items i le)
 
 module _ (items : List Spaced) (e power : ℕ) (now : List Slot) (whole : Option (List Slot)) (lt : e < 17) (is : power ≡ 2 ^ e)
@@ -148,5 +155,6 @@ module _ (items : List Spaced) (e power : ℕ) (now : List Slot) (whole : Option
       sym inv ∙ ap (λ (l : List Spaced). placed l now) (spacing_next e items lt)
       ∙ placed_not (of_spacing (2 ^ e) items) (by_spacing (e + 1) (17 - (e + 1)) items) now here
 
-pub spacings_placed : (items : List Spaced) (e : ℕ) (now : List Slot) (whole : Option (List Slot)) → 17 ≤ e → placed (by_spacing e (17 - e) items) now ≡ whole → whole ≡ Some now
+pub spacings_placed : (items : List Spaced) (e : ℕ) (now : List Slot) (whole : Option (List Slot)) → 17 ≤ e → placed (by_spacing e (17 - e) items) now ≡ whole →
+    whole ≡ Some now
 spacings_placed items e now whole le inv = sym inv ∙ ap (λ (l : List Spaced). placed l now) (spacings_end e items le)

@@ -1,5 +1,6 @@
 //! The search for a plan of a period: each item with the least own slots that its conditions ask for, placed by the
-//! earliest deadline first. Of what it finds only the period and the certificate are promised; the plan checker decides.
+//! earliest deadline first. Of what it finds only the period and the certificate are promised; the plan checker
+//! decides.
 
 pub mod demand;
 pub mod numbers;
@@ -99,8 +100,8 @@ fn period_slots<A: Allocator + Clone>(
     Ok(None)
 }
 
-/// Returns a plan of a period of at most `period` slots, if one is found; its certificate is the least that its slots can
-/// claim. Whether it serves the description is for the plan checker to say.
+/// Returns a plan of a period of at most `period` slots, if one is found; its certificate is the least that its slots
+/// can claim. Whether it serves the description is for the plan checker to say.
 pub fn period_plan<A: Allocator + Clone>(
     alloc: &A,
     description: &Description,

@@ -16,14 +16,17 @@ abbrev tables_from : Described → ℕ → List PlanItem
 tables_from d t = numbered (λ u _. table_item d u ∷ []) t (drop t (table_kinds d))
 
 -- a table more
-pub one_more : (d : Described) (t : ℕ) (items more start : List PlanItem) (item : PlanItem) → t < table_count d → item ≡ table_item d t → more ≡ items ++ item ∷ [] →
+pub one_more : (d : Described) (t : ℕ) (items more start : List PlanItem) (item : PlanItem) → t < table_count d → item ≡ table_item d t →
+    more ≡ items ++ item ∷ [] →
     items ++ numbered (λ u _. table_item d u ∷ []) t (drop t (table_kinds d)) ≡ start →
     more ++ numbered (λ u _. table_item d u ∷ []) (t + 1) (drop (t + 1) (table_kinds d)) ≡ start
 one_more d t items more start item there is pushed before =
     let next : t + 1 ≡ suc t = omega arith in
     let rest = tables_from d (suc t) in
     let moved : tables_from d (t + 1) ≡ rest = ap (tables_from d) next in
-    let first : more ++ tables_from d (t + 1) ≡ (items ++ item ∷ []) ++ rest = ap (λ (l : List PlanItem). l ++ tables_from d (t + 1)) pushed ∙ ap (λ (l : List PlanItem). (items ++ item ∷ []) ++ l) moved in
+    let first : more ++ tables_from d (t + 1) ≡ (items ++ item ∷ []) ++ rest = ap (λ (l : List PlanItem). l ++ tables_from d (t + 1)) pushed
+    ∙ ap (λ (l : List PlanItem). (items ++ item ∷ []) ++ l) moved in
     let named : items ++ (item ∷ rest) ≡ items ++ (table_item d t ∷ rest) = ap (λ (i : PlanItem). items ++ (i ∷ rest)) is in
-    let whole : items ++ (table_item d t ∷ rest) ≡ items ++ tables_from d t = ap (λ (l : List PlanItem). items ++ l) (sym (numbered_drop (λ u. table_item d u ∷ []) t t (table_kinds d) there)) in
+    let whole : items ++ (table_item d t ∷ rest) ≡ items ++ tables_from d t =
+    ap (λ (l : List PlanItem). items ++ l) (sym (numbered_drop (λ u. table_item d u ∷ []) t t (table_kinds d) there)) in
     first ∙ append_assoc items (item ∷ []) rest ∙ named ∙ whole ∙ before

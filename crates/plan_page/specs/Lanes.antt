@@ -54,7 +54,8 @@ abbrev pub quarter_slot : ℕ → ℕ → ℕ
 quarter_slot count q = min (count * q) (2 ^ 64 - 1) / 4
 
 unfoldable pub quarter : ℕ → ℕ → ℕ → List ℕ
-quarter rate count q = codes "<span>" ++ (decimal (quarter_slot count q) ++ (codes "<br>" ++ (millis (time_of (quarter_slot count q) rate) ++ codes " ms</span>")))
+quarter rate count q =
+    codes "<span>" ++ (decimal (quarter_slot count q) ++ (codes "<br>" ++ (millis (time_of (quarter_slot count q) rate) ++ codes " ms</span>")))
 
 unfoldable pub scale : ℕ → ℕ → List ℕ → List ℕ
 scale rate count quarters = flat_map (quarter rate count) quarters

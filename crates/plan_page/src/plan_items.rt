@@ -28,8 +28,8 @@ pub enum LimitName {
     Nothing,
 }
 
-/// What owns slots: its name, its program (0: none), its PID; and the limit, in units of 90 kHz, of its gaps over a number of own
-/// slots in a row.
+/// What owns slots: its name, its program (0: none), its PID; and the limit, in units of 90 kHz, of its gaps over a
+/// number of own slots in a row.
 #[derive(Clone, Copy)]
 pub struct PlanItem {
     pub owner: Owner,
@@ -144,8 +144,8 @@ fn push_programs(
     Ok(())
 }
 
-/// Returns all that slots can be for: the streams, the clock references and the tables of a description, each in the order of
-/// their numbers, and null packets.
+/// Returns all that slots can be for: the streams, the clock references and the tables of a description, each in the
+/// order of their numbers, and null packets.
 pub(crate) fn plan_items(
     alloc: Global,
     description: &Description,

@@ -49,7 +49,8 @@ video_empties rate s m claim leak marks units proper leaks holds empties = video
 
 pub stream_switch_empties : (rate : ℕ) (s : Declaration) (claim : StreamClaim) (first : List Bool) (next : StreamClaim) (second : List Bool) (periods : ℕ)
     (units : List PesPacket) → IsProper rate s → StreamConditions rate s claim first → StreamConditions rate s next second →
-    StreamSwitchConditions rate s claim first next second → EmptiesEachSecond rate s.drain claim.start first → EmptiesEachSecond rate s.drain next.start second →
+    StreamSwitchConditions rate s claim first next second → EmptiesEachSecond rate s.drain claim.start first →
+    EmptiesEachSecond rate s.drain next.start second →
     EmptiesAcross rate s.drain claim.start first next.start second → StreamEmptied (in_turn first periods second) rate s units
 stream_switch_empties rate s claim first next second periods units proper one two joins empties empties' across =
     stream_emptied rate s (in_turn first periods second) (max claim.peak next.peak) _ units proper

@@ -1,5 +1,6 @@
 -- Buffers that are empty at least once a second.
-use Rattle.std.proofs.Common.{◌≡◌, ℕ, zero, suc, ◌+◌, ◌-◌, ◌*◌, ◌/◌, ◌<◌, ◌≤◌, max, Bool, true, false, List, [], ◌∷◌, ◌++◌, take, drop, refl, ap, ◌∙◌, sym, inl, inr, arith, add-one, All}
+use Rattle.std.proofs.Common.{◌≡◌, ℕ, zero, suc, ◌+◌, ◌-◌, ◌*◌, ◌/◌, ◌<◌, ◌≤◌, max, Bool, true, false, List, [], ◌∷◌, ◌++◌, take, drop, refl, ap, ◌∙◌, sym, inl}
+use Rattle.std.proofs.Common.{inr, arith, add-one, All}
 use Rattle.std.proofs.Math.Nat.{le_trans, mul-le-mul_left, mul-le-mul_right, mul-pos, mul-div-le, lt-mul-div-succ}
 use Rattle.std.proofs.lemmas.Bool.{cases_Bool, cases_lt}
 use Rattle.std.proofs.lemmas.List.Elements.{All-nil, All-cons, All-append, All-take, All-drop, All-weaker}
@@ -69,7 +70,8 @@ last_in_row step r (suc n) i prev = omega (
       (λ fast. mul-le-mul_left n (omega (arith, fast))) (omega (arith, last_in_row step r n (suc i) (max (i * r) prev + step))),
 )
 
-packet_row : (step r s prev : ℕ) → last_left step prev (bytes_from r (188 * s) 188) + r ≤ max (max (188 * s * r) prev + 188 * step + r) ((188 * s + 188) * r + step)
+packet_row : (step r s prev : ℕ) → last_left step prev (bytes_from r (188 * s) 188)
+    + r ≤ max (max (188 * s * r) prev + 188 * step + r) ((188 * s + 188) * r + step)
 packet_row step r s prev = last_in_row step r 187 (188 * s) prev
 
 after_packet : (before after step r first prev last : ℕ) → (before - 188 * r) + 188 * step ≤ after → prev ≤ first + (before - 188 * r) →

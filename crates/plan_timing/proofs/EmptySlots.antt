@@ -1,5 +1,6 @@
 -- The slots in which a buffer becomes empty, from one period to all time.
-use Rattle.std.proofs.Common.{◌≡◌, ℕ, zero, suc, ◌+◌, ◌-◌, ◌*◌, ◌%◌, ◌<◌, ◌≤◌, max, Bool, true, false, nat_lt, ltb, not, List, [], ◌∷◌, length, get_or, refl, ap, ◌∙◌, sym, subst, inl, inr, arith}
+use Rattle.std.proofs.Common.{◌≡◌, ℕ, zero, suc, ◌+◌, ◌-◌, ◌*◌, ◌%◌, ◌<◌, ◌≤◌, max, Bool, true, false, nat_lt, ltb, not, List, [], ◌∷◌, length, get_or, refl}
+use Rattle.std.proofs.Common.{ap, ◌∙◌, sym, subst, inl, inr, arith}
 use Rattle.std.proofs.lemmas.Bool.{cases_lt, cond-true, cond-false, lt-ltb, le-ltb, ltb-true, and_parts}
 use Rattle.own_slots.specs.Slots.{AtLeastPerWindow}
 use Rattle.own_slots.specs.Period.{own, position, back}

@@ -20,7 +20,8 @@ use Rattle.unit_timing.specs.declared.multiplexing_buffer.MultiplexingBuffer.{Mu
 use Rattle.unit_timing.specs.Buffers.{tb_size, system_tb_drain, bsys_size, bsys_drain}
 use Rattle.unit_timing.specs.Allowances.{allowance_rows}
 use Rattle.unit_timing.specs.Plans.{StreamServed, ProgramServed}
-use Rattle.unit_timing.specs.Conditions.{IsProper, StreamClaim, ProgramClaim, rate_needed, rate_given, lead_needed, time_given, bytes_waiting, share_of, StreamConditions, ProgramConditions}
+use Rattle.unit_timing.specs.Conditions.{IsProper, StreamClaim, ProgramClaim, rate_needed, rate_given, lead_needed, time_given, bytes_waiting, share_of}
+use Rattle.unit_timing.specs.Conditions.{StreamConditions, ProgramConditions}
 use Rattle.unit_timing.specs.AccessUnits.{FramedConditions, framed_waiting}
 use Rattle.unit_timing.specs.VideoPlans.{LeakClaim, IsProperLeak, VideoConditions, VideoServed}
 use Rattle.unit_timing.specs.EmptyPlans.{StreamEmptied, VideoEmptied}
@@ -36,9 +37,13 @@ use Rattle.slot_plan.specs.declared.slot.Item.{Item}
 use Rattle.slot_plan.specs.declared.slot.Item.TheVariants.{Stream, Pcr, Table, System}
 use Rattle.slot_plan.specs.Planned.{Planned}
 use Rattle.slot_plan.specs.Items.{is_own, marks}
-use Rattle.slot_plan.specs.declared.condition.Condition.TheVariants.{PcrGap, TableGap, Spread, StreamRate, TransportBuffer, StreamLead, MainBuffer, SystemBuffer, MultiplexingBuffer, ElementaryLead}
+use Rattle.slot_plan.specs.declared.condition.Condition.TheVariants.{PcrGap, TableGap, Spread, StreamRate, TransportBuffer, StreamLead, MainBuffer}
+use Rattle.slot_plan.specs.declared.condition.Condition.TheVariants.{SystemBuffer, MultiplexingBuffer, ElementaryLead}
 use Rattle.slot_plan.specs.Claims.{declaration, stream_claim, program_claim, stream_share, multiplexing_claim, elementary_declaration, elementary_share}
-use Rattle.slot_plan.specs.Conditions.{buffer_entries, emptied_entries, entries_from, group_part, pcr_gap_entry, table_gap_entry, spread_entry, stream_rate_entry, stream_buffer_entries, stream_emptied_entries, transport_buffer_entries, stream_lead_entry, main_buffer_entry, frame_entry, frame_entries, system_buffer_entries, multiplexing_buffer_entries, elementary_lead_entry, elementary_lead_entries}
+use Rattle.slot_plan.specs.Conditions.{buffer_entries, emptied_entries, entries_from, group_part, pcr_gap_entry, table_gap_entry, spread_entry}
+use Rattle.slot_plan.specs.Conditions.{stream_rate_entry, stream_buffer_entries, stream_emptied_entries, transport_buffer_entries, stream_lead_entry}
+use Rattle.slot_plan.specs.Conditions.{main_buffer_entry, frame_entry, frame_entries, system_buffer_entries, multiplexing_buffer_entries, elementary_lead_entry}
+use Rattle.slot_plan.specs.Conditions.{elementary_lead_entries}
 use Rattle.slot_plan.specs.EmptySlots.{EmptiesEachSecond}
 use Rattle.slot_plan.specs.Schedule.{OwnedLaw, single, owned}
 use Rattle.slot_plan.specs.TableRounds.{first_packet}
@@ -93,7 +98,8 @@ lead_holds : (d : Described) (p : Planned) (i : ℕ) (s : DescribedStream) → H
     lead_needed (declaration s) (stream_share p i) m ≤ time_given d.rate (declaration s) (stream_share p i).count m
 lead_holds d p i s hold m some below =
     let e : 1 + (m - 1) ≡ m = omega arith in
-    at_most_holds StreamLead (group_part s m) i (lead_needed (declaration s) (stream_share p i) m) (time_given d.rate (declaration s) (stream_share p i).count m)
+    at_most_holds StreamLead (group_part s m) i (lead_needed (declaration s) (stream_share p i) m)
+    (time_given d.rate (declaration s) (stream_share p i).count m)
     (rw e at (holds_count (stream_lead_entry d p i s) 1 (allowance_rows s.allowance) (m - 1) (omega arith) hold))
 
 -- the conditions of its main buffer: of whole units, and of access units that are removed one by one
@@ -108,7 +114,8 @@ buffers_hold : (d : Described) (p : Planned) (i : ℕ) (s : DescribedStream) →
     Hold (buffer_entries TransportBuffer i d.rate s.rx tb_size (stream_claim p i).start (stream_claim p i).peak (marks (Stream i) p.slots))
     × Hold (stream_emptied_entries d p i s s.multiplexing)
 buffers_hold d p i s serves is = let claim = stream_claim p i in
-    holds_both (buffer_entries TransportBuffer i d.rate s.rx tb_size claim.start claim.peak (marks (Stream i) p.slots)) (stream_emptied_entries d p i s s.multiplexing)
+    holds_both (buffer_entries TransportBuffer i d.rate s.rx tb_size claim.start claim.peak (marks (Stream i) p.slots))
+    (stream_emptied_entries d p i s s.multiplexing)
     (holds_element (stream_buffer_entries d p) d.streams i s serves.stream_buffers is)
 
 pub stream_holds : (d : Described) (p : Planned) (i : ℕ) (s : DescribedStream) → ServingConditions d p → slice_get d.streams i ≡ Some s →
@@ -120,10 +127,12 @@ stream_holds d p i s serves is =
     (holds_element (λ j t. stream_rate_entry d p j t ∷ []) d.streams i s serves.rates is) in
     let main = at_most_holds MainBuffer 0 i (bytes_waiting d.rate (declaration s) own) s.main
     (mains_hold d p i s serves is).0 in
-    let lead = lead_holds d p i s (holds_element (λ k t. entries_from (stream_lead_entry d p k t) 1 (allowance_rows t.allowance)) d.streams i s serves.leads is) in
+    let lead = lead_holds d p i s
+    (holds_element (λ k t. entries_from (stream_lead_entry d p k t) 1 (allowance_rows t.allowance)) d.streams i s serves.leads is) in
     record {
       owned = serves.shape.streams_own i lt;
-      spread_claimed = at_most_holds Spread 0 i (spread (marks (Stream i) p.slots)) claim.spread (holds_item (λ j. spread_entry p j ∷ []) d.streams i serves.spreads lt);
+      spread_claimed =
+          at_most_holds Spread 0 i (spread (marks (Stream i) p.slots)) claim.spread (holds_item (λ j. spread_entry p j ∷ []) d.streams i serves.spreads lt);
       rate_serves = rw (length_marks (Stream i) p.slots) rate;
       work = holds_work TransportBuffer i d.rate s.rx tb_size claim.start claim.peak (marks (Stream i) p.slots)
           (buffers_hold d p i s serves is).0;
@@ -137,7 +146,8 @@ pub framing_ranges : (d : Described) (i : ℕ) (s : DescribedStream) (f : Framin
 framing_ranges d i s f ranges is some = All-head (IsFraming s.interval s.size) f [] (rw some at (stream_ranges d i s ranges is).framing)
 
 -- those of its access units, if they are removed one by one
-frame_holds : (d : Described) (p : Planned) (i : ℕ) (s : DescribedStream) (f : Framing) → ServingConditions d p → slice_get d.streams i ≡ Some s → s.framing ≡ Some f →
+frame_holds : (d : Described) (p : Planned) (i : ℕ) (s : DescribedStream) (f : Framing) → ServingConditions d p → slice_get d.streams i ≡ Some s →
+    s.framing ≡ Some f →
     (k : ℕ) → 0 < k → k < f.frames → framed_waiting d.rate (declaration s) f (stream_share p i) k ≤ s.main
 frame_holds d p i s f serves is some k one below =
     let e : 1 + (k - 1) ≡ k = omega arith in
@@ -145,7 +155,8 @@ frame_holds d p i s f serves is some k one below =
     at_most_holds MainBuffer k i (framed_waiting d.rate (declaration s) f (stream_share p i) k) s.main
     (rw e at (holds_count (frame_entry d p i s f) 1 (f.frames - 1) (k - 1) (omega arith) all))
 
-pub frames_hold : (d : Described) (p : Planned) (i : ℕ) (s : DescribedStream) (f : Framing) → IsInRange d → ServingConditions d p → slice_get d.streams i ≡ Some s →
+pub frames_hold : (d : Described) (p : Planned) (i : ℕ) (s : DescribedStream) (f : Framing) → IsInRange d → ServingConditions d p →
+    slice_get d.streams i ≡ Some s →
     s.framing ≡ Some f → FramedConditions d.rate (declaration s) f (share_of (claim_of p i) (marks (Stream i) p.slots))
 frames_hold d p i s f ranges serves is some = record {
   in_turn = (framing_ranges d i s f ranges is some).in_turn;
@@ -174,15 +185,18 @@ pub emptied_holds : (d : Described) (p : Planned) (i : ℕ) (s : DescribedStream
 emptied_holds d p i s b serves is some =
     holds_emptied TransportBuffer i d.rate s.rx (stream_claim p i).start (marks (Stream i) p.slots) (rw some at (buffers_hold d p i s serves is).1)
 
-pub leak_emptied_holds : (d : Described) (p : Planned) (i : ℕ) (s : DescribedStream) (b : LeakingBuffer) → ServingConditions d p → slice_get d.streams i ≡ Some s →
+pub leak_emptied_holds : (d : Described) (p : Planned) (i : ℕ) (s : DescribedStream) (b : LeakingBuffer) → ServingConditions d p →
+    slice_get d.streams i ≡ Some s →
     s.multiplexing ≡ Some b → EmptiesEachSecond d.rate b.rbx (multiplexing_claim p i).start (marks (Stream i) p.slots)
 leak_emptied_holds d p i s b serves is some =
     holds_emptied MultiplexingBuffer i d.rate b.rbx (multiplexing_claim p i).start (marks (Stream i) p.slots) (leak_buffers_hold d p i s b serves is some).1
 
 -- and those of its elementary stream buffer
-pub elementary_holds : (d : Described) (p : Planned) (i : ℕ) (s : DescribedStream) (b : LeakingBuffer) → ServingConditions d p → slice_get d.streams i ≡ Some s →
+pub elementary_holds : (d : Described) (p : Planned) (i : ℕ) (s : DescribedStream) (b : LeakingBuffer) → ServingConditions d p →
+    slice_get d.streams i ≡ Some s →
     s.multiplexing ≡ Some b → (m : ℕ) → 0 < m → m ≤ allowance_rows s.allowance →
-    lead_needed (elementary_declaration s b) (elementary_share d.rate p i) m ≤ time_given d.rate (elementary_declaration s b) (elementary_share d.rate p i).count m
+    lead_needed (elementary_declaration s b) (elementary_share d.rate p i) m ≤ time_given d.rate (elementary_declaration s b)
+    (elementary_share d.rate p i).count m
 elementary_holds d p i s b serves is some m one below =
     let e : 1 + (m - 1) ≡ m = omega arith in
     let all : Hold (entries_from (elementary_lead_entry d p i s b) 1 (allowance_rows s.allowance)) =
@@ -216,7 +230,8 @@ proper_leak d i s b ranges is some =
 pub program_holds : (d : Described) (p : Planned) (i : ℕ) → ServingConditions d p → i < length d.programs →
     ProgramConditions d.rate (program_claim_of p i) (marks (System i) p.slots)
 program_holds d p i serves lt = let claim = program_claim p i in record {
-  transport = holds_work TransportBuffer (length d.streams + i) d.rate system_tb_drain tb_size claim.transport_start claim.transport_peak (marks (System i) p.slots)
+  transport = holds_work TransportBuffer (length d.streams + i) d.rate system_tb_drain tb_size claim.transport_start claim.transport_peak
+      (marks (System i) p.slots)
       (holds_item (transport_buffer_entries d p) d.programs i serves.transport_buffers lt);
   system = holds_work SystemBuffer i d.rate bsys_drain bsys_size claim.system_start claim.system_peak (marks (System i) p.slots)
       (holds_item (system_buffer_entries d p) d.programs i serves.system_buffers lt);
@@ -273,11 +288,13 @@ plan_law law d p ranges serving =
           (omega (arith, ranges.least_rate)) (some_slots (System i)) (program_holds d p i k lt));
       pcrs = λ i program slots is. let own_marks = marks (Pcr i) p.slots in
           let lt : i < length d.programs = slice_get_within d.programs i program is in
-          subst (λ (o : ℕ → Bool). Recur d.rate program.pcr_limit 0 (map (λ s. 188 * s + 10) (own_slots o 0 slots)) (188 * slots)) (sym (law.alone p.slots (Pcr i)))
+          subst (λ (o : ℕ → Bool). Recur d.rate program.pcr_limit 0 (map (λ s. 188 * s + 10) (own_slots o 0 slots)) (188 * slots))
+          (sym (law.alone p.slots (Pcr i)))
           (pcr_law (own own_marks) (gap own_marks 1) d.rate program.pcr_limit slots
           (gap_law own_marks 1 (gap own_marks 1) (k.shape.programs_own i lt) (omega arith)) (pcr_gap_holds d p i program k is));
       sections = λ t j slots lt within. let own_marks = marks (Table t) p.slots in
-          subst (λ (o : ℕ → Bool). Recur d.rate (table_limit d t) 0 (map (λ s. 188 * s) (own_slots (starts o (round_packets d t) (first_packet d t j)) 0 slots)) (188 * slots))
+          subst (λ (o : ℕ → Bool). Recur d.rate (table_limit d t) 0 (map (λ s. 188 * s) (own_slots (starts o (round_packets d t) (first_packet d t j)) 0 slots))
+          (188 * slots))
           (sym (law.alone p.slots (Table t)))
           (table_law (own own_marks) (round_packets d t) (first_packet d t j) (gap own_marks (round_packets d t)) d.rate (table_limit d t) slots
           (first_packet_below d t j within) (gap_law own_marks (round_packets d t) (gap own_marks (round_packets d t)) (k.shape.tables_own t lt) (omega arith))

@@ -9,8 +9,8 @@ pub fn accepted_plan()
     slot_plan::laws::own_slots();
 }
 
-/// States the same for two plans whose conditions hold by themselves and together, the first for any number of its periods, then the
-/// second for all time.
+/// States the same for two plans whose conditions hold by themselves and together, the first for any number of its
+/// periods, then the second for all time.
 pub fn accepted_switch()
     ensures { SwitchLaw }
 {

@@ -147,7 +147,12 @@ after_own_bytes r h =
     let r1 : ℕ = r * 2 ^ 8 % 2 ^ 32 in
     let r2 : ℕ = r1 * 2 ^ 8 % 2 ^ 32 in
     let r3 : ℕ = r2 * 2 ^ 8 % 2 ^ 32 in
-    rw (after_own_byte r (r / 2 ^ 24) h refl, after_own_byte r1 (r / 2 ^ 16 % 256) (omega arith) (omega arith), after_own_byte r2 (r / 2 ^ 8 % 256) (omega arith) (omega arith), after_own_byte r3 (r % 256) (omega arith) (omega arith)) (omega arith)
+    rw (
+      after_own_byte r (r / 2 ^ 24) h refl,
+      after_own_byte r1 (r / 2 ^ 16 % 256) (omega arith) (omega arith),
+      after_own_byte r2 (r / 2 ^ 8 % 256) (omega arith) (omega arith),
+      after_own_byte r3 (r % 256) (omega arith) (omega arith),
+    ) (omega arith)
 
 -- after a message stands its check word: the register ends 0
 pub check_word-own : (xs : List ℕ)

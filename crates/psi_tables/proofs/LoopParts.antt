@@ -1,5 +1,6 @@
 -- Loops of entries: what stands in their bytes, and what their reader gives.
-use Rattle.std.proofs.Common.{◌≡◌, ℕ, zero, suc, ◌+◌, ◌<◌, ◌≤◌, nat_lt, Bool, true, false, cond, refl, sym, ap, ◌∙◌, subst, arith, List, [], ◌∷◌, ◌++◌, length, take, drop, Option, None, Some, option_map, option_and_then, is_some, append_assoc, length-append}
+use Rattle.std.proofs.Common.{◌≡◌, ℕ, zero, suc, ◌+◌, ◌<◌, ◌≤◌, nat_lt, Bool, true, false, cond, refl, sym, ap, ◌∙◌, subst, arith, List, [], ◌∷◌, ◌++◌, length}
+use Rattle.std.proofs.Common.{take, drop, Option, None, Some, option_map, option_and_then, is_some, append_assoc, length-append}
 use Rattle.std.specs.Prelude.{unwrap_or}
 use Rattle.std.proofs.lemmas.Bool.{ltb-false, le-ltb}
 use Rattle.std.proofs.lemmas.List.{length-take-le, take-append-drop}
@@ -47,8 +48,10 @@ pub entry_at-read : (k : ℕ) (e : EntryView) (rest : List ℕ) → IsEntry k e 
 unfolding entry_at entry_bytes
 entry_at-read k e rest h =
     let l : length e.head ≡ k = h.head_length in
-    let fits : nat_lt (length (e.head ++ (e.descriptors ++ rest))) (length e.head) ≡ false = le-ltb _ _ (omega (arith, length-append e.head (e.descriptors ++ rest))) in
-    rw (append_assoc e.head e.descriptors rest, ← l, fits, take-append_seam e.head (e.descriptors ++ rest), drop-append_seam e.head (e.descriptors ++ rest)) (after_read e rest h.named)
+    let fits : nat_lt (length (e.head ++ (e.descriptors ++ rest))) (length e.head) ≡ false =
+    le-ltb _ _ (omega (arith, length-append e.head (e.descriptors ++ rest))) in
+    rw (append_assoc e.head e.descriptors rest, ← l, fits, take-append_seam e.head (e.descriptors ++ rest), drop-append_seam e.head (e.descriptors ++ rest))
+    (after_read e rest h.named)
 
 pub HasEntry-shorter : (k : ℕ) (bytes : List ℕ) (e : EntryView) (rest : List ℕ) → HasEntry k bytes e rest → length rest + k ≤ length bytes
 unfolding entry_bytes
@@ -72,14 +75,16 @@ loop_from-more k (b ∷ bytes) (suc n) (suc m) some hn hm =
     ap (λ (o : Option (List EntryView)). option_map (λ es. p.0 ∷ es) o) (loop_from-more k p.1 n m some (omega arith) (omega arith)))
 
 -- a loop is its first entry and the loop after it
-pub loop_at-step : (k : ℕ) (bytes : List ℕ) (p : EntryView × List ℕ) → 0 < k → entry_at k bytes ≡ Some p → loop_at k bytes ≡ option_map (λ es. p.0 ∷ es) (loop_at k p.1)
+pub loop_at-step : (k : ℕ) (bytes : List ℕ) (p : EntryView × List ℕ) → 0 < k → entry_at k bytes ≡ Some p →
+    loop_at k bytes ≡ option_map (λ es. p.0 ∷ es) (loop_at k p.1)
 unfolding loop_at loop_from
 loop_at-step k [] p some e =
     let shorter : length p.1 + k ≤ 0 = HasEntry-shorter k [] p.0 p.1 (entry_at-is k [] p e) in
     absurd (omega arith)
 loop_at-step k (b ∷ bytes) p some e =
     let shorter : length p.1 + k ≤ length (b ∷ bytes) = HasEntry-shorter k (b ∷ bytes) p.0 p.1 (entry_at-is k (b ∷ bytes) p e) in
-    let fuel : loop_from k p.1 (length bytes) ≡ loop_from k p.1 (length p.1) = loop_from-more k p.1 (length bytes) (length p.1) some (omega arith) (omega arith) in
+    let fuel : loop_from k p.1 (length bytes) ≡ loop_from k p.1 (length p.1) =
+    loop_from-more k p.1 (length bytes) (length p.1) some (omega arith) (omega arith) in
     ap (λ (o : Option (EntryView × List ℕ)). option_and_then (λ p. option_map (λ es. p.0 ∷ es) (loop_from k p.1 (length bytes))) o) e
     ∙ ap (λ (o : Option (List EntryView)). option_map (λ es. p.0 ∷ es) o) fuel
 
@@ -87,7 +92,8 @@ loop_at-step k (b ∷ bytes) p some e =
 pub loop_at-stop : (k : ℕ) (bytes : List ℕ) → 0 < length bytes → entry_at k bytes ≡ None → loop_at k bytes ≡ None
 unfolding loop_at loop_from
 loop_at-stop k [] some e = absurd (omega arith)
-loop_at-stop k (b ∷ bytes) some e = ap (λ (o : Option (EntryView × List ℕ)). option_and_then (λ p. option_map (λ es. p.0 ∷ es) (loop_from k p.1 (length bytes))) o) e
+loop_at-stop k (b ∷ bytes) some e =
+    ap (λ (o : Option (EntryView × List ℕ)). option_and_then (λ p. option_map (λ es. p.0 ∷ es) (loop_from k p.1 (length bytes))) o) e
 
 pub loop_at-end : (k : ℕ) → loop_at k [] ≡ Some []
 unfolding loop_at loop_from
@@ -144,7 +150,8 @@ entries_of_step : (e : EntryView) (a o : Option (List EntryView)) → a ≡ opti
 entries_of_step e a None s h = absurd (cc (ap (λ (o : Option (List EntryView)). is_some o) s))
 entries_of_step e a (Some es) s h = ap (λ (o : Option (List EntryView)). unwrap_or o []) s
 
-pub entries-step : (k : ℕ) (bytes : List ℕ) (p : EntryView × List ℕ) → 0 < k → entry_at k bytes ≡ Some p → is_some (loop_at k bytes) ≡ true → entries_in k bytes ≡ p.0 ∷ entries_in k p.1
+pub entries-step : (k : ℕ) (bytes : List ℕ) (p : EntryView × List ℕ) → 0 < k → entry_at k bytes ≡ Some p → is_some (loop_at k bytes) ≡ true →
+    entries_in k bytes ≡ p.0 ∷ entries_in k p.1
 entries-step k bytes p some e h = entries_of_step p.0 (loop_at k bytes) (loop_at k p.1) (loop_at-step k bytes p some e) h
 
 -- a loop of no bytes is whole

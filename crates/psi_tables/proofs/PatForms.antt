@@ -1,12 +1,14 @@
 -- The program association table: what is read stands there, and what is written is read again.
-use Rattle.std.proofs.Common.{◌≡◌, ℕ, suc, ◌+◌, ◌*◌, ◌/◌, ◌%◌, ◌^◌, ◌<◌, ◌≤◌, ◌==◌, Bool, true, false, cond, refl, sym, ap, ap₂, ◌∙◌, subst, arith, List, [], ◌∷◌, ◌++◌, length, Result, Ok, Err, flat_map, eq-eqb, eqb-true, lit<}
+use Rattle.std.proofs.Common.{◌≡◌, ℕ, suc, ◌+◌, ◌*◌, ◌/◌, ◌%◌, ◌^◌, ◌<◌, ◌≤◌, ◌==◌, Bool, true, false, cond, refl, sym, ap, ap₂, ◌∙◌, subst, arith, List, []}
+use Rattle.std.proofs.Common.{◌∷◌, ◌++◌, length, Result, Ok, Err, flat_map, eq-eqb, eqb-true, lit<}
 use Rattle.bit_fields.specs.Fields.{number, fields, IsBytes}
 use Rattle.bit_fields.specs.Reading.{◌>>=◌}
 use Rattle.bit_fields.proofs.Bind.{bind_ok, ok_is}
 use Rattle.psi_tables.specs.Views.{SectionView}
 use Rattle.psi_tables.specs.Encoding.{IsWritable}
 use Rattle.psi_tables.specs.Tables.{table_header_at}
-use Rattle.psi_tables.specs.ProgramAssociation.{PatView, IsProgram, ArePrograms, IsPat, program_of, programs_in, pat_at, program_bytes, programs_bytes, pat_header, pat_section, ProgramFits, ProgramsFit, PatFits}
+use Rattle.psi_tables.specs.ProgramAssociation.{PatView, IsProgram, ArePrograms, IsPat, program_of, programs_in, pat_at, program_bytes, programs_bytes}
+use Rattle.psi_tables.specs.ProgramAssociation.{pat_header, pat_section, ProgramFits, ProgramsFit, PatFits}
 use Rattle.psi_tables.specs.declared.error.SectionError.{SectionError}
 use Rattle.psi_tables.specs.declared.error.SectionError.TheVariants.{Body}
 use Rattle.psi_tables.specs.declared.section.LongHeader.{LongHeader}
@@ -37,7 +39,8 @@ four (a ∷ b ∷ c ∷ d ∷ []) h = (a, b, c, d, refl)
 four (a ∷ b ∷ c ∷ d ∷ e ∷ xs) h = absurd (omega arith)
 
 program_again : (a b c d : ℕ) (p : Program) (reserved : ℕ) → a < 256 → b < 256 → c < 256 → d < 256
-    → number (a ∷ b ∷ c ∷ d ∷ []) ≡ fields ((16, p.program_number) ∷ (3, reserved) ∷ (13, p.pid) ∷ []) → p.program_number < 2 ^ 16 → reserved < 2 ^ 3 → p.pid < 2 ^ 13
+    → number (a ∷ b ∷ c ∷ d ∷ []) ≡ fields ((16, p.program_number) ∷ (3, reserved) ∷ (13, p.pid) ∷ []) → p.program_number < 2 ^ 16 → reserved < 2 ^ 3 →
+    p.pid < 2 ^ 13
     → program_of a b c d ≡ p
 unfolding program_of
 program_again a b c d p reserved ha hb hc hd e hn hr hp =
@@ -50,7 +53,8 @@ pub record ProgramsRead (bytes : List ℕ) (ps : List Program) : Type 0 where
   pub whole : length bytes % 4 ≡ 0
   pub programs : programs_in bytes ≡ ps
 
-read_more : (a b c d : ℕ) (rest : List ℕ) (p : Program) (ps : List Program) → program_of a b c d ≡ p → ProgramsRead rest ps → ProgramsRead (a ∷ b ∷ c ∷ d ∷ rest) (p ∷ ps)
+read_more : (a b c d : ℕ) (rest : List ℕ) (p : Program) (ps : List Program) → program_of a b c d ≡ p → ProgramsRead rest ps →
+    ProgramsRead (a ∷ b ∷ c ∷ d ∷ rest) (p ∷ ps)
 unfolding programs_in
 read_more a b c d rest p ps e h =
     let less : length rest % 4 ≡ 0 = h.whole in
@@ -95,7 +99,8 @@ read_by s p header programs =
     let test : (length s.body % 4 == 0) ≡ true = eq-eqb (length s.body % 4) 0 programs.whole in
     let whole : ◌≡◌ {A = PatView} (record { header = p.header; programs = programs_in s.body }) (record { header = p.header; programs = p.programs }) =
     ap (λ (ps : List Program). record { header = p.header; programs = ps }) programs.programs in
-    ap (λ (r : Result LongHeader SectionError). r >>= λ header. cond (length s.body % 4 == 0) (Ok (record { header = header; programs = programs_in s.body })) (Err Body))
+    ap (λ (r : Result LongHeader SectionError). r >>= λ header. cond (length s.body % 4 == 0) (Ok (record { header = header; programs = programs_in s.body }))
+    (Err Body))
     (table_header_at-read 0x00 1021 s p.header header)
     ∙ ap (λ (t : Bool). cond t (ok (record { header = p.header; programs = programs_in s.body })) (Err Body)) test
     ∙ ap ok whole where
@@ -104,7 +109,8 @@ read_by s p header programs =
 
 -- a PAT that stands there is read
 pub pat_again : (s : SectionView) (p : PatView) → IsBytes s.body → IsPat s p → pat_at s ≡ Ok p
-pat_again s p h k = read_by s p (record { table_id = k.table_id; long = k.long; section_length = k.section_length }) (programs_again p.programs s.body h k.programs)
+pat_again s p h k =
+    read_by s p (record { table_id = k.table_id; long = k.long; section_length = k.section_length }) (programs_again p.programs s.body h k.programs)
 
 program_written : (p : Program) → ProgramFits p → IsProgram (program_bytes p) p
 unfolding program_bytes
@@ -120,9 +126,12 @@ written_read : (ps : List Program) → ProgramsFit ps → ProgramsRead (programs
 unfolding programs_bytes program_bytes programs_in
 written_read [] h = record { whole = refl; programs = refl }
 written_read (p ∷ ps) h =
-    read_more (p.program_number / 256) (p.program_number % 256) (0xE0 + p.pid / 256 % 32) (p.pid % 256) (flat_map program_bytes ps) p ps (program_same p h.0) (written_read ps h.1) where
+    read_more (p.program_number / 256) (p.program_number % 256) (0xE0 + p.pid / 256 % 32) (p.pid % 256) (flat_map program_bytes ps) p ps (program_same p h.0)
+    (written_read ps h.1) where
       program_same : (p : Program) → ProgramFits p → program_of (p.program_number / 256) (p.program_number % 256) (0xE0 + p.pid / 256 % 32) (p.pid % 256) ≡ p
-      program_same p h = program_again _ _ _ _ p 7 (omega (arith, h.program_number)) (omega arith) (omega arith) (omega arith) (omega (arith, h.pid, h.program_number)) h.program_number (lit< tt) h.pid
+      program_same p h =
+          program_again _ _ _ _ p 7 (omega (arith, h.program_number)) (omega arith) (omega arith) (omega arith) (omega (arith, h.pid, h.program_number))
+          h.program_number (lit< tt) h.pid
 
 pub length_programs_bytes : (ps : List Program) → length (programs_bytes ps) ≡ 4 * length ps
 unfolding programs_bytes program_bytes

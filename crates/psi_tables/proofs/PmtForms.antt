@@ -1,5 +1,6 @@
 -- The program map table: what is read stands there, and what is written is read again.
-use Rattle.std.proofs.Common.{◌≡◌, ℕ, ◌+◌, ◌*◌, ◌/◌, ◌%◌, ◌^◌, ◌<◌, ◌≤◌, refl, sym, ap, ◌∙◌, subst, arith, List, [], ◌∷◌, ◌++◌, length, Option, None, Some, Result, Ok, flat_map, slice_index, length-append, lit<}
+use Rattle.std.proofs.Common.{◌≡◌, ℕ, ◌+◌, ◌*◌, ◌/◌, ◌%◌, ◌^◌, ◌<◌, ◌≤◌, refl, sym, ap, ◌∙◌, subst, arith, List, [], ◌∷◌, ◌++◌, length, Option, None, Some}
+use Rattle.std.proofs.Common.{Result, Ok, flat_map, slice_index, length-append, lit<}
 use Rattle.bit_fields.specs.Fields.{number, fields, IsBytes}
 use Rattle.bit_fields.specs.Reading.{◌>>=◌}
 use Rattle.bit_fields.proofs.Bind.{bind_ok, ok_is}
@@ -8,7 +9,9 @@ use Rattle.psi_tables.specs.Views.{SectionView}
 use Rattle.psi_tables.specs.Encoding.{IsWritable}
 use Rattle.psi_tables.specs.Tables.{table_header_at}
 use Rattle.psi_tables.specs.Loops.{EntryView, descriptors_length, IsEntry, entry_bytes, entry_at, entries_in}
-use Rattle.psi_tables.specs.ProgramMap.{StreamView, PmtView, IsStream, AreStreams, IsPmt, streams_in, streams_at, pmt_after, pmt_at, info_length_bytes, pid_bytes, stream_entry, stream_bytes, streams_bytes, pmt_body, pmt_header, pmt_section, StreamFits, StreamsFit, PmtFits}
+use Rattle.psi_tables.specs.ProgramMap.{StreamView, PmtView, IsStream, AreStreams, IsPmt, streams_in, streams_at, pmt_after, pmt_at, info_length_bytes}
+use Rattle.psi_tables.specs.ProgramMap.{pid_bytes, stream_entry, stream_bytes, streams_bytes, pmt_body, pmt_header, pmt_section, StreamFits, StreamsFit}
+use Rattle.psi_tables.specs.ProgramMap.{PmtFits}
 use Rattle.psi_tables.specs.declared.error.SectionError.{SectionError}
 use Rattle.psi_tables.specs.declared.section.LongHeader.{LongHeader}
 use Rattle.psi_tables.proofs.TableForms.{HasHeader, table_header_at-is, table_header_at-read}
@@ -24,7 +27,8 @@ front_found a b c d descriptors ha hb hc hd named = let len : c % 16 * 256 + d �
 
 -- a body of this front, these descriptors and these streams
 table_found : (s : SectionView) (header : LongHeader) (a b c d : ℕ) (descriptors rest : List ℕ) (ss : List StreamView) → HasHeader 0x02 1021 s header
-    → s.body ≡ (a ∷ b ∷ c ∷ d ∷ descriptors) ++ rest → a < 256 → b < 256 → c < 256 → d < 256 → descriptors_length (a ∷ b ∷ c ∷ d ∷ []) ≡ length descriptors → AreStreams rest ss
+    → s.body ≡ (a ∷ b ∷ c ∷ d ∷ descriptors) ++ rest → a < 256 → b < 256 → c < 256 → d < 256 → descriptors_length (a ∷ b ∷ c ∷ d ∷ []) ≡ length descriptors →
+    AreStreams rest ss
     → IsPmt s (record { header = header; pcr_pid = a % 32 * 256 + b; program_info = descriptors; streams = ss })
 unfolding descriptors_length
 table_found s header a b c d descriptors rest ss k is ha hb hc hd named streams =
@@ -53,7 +57,14 @@ pub record After (header : LongHeader) (o : Option (EntryView × List ℕ)) (p :
   pub there : o ≡ Some front
   pub streams : List StreamView
   pub read : streams_at front.1 ≡ Ok streams
-  pub is : ◌≡◌ {A = PmtView} (record { header = header; pcr_pid = slice_index front.0.head 0 % 32 * 256 + slice_index front.0.head 1; program_info = front.0.descriptors; streams = streams }) p
+  pub is : ◌≡◌ {A = PmtView}
+      (record {
+        header = header;
+        pcr_pid = slice_index front.0.head 0 % 32 * 256 + slice_index front.0.head 1;
+        program_info = front.0.descriptors;
+        streams =
+            streams;
+      }) p
 
 after_is : (header : LongHeader) (o : Option (EntryView × List ℕ)) (p : PmtView) → pmt_after header o ≡ Ok p → After header o p
 unfolding pmt_after
@@ -62,7 +73,8 @@ after_is header (Some x) p e =
     let q = bind_ok (streams_at x.1) _ p e in
     record { front = x; there = refl; streams = q.0; read = q.1; is = ok_is _ p q.2 }
 
-front_is : (s : SectionView) (header : LongHeader) (e : EntryView) (rest : List ℕ) (ss : List StreamView) → IsBytes s.body → HasHeader 0x02 1021 s header → HasEntry 4 s.body e rest → AreStreams rest ss
+front_is : (s : SectionView) (header : LongHeader) (e : EntryView) (rest : List ℕ) (ss : List StreamView) → IsBytes s.body → HasHeader 0x02 1021 s header →
+    HasEntry 4 s.body e rest → AreStreams rest ss
     → IsPmt s (record { header = header; pcr_pid = slice_index e.head 0 % 32 * 256 + slice_index e.head 1; program_info = e.descriptors; streams = ss })
 unfolding entry_bytes
 front_is s header e rest ss h k there streams =
@@ -70,13 +82,15 @@ front_is s header e rest ss h k there streams =
     let is : s.body ≡ (v.0 ∷ v.1 ∷ v.2 ∷ v.3 ∷ e.descriptors) ++ rest = there.is ∙ ap (λ (x : List ℕ). (x ++ e.descriptors) ++ rest) v.4 in
     let bytes : IsBytes ((v.0 ∷ v.1 ∷ v.2 ∷ v.3 ∷ e.descriptors) ++ rest) = subst IsBytes is h in
     let named : descriptors_length (v.0 ∷ v.1 ∷ v.2 ∷ v.3 ∷ []) ≡ length e.descriptors = ap descriptors_length (sym v.4) ∙ there.entry.named in
-    subst (λ (x : List ℕ). IsPmt s (record { header = header; pcr_pid = slice_index x 0 % 32 * 256 + slice_index x 1; program_info = e.descriptors; streams = ss })) (sym v.4)
+    subst (λ (x : List ℕ). IsPmt s
+    (record { header = header; pcr_pid = slice_index x 0 % 32 * 256 + slice_index x 1; program_info = e.descriptors; streams = ss })) (sym v.4)
     (table_found s header v.0 v.1 v.2 v.3 e.descriptors rest ss k is (bytes 0) (bytes 1) (bytes 2) (bytes 3) named streams)
 
 streams_there : (bytes : List ℕ) (ss : List StreamView) → IsBytes bytes → StreamsRead bytes ss → AreStreams bytes ss
 unfolding streams_in
 streams_there bytes ss h k =
-    subst (λ (xs : List StreamView). AreStreams bytes xs) k.streams (streams_found bytes (entries_in 5 bytes) h (loop_at-is 5 bytes (entries_in 5 bytes) (whole_is 5 bytes k.whole)))
+    subst (λ (xs : List StreamView). AreStreams bytes xs) k.streams
+    (streams_found bytes (entries_in 5 bytes) h (loop_at-is 5 bytes (entries_in 5 bytes) (whole_is 5 bytes k.whole)))
 
 -- a PMT that was read is one
 pub pmt_is : (s : SectionView) (p : PmtView) → IsBytes s.body → pmt_at s ≡ Ok p → IsPmt s p
@@ -97,7 +111,8 @@ after_read : (p : PmtView) (head rest : List ℕ) → slice_index head 0 % 32 * 
     → pmt_after p.header (Some (record { head = head; descriptors = p.program_info }, rest)) ≡ Ok p
 unfolding pmt_after ok
 after_read p head rest pid streams =
-    let whole : ◌≡◌ {A = PmtView} (record { header = p.header; pcr_pid = slice_index head 0 % 32 * 256 + slice_index head 1; program_info = p.program_info; streams = p.streams })
+    let whole : ◌≡◌ {A = PmtView}
+    (record { header = p.header; pcr_pid = slice_index head 0 % 32 * 256 + slice_index head 1; program_info = p.program_info; streams = p.streams })
     (record { header = p.header; pcr_pid = p.pcr_pid; program_info = p.program_info; streams = p.streams }) =
     ap (λ (n : ℕ). record { header = p.header; pcr_pid = n; program_info = p.program_info; streams = p.streams }) pid in
     ap (λ (r : Result (List StreamView) SectionError). r >>= λ streams. ok (record {
@@ -108,8 +123,10 @@ after_read p head rest pid streams =
     })) (streams_at-read rest p.streams streams)
     ∙ ap ok whole
 
-read_by : (s : SectionView) (p : PmtView) (head rest : List ℕ) → HasHeader 0x02 1021 s p.header → s.body ≡ entry_bytes (record { head = head; descriptors = p.program_info }) ++ rest
-    → IsEntry 4 (record { head = head; descriptors = p.program_info }) → slice_index head 0 % 32 * 256 + slice_index head 1 ≡ p.pcr_pid → StreamsRead rest p.streams → pmt_at s ≡ Ok p
+read_by : (s : SectionView) (p : PmtView) (head rest : List ℕ) → HasHeader 0x02 1021 s p.header →
+    s.body ≡ entry_bytes (record { head = head; descriptors = p.program_info }) ++ rest
+    → IsEntry 4 (record { head = head; descriptors = p.program_info }) → slice_index head 0 % 32 * 256 + slice_index head 1 ≡ p.pcr_pid →
+    StreamsRead rest p.streams → pmt_at s ≡ Ok p
 unfolding pmt_at
 read_by s p head rest header is entry pid streams =
     let front : entry_at 4 s.body ≡ Some (record { head = head; descriptors = p.program_info }, rest) =
@@ -118,20 +135,24 @@ read_by s p head rest header is entry pid streams =
     ∙ ap (λ (o : Option (EntryView × List ℕ)). pmt_after p.header o) front
     ∙ after_read p head rest pid streams
 
-front_bytes : (body rest descriptors : List ℕ) (a b c d : ℕ) → body ≡ (a ∷ b ∷ c ∷ d ∷ descriptors) ++ rest → body ≡ entry_bytes (record { head = a ∷ b ∷ c ∷ d ∷ []; descriptors = descriptors }) ++ rest
+front_bytes : (body rest descriptors : List ℕ) (a b c d : ℕ) → body ≡ (a ∷ b ∷ c ∷ d ∷ descriptors) ++ rest →
+    body ≡ entry_bytes (record { head = a ∷ b ∷ c ∷ d ∷ []; descriptors = descriptors }) ++ rest
 unfolding entry_bytes
 front_bytes body rest descriptors a b c d is = is
 
-front_entry : (a b c d : ℕ) (descriptors : List ℕ) → c % 16 * 256 + d ≡ length descriptors → IsEntry 4 (record { head = a ∷ b ∷ c ∷ d ∷ []; descriptors = descriptors })
+front_entry : (a b c d : ℕ) (descriptors : List ℕ) → c % 16 * 256 + d ≡ length descriptors →
+    IsEntry 4 (record { head = a ∷ b ∷ c ∷ d ∷ []; descriptors = descriptors })
 unfolding descriptors_length
 front_entry a b c d descriptors len = record { head_length = refl; named = len }
 
-again_by : (s : SectionView) (p : PmtView) (a b c d : ℕ) (rest : List ℕ) (reserved reserved' : ℕ) → HasHeader 0x02 1021 s p.header → s.body ≡ (a ∷ b ∷ c ∷ d ∷ p.program_info) ++ rest
+again_by : (s : SectionView) (p : PmtView) (a b c d : ℕ) (rest : List ℕ) (reserved reserved' : ℕ) → HasHeader 0x02 1021 s p.header →
+    s.body ≡ (a ∷ b ∷ c ∷ d ∷ p.program_info) ++ rest
     → a < 256 → b < 256 → c < 256 → d < 256
     → number (a ∷ b ∷ c ∷ d ∷ []) ≡ fields ((3, reserved) ∷ (13, p.pcr_pid) ∷ (4, reserved') ∷ (12, length p.program_info) ∷ [])
     → reserved < 2 ^ 3 → p.pcr_pid < 2 ^ 13 → reserved' < 2 ^ 4 → length p.program_info < 2 ^ 12 → StreamsRead rest p.streams → pmt_at s ≡ Ok p
 again_by s p a b c d rest reserved reserved' header is ha hb hc hd spelled hr hp hr' hl streams =
-    read_by s p (a ∷ b ∷ c ∷ d ∷ []) rest header (front_bytes s.body rest p.program_info a b c d is) (front_entry a b c d p.program_info (omega arith)) (omega arith) streams
+    read_by s p (a ∷ b ∷ c ∷ d ∷ []) rest header (front_bytes s.body rest p.program_info a b c d is) (front_entry a b c d p.program_info (omega arith))
+    (omega arith) streams
 
 -- a PMT that stands there is read
 pub pmt_again : (s : SectionView) (p : PmtView) → IsBytes s.body → IsPmt s p → pmt_at s ≡ Ok p
@@ -139,8 +160,10 @@ pmt_again s p h k =
     let v = four k.head k.head_length in
     let is : s.body ≡ (v.0 ∷ v.1 ∷ v.2 ∷ v.3 ∷ p.program_info) ++ k.loop = k.is ∙ ap (λ (x : List ℕ). x ++ (p.program_info ++ k.loop)) v.4 in
     let bytes : IsBytes ((v.0 ∷ v.1 ∷ v.2 ∷ v.3 ∷ p.program_info) ++ k.loop) = subst IsBytes is h in
-    let spelled = subst (λ (x : List ℕ). number x ≡ fields ((3, k.reserved) ∷ (13, p.pcr_pid) ∷ (4, k.reserved_after) ∷ (12, length p.program_info) ∷ [])) v.4 k.spelled in
-    again_by s p v.0 v.1 v.2 v.3 k.loop k.reserved k.reserved_after (record { table_id = k.table_id; long = k.long; section_length = k.section_length }) is (bytes 0) (bytes 1) (bytes 2) (bytes 3)
+    let spelled = subst (λ (x : List ℕ). number x ≡ fields ((3, k.reserved) ∷ (13, p.pcr_pid) ∷ (4, k.reserved_after) ∷ (12, length p.program_info) ∷ [])) v.4
+    k.spelled in
+    again_by s p v.0 v.1 v.2 v.3 k.loop k.reserved k.reserved_after (record { table_id = k.table_id; long = k.long; section_length = k.section_length }) is
+    (bytes 0) (bytes 1) (bytes 2) (bytes 3)
     spelled k.three_bits k.pcr_pid k.four_bits k.info_length
     (streams_read k.loop p.streams (IsBytes-append_right (v.0 ∷ v.1 ∷ v.2 ∷ v.3 ∷ p.program_info) k.loop bytes) k.streams)
 
@@ -148,7 +171,8 @@ stream_written : (s : StreamView) → StreamFits s → IsStream (stream_bytes s)
 unfolding stream_bytes stream_entry entry_bytes pid_bytes info_length_bytes
 stream_written s h =
     record {
-      head = s.stream_type ∷ (0xE0 + s.elementary_pid / 256 % 32) ∷ (s.elementary_pid % 256) ∷ (0xF0 + length s.descriptors / 256 % 16) ∷ (length s.descriptors % 256) ∷ [];
+      head = s.stream_type ∷ (0xE0 + s.elementary_pid / 256 % 32) ∷ (s.elementary_pid % 256) ∷ (0xF0 + length s.descriptors / 256 % 16) ∷
+          (length s.descriptors % 256) ∷ [];
       is = refl;
       reserved = 7;
       reserved_after = 15;
@@ -204,6 +228,7 @@ written p h =
         streams = streams_written p.streams h.streams;
       };
       writable = record { table_id = lit< tt; numbers = h.header; room = omega arith };
-      read = again_by (pmt_section p) p a b c d (streams_bytes p.streams) 7 15 header refl (omega (arith, h.pcr_pid)) (omega arith) (omega arith) (omega arith) spelled (lit< tt) h.pcr_pid (lit< tt) few
+      read = again_by (pmt_section p) p a b c d (streams_bytes p.streams) 7 15 header refl (omega (arith, h.pcr_pid)) (omega arith) (omega arith) (omega arith)
+          spelled (lit< tt) h.pcr_pid (lit< tt) few
           (record { whole = streams.whole; streams = streams.streams });
     }

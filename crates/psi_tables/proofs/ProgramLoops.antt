@@ -12,12 +12,14 @@ length-programs_in (a ∷ b ∷ c ∷ []) = refl
 length-programs_in (a ∷ b ∷ c ∷ d ∷ rest) = let more : length (programs_in rest) ≡ length rest / 4 = length-programs_in rest in omega arith
 
 -- an entry after whole entries
-pub programs_in-push : (bytes : List ℕ) (p : Program) → length bytes % 4 ≡ 0 → p.program_number < 2 ^ 16 → p.pid < 2 ^ 13 → programs_in (bytes ++ program_bytes p) ≡ programs_in bytes ++ p ∷ []
+pub programs_in-push : (bytes : List ℕ) (p : Program) → length bytes % 4 ≡ 0 → p.program_number < 2 ^ 16 → p.pid < 2 ^ 13 →
+    programs_in (bytes ++ program_bytes p) ≡ programs_in bytes ++ p ∷ []
 unfolding programs_in program_bytes program_of
 programs_in-push [] p h hn hp =
     let number_is : p.program_number / 256 * 256 + p.program_number % 256 ≡ p.program_number = omega arith in
     let pid_is : (0xE0 + p.pid / 256 % 32) % 32 * 256 + p.pid % 256 ≡ p.pid = omega arith in
-    let whole : ◌≡◌ {A = Program} (record { program_number = p.program_number / 256 * 256 + p.program_number % 256; pid = (0xE0 + p.pid / 256 % 32) % 32 * 256 + p.pid % 256 })
+    let whole : ◌≡◌ {A = Program}
+    (record { program_number = p.program_number / 256 * 256 + p.program_number % 256; pid = (0xE0 + p.pid / 256 % 32) % 32 * 256 + p.pid % 256 })
     (record { program_number = p.program_number; pid = p.pid }) = cc in
     ap (λ (x : Program). x ∷ []) whole
 programs_in-push (a ∷ []) p h hn hp = absurd (cc h)

@@ -36,7 +36,8 @@ pub shift-xor : (r s : ℕ) → bit_xor r s * 2 % 2 ^ 32 ≡ bit_xor (r * 2 % 2 
 shift-xor r s =
     let double : (n : ℕ) → n * 2 ≡ n * 2 ^ 1 + 0 = λ n. omega arith in
     ap (λ (x : ℕ). x % 2 ^ 32)
-    (double (bit_xor r s) ∙ sym (xor_block 1 r s 0 0 (lit< tt) (lit< tt)) ∙ ap (λ (x : ℕ). bit_xor x (s * 2 ^ 1 + 0)) (sym (double r)) ∙ ap (λ (x : ℕ). bit_xor (r * 2) x) (sym (double s)))
+    (double (bit_xor r s) ∙ sym (xor_block 1 r s 0 0 (lit< tt) (lit< tt)) ∙ ap (λ (x : ℕ). bit_xor x (s * 2 ^ 1 + 0)) (sym (double r))
+    ∙ ap (λ (x : ℕ). bit_xor (r * 2) x) (sym (double s)))
     ∙ xor_mod (r * 2) (s * 2) 32
 
 -- one bit, as exclusive or alone

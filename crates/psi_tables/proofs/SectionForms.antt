@@ -1,5 +1,6 @@
 -- Sections: longer bytes, what is written, and the syntax.
-use Rattle.std.proofs.Common.{◌≡◌, ℕ, ◌+◌, ◌-◌, ◌*◌, ◌/◌, ◌%◌, ◌^◌, ◌<◌, ◌≤◌, ◌==◌, nat_lt, Bool, true, false, cond, refl, sym, ap, ◌∙◌, arith, List, [], ◌∷◌, ◌++◌, length, take, None, Some, Result, Ok, Err, length-append, eq-eqb}
+use Rattle.std.proofs.Common.{◌≡◌, ℕ, ◌+◌, ◌-◌, ◌*◌, ◌/◌, ◌%◌, ◌^◌, ◌<◌, ◌≤◌, ◌==◌, nat_lt, Bool, true, false, cond, refl, sym, ap, ◌∙◌, arith, List, [], ◌∷◌}
+use Rattle.std.proofs.Common.{◌++◌, length, take, None, Some, Result, Ok, Err, length-append, eq-eqb}
 use Rattle.std.proofs.lemmas.Bool.{ltb-false, le-ltb}
 use Rattle.std.proofs.lemmas.List.{take-append-le}
 use Rattle.std.proofs.Math.Seq.{take-append_seam}
@@ -44,7 +45,8 @@ section_longer (a ∷ b ∷ []) more h = absurd (h refl)
 section_longer (a ∷ b ∷ c ∷ bytes) more h = sized_longer _ (a ∷ b ∷ c ∷ bytes) more h
 
 -- a whole section after its first three bytes
-sized_again : (start : SectionStart) (section rest : List ℕ) (s : SectionView) → is_bad_length start.is_long start.section_length ≡ false → length section ≡ 3 + start.section_length
+sized_again : (start : SectionStart) (section rest : List ℕ) (s : SectionView) → is_bad_length start.is_long start.section_length ≡ false →
+    length section ≡ 3 + start.section_length
     → whole_at start section ≡ Ok s → sized_at start (section ++ rest) ≡ Ok (s, length section)
 unfolding sized_at
 sized_again start section rest s good len e =
@@ -81,7 +83,8 @@ good_long n k h = rw (le-ltb 4093 n h) (le-ltb n 9 k)
 
 -- a whole section of the short form
 pub whole_short : (start : SectionStart) (a b c : ℕ) (body : List ℕ) → start.is_long ≡ false
-    → whole_at start (a ∷ b ∷ c ∷ body) ≡ Ok (record { header = record { table_id = start.table_id; private_indicator = start.private_indicator; long = None }; body = body })
+    → whole_at start (a ∷ b ∷ c ∷ body) ≡ Ok
+    (record { header = record { table_id = start.table_id; private_indicator = start.private_indicator; long = None }; body = body })
 unfolding whole_at short_section
 whole_short start a b c body e = rw e refl
 
@@ -109,7 +112,8 @@ parts_40 x y u v hy hv e = (omega arith, omega arith)
 
 -- the five bytes after the length, by their fields
 header_again : (d e f g h : ℕ) (l : LongHeader) (reserved : ℕ) → d < 256 → e < 256 → f < 256 → g < 256 → h < 256
-    → number (d ∷ e ∷ f ∷ g ∷ h ∷ []) ≡ fields ((16, l.table_id_extension) ∷ (2, reserved) ∷ (5, l.version_number) ∷ (1, bit l.current_next) ∷ (8, l.section_number) ∷ (8, l.last_section_number) ∷ [])
+    → number (d ∷ e ∷ f ∷ g ∷ h ∷ []) ≡ fields
+    ((16, l.table_id_extension) ∷ (2, reserved) ∷ (5, l.version_number) ∷ (1, bit l.current_next) ∷ (8, l.section_number) ∷ (8, l.last_section_number) ∷ [])
     → l.table_id_extension < 2 ^ 16 → reserved < 2 ^ 2 → l.version_number < 2 ^ 5 → l.section_number < 2 ^ 8 → l.last_section_number < 2 ^ 8
     → long_header_of (d ∷ e ∷ f ∷ g ∷ h ∷ []) ≡ l
 unfolding long_header_of
@@ -133,18 +137,24 @@ header_again d e f g h l reserved hd he hf hg hh spelled hx hr hv hs hl =
 pub whole_long : (start : SectionStart) (a b c d e f g h : ℕ) (body crc : List ℕ) → start.is_long ≡ true → length crc ≡ 4
     → check_word (a ∷ b ∷ c ∷ d ∷ e ∷ f ∷ g ∷ h ∷ (body ++ crc)) ≡ 0
     → whole_at start (a ∷ b ∷ c ∷ d ∷ e ∷ f ∷ g ∷ h ∷ (body ++ crc))
-    ≡ Ok (record { header = record { table_id = start.table_id; private_indicator = start.private_indicator; long = Some (long_header_of (d ∷ e ∷ f ∷ g ∷ h ∷ [])) }; body = body })
+    ≡ Ok (record {
+      header =
+          record { table_id = start.table_id; private_indicator = start.private_indicator; long = Some (long_header_of (d ∷ e ∷ f ∷ g ∷ h ∷ [])) };
+      body = body;
+    })
 unfolding whole_at long_section
 whole_long start a b c d e f g h body crc form len checked =
     let test : (check_word (a ∷ b ∷ c ∷ d ∷ e ∷ f ∷ g ∷ h ∷ (body ++ crc)) == 0) ≡ true = eq-eqb _ 0 checked in
     let size : length (d ∷ e ∷ f ∷ g ∷ h ∷ (body ++ crc)) - 9 ≡ length body = omega (arith, length-append body crc) in
-    let cut : take (length (d ∷ e ∷ f ∷ g ∷ h ∷ (body ++ crc)) - 9) (body ++ crc) ≡ body = ap (λ (m : ℕ). take m (body ++ crc)) size ∙ take-append_seam body crc in
+    let cut : take (length (d ∷ e ∷ f ∷ g ∷ h ∷ (body ++ crc)) - 9) (body ++ crc) ≡ body = ap (λ (m : ℕ). take m (body ++ crc)) size
+    ∙ take-append_seam body crc in
     rw (form, test, cut) refl
 
 -- the long form in bytes
 pub long_again : (a b c d e f g h : ℕ) (s : SectionView) (l : LongHeader) (crc : List ℕ) (reserved reserved' : ℕ) (rest : List ℕ)
     → a < 256 → b < 256 → c < 256 → d < 256 → e < 256 → f < 256 → g < 256 → h < 256 → s.header.long ≡ Some l → length crc ≡ 4
-    → number (a ∷ b ∷ c ∷ d ∷ e ∷ f ∷ g ∷ h ∷ []) ≡ fields ((8, s.header.table_id) ∷ (1, 1) ∷ (1, bit s.header.private_indicator) ∷ (2, reserved) ∷ (12, 9 + length s.body)
+    → number (a ∷ b ∷ c ∷ d ∷ e ∷ f ∷ g ∷ h ∷ []) ≡ fields
+    ((8, s.header.table_id) ∷ (1, 1) ∷ (1, bit s.header.private_indicator) ∷ (2, reserved) ∷ (12, 9 + length s.body)
     ∷ (16, l.table_id_extension) ∷ (2, reserved') ∷ (5, l.version_number) ∷ (1, bit l.current_next) ∷ (8, l.section_number) ∷ (8, l.last_section_number) ∷ [])
     → check_word (a ∷ b ∷ c ∷ d ∷ e ∷ f ∷ g ∷ h ∷ (s.body ++ crc)) ≡ 0
     → s.header.table_id < 2 ^ 8 → reserved < 2 ^ 2 → 9 + length s.body ≤ 4093
@@ -154,7 +164,9 @@ unfolding section_at section_start_at
 long_again a b c d e f g h s l crc reserved reserved' rest ha hb hc hd he hf hg hh some hcrc spelled checked htid hres hlen hx hres' hv hs hl =
     let one : bit s.header.private_indicator < 2 = bit-bound s.header.private_indicator in
     let one' : bit l.current_next < 2 = bit-bound l.current_next in
-    let back : ℕ = fields ((16, l.table_id_extension) ∷ (2, reserved') ∷ (5, l.version_number) ∷ (1, bit l.current_next) ∷ (8, l.section_number) ∷ (8, l.last_section_number) ∷ []) in
+    let back : ℕ =
+    fields ((16, l.table_id_extension) ∷ (2, reserved') ∷ (5, l.version_number) ∷ (1, bit l.current_next) ∷ (8, l.section_number) ∷
+    (8, l.last_section_number) ∷ []) in
     let front : ℕ = fields ((8, s.header.table_id) ∷ (1, 1) ∷ (1, bit s.header.private_indicator) ∷ (2, reserved) ∷ (12, 9 + length s.body) ∷ []) in
     let parts = parts_40 (number (a ∷ b ∷ c ∷ [])) (number (d ∷ e ∷ f ∷ g ∷ h ∷ [])) front back (omega arith) (omega arith) (omega arith) in
     let spelled_front : number (a ∷ b ∷ c ∷ []) ≡ front = parts.0 in
@@ -165,7 +177,9 @@ long_again a b c d e f g h s l crc reserved reserved' rest ha hb hc hd he hf hg 
     let header_is : long_header_of (d ∷ e ∷ f ∷ g ∷ h ∷ []) ≡ l = header_again d e f g h l reserved' hd he hf hg hh parts.1 hx hres' hv hs hl in
     let start : SectionStart = record { table_id = a; is_long = flag b 128; private_indicator = flag b 64; section_length = b % 16 * 256 + c } in
     let good : is_bad_length (flag b 128) (b % 16 * 256 + c) ≡ false = rw (form, len) (good_long (9 + length s.body) (omega arith) hlen) in
-    let whole : ◌≡◌ {A = SectionView} (record { header = record { table_id = a; private_indicator = flag b 64; long = Some (long_header_of (d ∷ e ∷ f ∷ g ∷ h ∷ [])) }; body = s.body })
+    let whole : ◌≡◌ {A = SectionView}
+    (record { header = record { table_id = a; private_indicator = flag b 64; long = Some (long_header_of (d ∷ e ∷ f ∷ g ∷ h ∷ [])) }; body = s.body })
     (record { header = record { table_id = s.header.table_id; private_indicator = s.header.private_indicator; long = s.header.long }; body = s.body }) = cc in
     let size : length (a ∷ b ∷ c ∷ d ∷ e ∷ f ∷ g ∷ h ∷ (s.body ++ crc)) ≡ 3 + (b % 16 * 256 + c) = omega (arith, length-append s.body crc) in
-    sized_again start (a ∷ b ∷ c ∷ d ∷ e ∷ f ∷ g ∷ h ∷ (s.body ++ crc)) rest s good size (whole_long start a b c d e f g h s.body crc form hcrc checked ∙ ap (λ (v : SectionView). Ok v) whole)
+    sized_again start (a ∷ b ∷ c ∷ d ∷ e ∷ f ∷ g ∷ h ∷ (s.body ++ crc)) rest s good size
+    (whole_long start a b c d e f g h s.body crc form hcrc checked ∙ ap (λ (v : SectionView). Ok v) whole)

@@ -1,5 +1,6 @@
 -- Sections that were read: what stands in their bytes.
-use Rattle.std.proofs.Common.{◌≡◌, ℕ, suc, ◌+◌, ◌-◌, ◌*◌, ◌/◌, ◌%◌, ◌<◌, ◌≤◌, ◌==◌, nat_lt, Bool, true, false, cond, refl, sym, ap, ◌∙◌, subst, arith, List, [], ◌∷◌, ◌++◌, length, take, drop, Option, None, Some, Result, Ok, Err, inl, inr, eqb-true}
+use Rattle.std.proofs.Common.{◌≡◌, ℕ, suc, ◌+◌, ◌-◌, ◌*◌, ◌/◌, ◌%◌, ◌<◌, ◌≤◌, ◌==◌, nat_lt, Bool, true, false, cond, refl, sym, ap, ◌∙◌, subst, arith, List, []}
+use Rattle.std.proofs.Common.{◌∷◌, ◌++◌, length, take, drop, Option, None, Some, Result, Ok, Err, inl, inr, eqb-true}
 use Rattle.std.proofs.lemmas.Bool.{ltb-false, le-ltb, lt-ltb, cases_lt, false≢true}
 use Rattle.std.proofs.lemmas.List.{length-take-le, length-drop, take-append-drop}
 use Rattle.bit_fields.specs.Fields.{number, fields, bit, flag, IsBytes}
@@ -40,9 +41,11 @@ short_found a b c body ha hb hc form len most =
 
 -- what the long form says of its bytes
 long_found : (a b c d e f g h : ℕ) (body crc : List ℕ) → a < 256 → b < 256 → c < 256 → d < 256 → e < 256 → f < 256 → g < 256 → h < 256
-    → flag b 128 ≡ true → 9 + length body ≡ b % 16 * 256 + c → 9 + length body ≤ 4093 → length crc ≡ 4 → check_word (a ∷ b ∷ c ∷ d ∷ e ∷ f ∷ g ∷ h ∷ (body ++ crc)) ≡ 0
+    → flag b 128 ≡ true → 9 + length body ≡ b % 16 * 256 + c → 9 + length body ≤ 4093 → length crc ≡ 4 →
+    check_word (a ∷ b ∷ c ∷ d ∷ e ∷ f ∷ g ∷ h ∷ (body ++ crc)) ≡ 0
     → IsLongSection (a ∷ b ∷ c ∷ d ∷ e ∷ f ∷ g ∷ h ∷ (body ++ crc))
-    (record { header = record { table_id = a; private_indicator = flag b 64; long = Some (long_header_of (d ∷ e ∷ f ∷ g ∷ h ∷ [])) }; body = body }) (long_header_of (d ∷ e ∷ f ∷ g ∷ h ∷ []))
+    (record { header = record { table_id = a; private_indicator = flag b 64; long = Some (long_header_of (d ∷ e ∷ f ∷ g ∷ h ∷ [])) }; body = body })
+    (long_header_of (d ∷ e ∷ f ∷ g ∷ h ∷ []))
 unfolding long_header_of
 long_found a b c d e f g h body crc ha hb hc hd he hf hg hh form len most hcrc checked =
     let one : bit (flag b 64) ≡ b / 64 % 2 = bit_test (b / 64 % 2) (omega arith) in
@@ -101,7 +104,8 @@ most_is is_long n h = elim (cases_lt 4093 n) [
 
 enough_is : (n : ℕ) → is_bad_length true n ≡ false → 9 ≤ n
 unfolding is_bad_length
-enough_is n h = let good : nat_lt 4093 n ≡ false = le-ltb 4093 n (most_is true n h) in ltb-false n 9 (sym (ap (λ (t : Bool). cond t true (nat_lt n 9)) good) ∙ h)
+enough_is n h = let good : nat_lt 4093 n ≡ false = le-ltb 4093 n (most_is true n h) in
+    ltb-false n 9 (sym (ap (λ (t : Bool). cond t true (nat_lt n 9)) good) ∙ h)
 
 cond_true : {A : Type 0} (b : Bool) (x y : A) → b ≡ true → cond b x y ≡ x
 cond_true true x y e = refl
@@ -120,18 +124,22 @@ long_checked start bytes s form e =
 -- a section of the long form that was read is one
 long_is_of : (a b c d e f g h : ℕ) (body crc : List ℕ) (s : SectionView) → IsBytes (a ∷ b ∷ c ∷ d ∷ e ∷ f ∷ g ∷ h ∷ (body ++ crc)) → flag b 128 ≡ true
     → 9 + length body ≡ b % 16 * 256 + c → b % 16 * 256 + c ≤ 4093 → length crc ≡ 4
-    → whole_at (record { table_id = a; is_long = flag b 128; private_indicator = flag b 64; section_length = b % 16 * 256 + c }) (a ∷ b ∷ c ∷ d ∷ e ∷ f ∷ g ∷ h ∷ (body ++ crc)) ≡ Ok s
+    → whole_at (record { table_id = a; is_long = flag b 128; private_indicator = flag b 64; section_length = b % 16 * 256 + c })
+    (a ∷ b ∷ c ∷ d ∷ e ∷ f ∷ g ∷ h ∷ (body ++ crc)) ≡ Ok s
     → IsSection (a ∷ b ∷ c ∷ d ∷ e ∷ f ∷ g ∷ h ∷ (body ++ crc)) s
 long_is_of a b c d e f g h body crc s bytes form len most hcrc r =
     let start : SectionStart = record { table_id = a; is_long = flag b 128; private_indicator = flag b 64; section_length = b % 16 * 256 + c } in
     let section : List ℕ = a ∷ b ∷ c ∷ d ∷ e ∷ f ∷ g ∷ h ∷ (body ++ crc) in
     let checked : check_word section ≡ 0 = long_checked start section s form r in
     let read = whole_long start a b c d e f g h body crc form hcrc checked in
-    let says : ◌≡◌ {A = SectionView} (record { header = record { table_id = a; private_indicator = flag b 64; long = Some (long_header_of (d ∷ e ∷ f ∷ g ∷ h ∷ [])) }; body = body }) s = ok_is _ _ (sym read ∙ r) in
+    let says : ◌≡◌ {A = SectionView}
+    (record { header = record { table_id = a; private_indicator = flag b 64; long = Some (long_header_of (d ∷ e ∷ f ∷ g ∷ h ∷ [])) }; body = body }) s =
+    ok_is _ _ (sym read ∙ r) in
     subst (λ (v : SectionView). IsSection section v) says
     (long_found a b c d e f g h body crc (bytes 0) (bytes 1) (bytes 2) (bytes 3) (bytes 4) (bytes 5) (bytes 6) (bytes 7) form len (omega arith) hcrc checked)
 
-long_is : (a b c : ℕ) (t : List ℕ) (s : SectionView) → IsBytes (a ∷ b ∷ c ∷ t) → flag b 128 ≡ true → is_bad_length true (b % 16 * 256 + c) ≡ false → length t ≡ b % 16 * 256 + c
+long_is : (a b c : ℕ) (t : List ℕ) (s : SectionView) → IsBytes (a ∷ b ∷ c ∷ t) → flag b 128 ≡ true → is_bad_length true (b % 16 * 256 + c) ≡ false →
+    length t ≡ b % 16 * 256 + c
     → whole_at (record { table_id = a; is_long = flag b 128; private_indicator = flag b 64; section_length = b % 16 * 256 + c }) (a ∷ b ∷ c ∷ t) ≡ Ok s
     → IsSection (a ∷ b ∷ c ∷ t) s
 long_is a b c t s h form good len r =
@@ -152,23 +160,27 @@ long_is a b c t s h form good len r =
       rest_of : (u t n : ℕ) → t ≡ 5 + u → t ≡ n → 9 ≤ n → u - (u - 4) ≡ 4
       rest_of u t n p q r = omega arith
 
-      after : (d e f g k : ℕ) (body crc : List ℕ) → t ≡ d ∷ e ∷ f ∷ g ∷ k ∷ (body ++ crc) → 9 + length body ≡ b % 16 * 256 + c → length crc ≡ 4 → IsSection (a ∷ b ∷ c ∷ t) s
+      after : (d e f g k : ℕ) (body crc : List ℕ) → t ≡ d ∷ e ∷ f ∷ g ∷ k ∷ (body ++ crc) → 9 + length body ≡ b % 16 * 256 + c → length crc ≡ 4 →
+          IsSection (a ∷ b ∷ c ∷ t) s
       after d e f g k body crc is hbody hcrc =
           let whole : ◌≡◌ {A = List ℕ} (a ∷ b ∷ c ∷ t) (a ∷ b ∷ c ∷ d ∷ e ∷ f ∷ g ∷ k ∷ (body ++ crc)) = ap (λ (x : List ℕ). a ∷ b ∷ c ∷ x) is in
           subst (λ (x : List ℕ). IsSection x s) (sym whole)
           (long_is_of a b c d e f g k body crc s (subst IsBytes whole h) form hbody (most_is true (b % 16 * 256 + c) good) hcrc
-          (ap (λ (x : List ℕ). whole_at (record { table_id = a; is_long = flag b 128; private_indicator = flag b 64; section_length = b % 16 * 256 + c }) x) (sym whole) ∙ r))
+          (ap (λ (x : List ℕ). whole_at (record { table_id = a; is_long = flag b 128; private_indicator = flag b 64; section_length = b % 16 * 256 + c }) x)
+          (sym whole) ∙ r))
 
 short_is : (a b c : ℕ) (t : List ℕ) (s : SectionView) → IsBytes (a ∷ b ∷ c ∷ t) → flag b 128 ≡ false → b % 16 * 256 + c ≤ 4093 → length t ≡ b % 16 * 256 + c
     → whole_at (record { table_id = a; is_long = flag b 128; private_indicator = flag b 64; section_length = b % 16 * 256 + c }) (a ∷ b ∷ c ∷ t) ≡ Ok s
     → IsSection (a ∷ b ∷ c ∷ t) s
 short_is a b c t s h form most len r =
     let start : SectionStart = record { table_id = a; is_long = flag b 128; private_indicator = flag b 64; section_length = b % 16 * 256 + c } in
-    let says : ◌≡◌ {A = SectionView} (record { header = record { table_id = a; private_indicator = flag b 64; long = None }; body = t }) s = ok_is _ _ (sym (whole_short start a b c t form) ∙ r) in
+    let says : ◌≡◌ {A = SectionView} (record { header = record { table_id = a; private_indicator = flag b 64; long = None }; body = t }) s =
+    ok_is _ _ (sym (whole_short start a b c t form) ∙ r) in
     subst (λ (v : SectionView). IsSection (a ∷ b ∷ c ∷ t) v) says (short_found a b c t (h 0) (h 1) (h 2) form len (omega arith))
 
 -- a section in either form that was read is one
-form_is : (l : Bool) (a b c : ℕ) (t : List ℕ) (s : SectionView) → IsBytes (a ∷ b ∷ c ∷ t) → flag b 128 ≡ l → is_bad_length (flag b 128) (b % 16 * 256 + c) ≡ false → length t ≡ b % 16 * 256 + c
+form_is : (l : Bool) (a b c : ℕ) (t : List ℕ) (s : SectionView) → IsBytes (a ∷ b ∷ c ∷ t) → flag b 128 ≡ l →
+    is_bad_length (flag b 128) (b % 16 * 256 + c) ≡ false → length t ≡ b % 16 * 256 + c
     → whole_at (record { table_id = a; is_long = flag b 128; private_indicator = flag b 64; section_length = b % 16 * 256 + c }) (a ∷ b ∷ c ∷ t) ≡ Ok s
     → IsSection (a ∷ b ∷ c ∷ t) s
 form_is true a b c t s h form good len r = long_is a b c t s h form (ap (λ (l : Bool). is_bad_length l (b % 16 * 256 + c)) (sym form) ∙ good) len r
@@ -212,8 +224,18 @@ eight : (xs : List ℕ) → length xs ≡ 8
     → (a : ℕ) × (b : ℕ) × (c : ℕ) × (d : ℕ) × (e : ℕ) × (f : ℕ) × (g : ℕ) × (h : ℕ) × (xs ≡ a ∷ b ∷ c ∷ d ∷ e ∷ f ∷ g ∷ h ∷ [])
 eight (a ∷ b ∷ c ∷ xs) len =
     let v = five xs (omega arith) in
-    let more : length xs ≡ suc (suc (suc (suc (suc (length v.5))))) = ap (length {A = ℕ}) v.6 in
-    (a, b, c, v.0, v.1, v.2, v.3, v.4, ap (λ (x : List ℕ). a ∷ b ∷ c ∷ x) (v.6 ∙ ap (λ (x : List ℕ). v.0 ∷ v.1 ∷ v.2 ∷ v.3 ∷ v.4 ∷ x) (none v.5 (left (length xs) (length v.5) more (drop_three (length xs) len))))) where
+    let more : length xs ≡ suc (suc (suc (suc (suc (length v.5))))) = ap (length {A = ℕ}) v.6 in (
+      a,
+      b,
+      c,
+      v.0,
+      v.1,
+      v.2,
+      v.3,
+      v.4,
+      ap (λ (x : List ℕ). a ∷ b ∷ c ∷ x)
+          (v.6 ∙ ap (λ (x : List ℕ). v.0 ∷ v.1 ∷ v.2 ∷ v.3 ∷ v.4 ∷ x) (none v.5 (left (length xs) (length v.5) more (drop_three (length xs) len)))),
+    ) where
       drop_three : (n : ℕ) → suc (suc (suc n)) ≡ 8 → n ≡ 5
       drop_three n h = omega arith
 
@@ -227,7 +249,8 @@ eight [] len = absurd (omega arith)
 eight (a ∷ []) len = absurd (omega arith)
 eight (a ∷ b ∷ []) len = absurd (omega arith)
 
-again_by : (l : Option LongHeader) (section rest : List ℕ) (s : SectionView) → IsBytes section → s.header.long ≡ l → HasForm l section s → section_at (section ++ rest) ≡ Ok (s, length section)
+again_by : (l : Option LongHeader) (section rest : List ℕ) (s : SectionView) → IsBytes section → s.header.long ≡ l → HasForm l section s →
+    section_at (section ++ rest) ≡ Ok (s, length section)
 again_by None section rest s bytes e h =
     let v = three h.front h.front_length in
     let a : ℕ = v.0 in
@@ -235,18 +258,25 @@ again_by None section rest s bytes e h =
     let c : ℕ = v.2 in
     let is : section ≡ a ∷ b ∷ c ∷ s.body = h.is ∙ ap (λ (x : List ℕ). x ++ s.body) v.3 in
     let fit : IsBytes (a ∷ b ∷ c ∷ s.body) = subst IsBytes is bytes in
-    let spelled = subst (λ (x : List ℕ). number x ≡ fields ((8, s.header.table_id) ∷ (1, 0) ∷ (1, bit s.header.private_indicator) ∷ (2, h.reserved) ∷ (12, length s.body) ∷ [])) v.3 h.spelled in
+    let spelled =
+    subst (λ (x : List ℕ). number x ≡ fields
+    ((8, s.header.table_id) ∷ (1, 0) ∷ (1, bit s.header.private_indicator) ∷ (2, h.reserved) ∷ (12, length s.body) ∷ [])) v.3 h.spelled in
     subst (λ (x : List ℕ). section_at (x ++ rest) ≡ Ok (s, length x)) (sym is)
     (short_again a b c s h.reserved rest (fit 0) (fit 1) (fit 2) e spelled h.table_id h.two_bits h.section_length)
 again_by (Some l) section rest s bytes e h =
     let v = eight h.front h.front_length in
     let is : section ≡ v.0 ∷ v.1 ∷ v.2 ∷ v.3 ∷ v.4 ∷ v.5 ∷ v.6 ∷ v.7 ∷ (s.body ++ h.crc) = h.is ∙ ap (λ (x : List ℕ). x ++ (s.body ++ h.crc)) v.8 in
     let fit : IsBytes (v.0 ∷ v.1 ∷ v.2 ∷ v.3 ∷ v.4 ∷ v.5 ∷ v.6 ∷ v.7 ∷ (s.body ++ h.crc)) = subst IsBytes is bytes in
-    let spelled = subst (λ (x : List ℕ). number x ≡ fields ((8, s.header.table_id) ∷ (1, 1) ∷ (1, bit s.header.private_indicator) ∷ (2, h.reserved) ∷ (12, 9 + length s.body)
-    ∷ (16, l.table_id_extension) ∷ (2, h.reserved_after) ∷ (5, l.version_number) ∷ (1, bit l.current_next) ∷ (8, l.section_number) ∷ (8, l.last_section_number) ∷ [])) v.8 h.spelled in
+    let spelled =
+    subst (λ (x : List ℕ). number x ≡ fields
+    ((8, s.header.table_id) ∷ (1, 1) ∷ (1, bit s.header.private_indicator) ∷ (2, h.reserved) ∷ (12, 9 + length s.body)
+    ∷ (16, l.table_id_extension) ∷ (2, h.reserved_after) ∷ (5, l.version_number) ∷ (1, bit l.current_next) ∷ (8, l.section_number) ∷ (8, l.last_section_number)
+    ∷ [])) v.8 h.spelled in
     subst (λ (x : List ℕ). section_at (x ++ rest) ≡ Ok (s, length x)) (sym is)
-    (long_again v.0 v.1 v.2 v.3 v.4 v.5 v.6 v.7 s l h.crc h.reserved h.reserved_after rest (fit 0) (fit 1) (fit 2) (fit 3) (fit 4) (fit 5) (fit 6) (fit 7) e h.crc_length spelled
-    (ap check_word (sym is) ∙ h.checked) h.table_id h.two_bits h.section_length h.table_id_extension h.two_bits_after h.version_number h.section_number h.last_section_number)
+    (long_again v.0 v.1 v.2 v.3 v.4 v.5 v.6 v.7 s l h.crc h.reserved h.reserved_after rest (fit 0) (fit 1) (fit 2) (fit 3) (fit 4) (fit 5) (fit 6) (fit 7) e
+    h.crc_length spelled
+    (ap check_word (sym is) ∙ h.checked) h.table_id h.two_bits h.section_length h.table_id_extension h.two_bits_after h.version_number h.section_number
+    h.last_section_number)
 
 -- a section that stands at the front is read
 pub section_again : (section rest : List ℕ) (s : SectionView) → IsBytes section → IsSection section s → section_at (section ++ rest) ≡ Ok (s, length section)

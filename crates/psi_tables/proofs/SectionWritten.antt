@@ -1,5 +1,6 @@
 -- Sections that are written: they are sections, and are read again.
-use Rattle.std.proofs.Common.{◌≡◌, ℕ, ◌+◌, ◌*◌, ◌/◌, ◌%◌, ◌^◌, ◌<◌, ◌≤◌, Bool, true, false, refl, arith, List, [], ◌∷◌, ◌++◌, length, Option, None, Some, Ok, lit<}
+use Rattle.std.proofs.Common.{◌≡◌, ℕ, ◌+◌, ◌*◌, ◌/◌, ◌%◌, ◌^◌, ◌<◌, ◌≤◌, Bool, true, false, refl, arith, List, [], ◌∷◌, ◌++◌, length, Option, None, Some, Ok}
+use Rattle.std.proofs.Common.{lit<}
 use Rattle.bit_fields.specs.Fields.{number, fields, bit}
 use Rattle.psi_tables.specs.CheckWord.{check_word}
 use Rattle.psi_tables.specs.Views.{SectionView}
@@ -25,12 +26,23 @@ written_short tid p body htid len =
     let b : ℕ = bit false * 128 + (bit p * 64 + (0x30 + length body / 256)) in
     let spelled : number (tid ∷ b ∷ (length body % 256) ∷ []) ≡ fields ((8, tid) ∷ (1, 0) ∷ (1, bit p) ∷ (2, 3) ∷ (12, length body) ∷ []) = omega arith in
     record {
-      section = record { front = tid ∷ b ∷ (length body % 256) ∷ []; is = refl; reserved = 3; front_length = refl; spelled = spelled; table_id = htid; two_bits = lit< tt; section_length = len };
+      section = record {
+        front = tid ∷ b ∷ (length body % 256) ∷ [];
+        is = refl;
+        reserved = 3;
+        front_length = refl;
+        spelled = spelled;
+        table_id =
+            htid;
+        two_bits = lit< tt;
+        section_length = len;
+      };
       read = λ rest. short_again tid b (length body % 256) s 3 rest htid (omega arith) (omega arith) refl spelled htid (lit< tt) len;
     }
 
 written_long : (tid : ℕ) (p : Bool) (h : LongHeader) (body : List ℕ) → tid < 2 ^ 8 → LongFits h → 9 + length body ≤ 4093
-    → Again (with_crc (Some h) ((start_bytes tid true p (9 + length body) ++ long_header_bytes h) ++ body)) (record { header = record { table_id = tid; private_indicator = p; long = Some h }; body = body })
+    → Again (with_crc (Some h) ((start_bytes tid true p (9 + length body) ++ long_header_bytes h) ++ body))
+    (record { header = record { table_id = tid; private_indicator = p; long = Some h }; body = body })
 unfolding start_bytes long_header_bytes with_crc check_word_bytes
 written_long tid p h body htid fits len =
     let s : SectionView = record { header = record { table_id = tid; private_indicator = p; long = Some h }; body = body } in
@@ -46,8 +58,10 @@ written_long tid p h body htid fits len =
     let word : ℕ = check_word covered in
     let crc : List ℕ = (word / 2 ^ 24) ∷ (word / 2 ^ 16 % 256) ∷ (word / 2 ^ 8 % 256) ∷ (word % 256) ∷ [] in
     let checked : check_word (tid ∷ b ∷ c ∷ d ∷ e ∷ f ∷ h.section_number ∷ h.last_section_number ∷ (body ++ crc)) ≡ 0 = check_word-own covered in
-    let spelled : number (tid ∷ b ∷ c ∷ d ∷ e ∷ f ∷ h.section_number ∷ h.last_section_number ∷ []) ≡ fields ((8, tid) ∷ (1, 1) ∷ (1, bit p) ∷ (2, 3) ∷ (12, 9 + length body)
-    ∷ (16, h.table_id_extension) ∷ (2, 3) ∷ (5, h.version_number) ∷ (1, bit h.current_next) ∷ (8, h.section_number) ∷ (8, h.last_section_number) ∷ []) = omega (arith, fits.table_id_extension) in
+    let spelled : number (tid ∷ b ∷ c ∷ d ∷ e ∷ f ∷ h.section_number ∷ h.last_section_number ∷ []) ≡ fields
+    ((8, tid) ∷ (1, 1) ∷ (1, bit p) ∷ (2, 3) ∷ (12, 9 + length body)
+    ∷ (16, h.table_id_extension) ∷ (2, 3) ∷ (5, h.version_number) ∷ (1, bit h.current_next) ∷ (8, h.section_number) ∷ (8, h.last_section_number) ∷ []) =
+    omega (arith, fits.table_id_extension) in
     record {
       section = record {
         front = tid ∷ b ∷ c ∷ d ∷ e ∷ f ∷ h.section_number ∷ h.last_section_number ∷ [];
@@ -68,12 +82,15 @@ written_long tid p h body htid fits len =
         section_number = fits.section_number;
         last_section_number = fits.last_section_number;
       };
-      read = λ rest. long_again tid b c d e f h.section_number h.last_section_number s h crc 3 3 rest htid (omega arith) (omega arith) (omega (arith, fits.table_id_extension)) (omega arith)
-          (omega (arith, fits.version_number)) fits.section_number fits.last_section_number refl refl spelled checked htid (lit< tt) len fits.table_id_extension (lit< tt) fits.version_number fits.section_number fits.last_section_number;
+      read = λ rest. long_again tid b c d e f h.section_number h.last_section_number s h crc 3 3 rest htid (omega arith) (omega arith)
+          (omega (arith, fits.table_id_extension)) (omega arith)
+          (omega (arith, fits.version_number)) fits.section_number fits.last_section_number refl refl spelled checked htid (lit< tt) len fits.table_id_extension
+          (lit< tt) fits.version_number fits.section_number fits.last_section_number;
     }
 
 written_by : (l : Option LongHeader) (tid : ℕ) (p : Bool) (body : List ℕ) → tid < 2 ^ 8 → NumbersFit l → section_length l (length body) ≤ 4093
-    → Again (with_crc l (front_bytes tid p l (length body) ++ body)) (record { header = record { table_id = tid; private_indicator = p; long = l }; body = body })
+    → Again (with_crc l (front_bytes tid p l (length body) ++ body))
+    (record { header = record { table_id = tid; private_indicator = p; long = l }; body = body })
 unfolding front_bytes with_crc
 written_by None tid p body htid fits len = written_short tid p body htid len
 written_by (Some h) tid p body htid fits len = written_long tid p h body htid fits len

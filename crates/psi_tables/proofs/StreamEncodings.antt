@@ -1,8 +1,10 @@
 -- Streams as they are written: their bytes are whole entries, and are read again.
-use Rattle.std.proofs.Common.{◌≡◌, ℕ, ◌+◌, ◌*◌, ◌/◌, ◌%◌, ◌^◌, ◌<◌, true, refl, sym, ap, ap₂, ◌∙◌, arith, List, [], ◌∷◌, ◌++◌, length, Option, Some, is_some, map, flat_map, append-nil, length-append}
+use Rattle.std.proofs.Common.{◌≡◌, ℕ, ◌+◌, ◌*◌, ◌/◌, ◌%◌, ◌^◌, ◌<◌, true, refl, sym, ap, ap₂, ◌∙◌, arith, List, [], ◌∷◌, ◌++◌, length, Option, Some, is_some}
+use Rattle.std.proofs.Common.{map, flat_map, append-nil, length-append}
 use Rattle.std.specs.Prelude.{unwrap_or}
 use Rattle.psi_tables.specs.Loops.{EntryView, descriptors_length, IsEntry, entry_bytes, AreEntries, loop_at, entries_in}
-use Rattle.psi_tables.specs.ProgramMap.{PmtView, pmt_body, StreamView, stream_of, streams_in, info_length_bytes, pid_bytes, stream_entry, stream_bytes, streams_bytes, StreamFits, StreamsFit}
+use Rattle.psi_tables.specs.ProgramMap.{PmtView, pmt_body, StreamView, stream_of, streams_in, info_length_bytes, pid_bytes, stream_entry, stream_bytes}
+use Rattle.psi_tables.specs.ProgramMap.{streams_bytes, StreamFits, StreamsFit}
 use Rattle.psi_tables.proofs.LoopParts.{loop_at-is, loop_at-read, AreEntries-append, whole_is}
 
 pub length_stream_bytes : (s : StreamView) → length (stream_bytes s) ≡ 5 + length s.descriptors
@@ -63,7 +65,8 @@ unfolding streams_in stream_bytes
 pushed bytes s fits h =
     let es : List EntryView = entries_in 5 bytes in
     let before : AreEntries 5 bytes es = loop_at-is 5 bytes es (whole_is 5 bytes h) in
-    let one : AreEntries 5 (entry_bytes (stream_entry s)) (stream_entry s ∷ []) = ([], sym (append-nil (entry_bytes (stream_entry s))), stream_entry-is s fits, refl) in
+    let one : AreEntries 5 (entry_bytes (stream_entry s)) (stream_entry s ∷ []) =
+    ([], sym (append-nil (entry_bytes (stream_entry s))), stream_entry-is s fits, refl) in
     let after : loop_at 5 (bytes ++ entry_bytes (stream_entry s)) ≡ Some (es ++ stream_entry s ∷ []) =
     loop_at-read 5 _ _ (omega arith) (AreEntries-append 5 bytes (entry_bytes (stream_entry s)) es (stream_entry s ∷ []) before one) in
     record {
@@ -97,10 +100,12 @@ written_read ss h =
     }
 
 -- where a loop has a stream at its front, it is as long as that stream and the rest
-pub length_streams_step : (all : List StreamView) (s : StreamView) (ss : List StreamView) → all ≡ s ∷ ss → length (streams_bytes all) ≡ 5 + length s.descriptors + length (streams_bytes ss)
+pub length_streams_step : (all : List StreamView) (s : StreamView) (ss : List StreamView) → all ≡ s ∷ ss → length (streams_bytes all) ≡ 5 + length s.descriptors
+    + length (streams_bytes ss)
 unfolding streams_bytes
 length_streams_step all s ss e =
-    ap (λ (xs : List StreamView). length (flat_map stream_bytes xs)) e ∙ length-append (stream_bytes s) (flat_map stream_bytes ss) ∙ ap (λ (n : ℕ). n + length (flat_map stream_bytes ss)) (length_stream_bytes s)
+    ap (λ (xs : List StreamView). length (flat_map stream_bytes xs)) e ∙ length-append (stream_bytes s) (flat_map stream_bytes ss)
+    ∙ ap (λ (n : ℕ). n + length (flat_map stream_bytes ss)) (length_stream_bytes s)
 
 -- the number of bytes of a body
 pub length_pmt_body : (p : PmtView) → length (pmt_body p) ≡ 4 + length p.program_info + length (streams_bytes p.streams)

@@ -1,5 +1,6 @@
 -- The streams of a program map table: what is read stands there, and what stands there is read.
-use Rattle.std.proofs.Common.{◌≡◌, ℕ, ◌+◌, ◌*◌, ◌/◌, ◌%◌, ◌^◌, ◌<◌, Bool, true, false, cond, refl, sym, ap, ap₂, ◌∙◌, subst, arith, List, [], ◌∷◌, ◌++◌, length, Option, Some, Ok, Err, is_some, map}
+use Rattle.std.proofs.Common.{◌≡◌, ℕ, ◌+◌, ◌*◌, ◌/◌, ◌%◌, ◌^◌, ◌<◌, Bool, true, false, cond, refl, sym, ap, ap₂, ◌∙◌, subst, arith, List, [], ◌∷◌, ◌++◌, length}
+use Rattle.std.proofs.Common.{Option, Some, Ok, Err, is_some, map}
 use Rattle.std.specs.Prelude.{unwrap_or}
 use Rattle.bit_fields.specs.Fields.{number, fields, IsBytes}
 use Rattle.bit_fields.proofs.Bind.{ok_is}
@@ -46,7 +47,8 @@ entry_found : (e : EntryView) → IsBytes (entry_bytes e) → IsEntry 5 e → Is
 unfolding entry_bytes
 entry_found e h k =
     let v = five e.head k.head_length in
-    let is : ◌≡◌ {A = EntryView} (record { head = v.0 ∷ v.1 ∷ v.2 ∷ v.3 ∷ v.4 ∷ []; descriptors = e.descriptors }) (record { head = e.head; descriptors = e.descriptors }) =
+    let is : ◌≡◌ {A = EntryView} (record { head = v.0 ∷ v.1 ∷ v.2 ∷ v.3 ∷ v.4 ∷ []; descriptors = e.descriptors })
+    (record { head = e.head; descriptors = e.descriptors }) =
     ap (λ (x : List ℕ). record { head = x; descriptors = e.descriptors }) (sym v.5) in
     let bytes : IsBytes (v.0 ∷ v.1 ∷ v.2 ∷ v.3 ∷ v.4 ∷ e.descriptors) = subst IsBytes (ap (λ (x : List ℕ). x ++ e.descriptors) v.5) h in
     subst (λ (x : EntryView). IsStream (x.head ++ x.descriptors) (stream_of x)) is
@@ -56,8 +58,13 @@ entry_found e h k =
 pub streams_found : (bytes : List ℕ) (es : List EntryView) → IsBytes bytes → AreEntries 5 bytes es → AreStreams bytes (map stream_of es)
 streams_found bytes [] h k = k
 streams_found bytes (e ∷ es) h k =
-    let parts : IsBytes (entry_bytes e ++ k.0) = subst IsBytes k.1 h in
-    (entry_bytes e, k.0, k.1, entry_found e (IsBytes-append_left (entry_bytes e) k.0 parts) k.2, streams_found k.0 es (IsBytes-append_right (entry_bytes e) k.0 parts) k.3)
+    let parts : IsBytes (entry_bytes e ++ k.0) = subst IsBytes k.1 h in (
+      entry_bytes e,
+      k.0,
+      k.1,
+      entry_found e (IsBytes-append_left (entry_bytes e) k.0 parts) k.2,
+      streams_found k.0 es (IsBytes-append_right (entry_bytes e) k.0 parts) k.3,
+    )
 
 -- what a stream that stands there is as an entry
 pub record IsEntryOf (bytes : List ℕ) (s : StreamView) (e : EntryView) : Type 0 where
@@ -83,10 +90,13 @@ entry_again entry s h k =
     let v = five k.head k.head_length in
     let is : entry ≡ v.0 ∷ v.1 ∷ v.2 ∷ v.3 ∷ v.4 ∷ s.descriptors = k.is ∙ ap (λ (x : List ℕ). x ++ s.descriptors) v.5 in
     let bytes : IsBytes (v.0 ∷ v.1 ∷ v.2 ∷ v.3 ∷ v.4 ∷ s.descriptors) = subst IsBytes is h in
-    let spelled = subst (λ (x : List ℕ). number x ≡ fields ((8, s.stream_type) ∷ (3, k.reserved) ∷ (13, s.elementary_pid) ∷ (4, k.reserved_after) ∷ (12, length s.descriptors) ∷ [])) v.5 k.spelled in (
+    let spelled =
+    subst (λ (x : List ℕ). number x ≡ fields
+    ((8, s.stream_type) ∷ (3, k.reserved) ∷ (13, s.elementary_pid) ∷ (4, k.reserved_after) ∷ (12, length s.descriptors) ∷ [])) v.5 k.spelled in (
       record { head = v.0 ∷ v.1 ∷ v.2 ∷ v.3 ∷ v.4 ∷ []; descriptors = s.descriptors },
       subst (λ (t : List ℕ). IsEntryOf t s (record { head = v.0 ∷ v.1 ∷ v.2 ∷ v.3 ∷ v.4 ∷ []; descriptors = s.descriptors })) (sym is)
-          (stream_again v.0 v.1 v.2 v.3 v.4 s k.reserved k.reserved_after (bytes 0) (bytes 1) (bytes 2) (bytes 3) (bytes 4) spelled k.stream_type k.three_bits k.elementary_pid k.four_bits k.info_length),
+          (stream_again v.0 v.1 v.2 v.3 v.4 s k.reserved k.reserved_after (bytes 0) (bytes 1) (bytes 2) (bytes 3) (bytes 4) spelled k.stream_type k.three_bits
+          k.elementary_pid k.four_bits k.info_length),
     )
 
 -- streams that stand there are entries

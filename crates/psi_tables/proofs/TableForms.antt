@@ -1,5 +1,6 @@
 -- The header of a table of the long form.
-use Rattle.std.proofs.Common.{◌≡◌, ℕ, ◌+◌, ◌≤◌, ◌==◌, nat_lt, Bool, true, false, cond, refl, ap, ◌∙◌, length, Option, None, Some, Result, Ok, Err, eq-eqb, eqb-true}
+use Rattle.std.proofs.Common.{◌≡◌, ℕ, ◌+◌, ◌≤◌, ◌==◌, nat_lt, Bool, true, false, cond, refl, ap, ◌∙◌, length, Option, None, Some, Result, Ok, Err, eq-eqb}
+use Rattle.std.proofs.Common.{eqb-true}
 use Rattle.std.proofs.lemmas.Bool.{ltb-false, le-ltb}
 use Rattle.bit_fields.proofs.Bind.{ok_is}
 use Rattle.psi_tables.specs.Views.{SectionView}
@@ -30,7 +31,8 @@ form_is greatest (Some l) n h e =
     (ap (λ (x : LongHeader). Some x) (ok_is l h q.1), ltb-false greatest (9 + n) q.0)
 
 -- a header that was read stands there
-pub table_header_at-is : (table_id greatest : ℕ) (s : SectionView) (h : LongHeader) → table_header_at table_id greatest s ≡ Ok h → HasHeader table_id greatest s h
+pub table_header_at-is : (table_id greatest : ℕ) (s : SectionView) (h : LongHeader) → table_header_at table_id greatest s ≡ Ok h →
+    HasHeader table_id greatest s h
 unfolding table_header_at
 table_header_at-is table_id greatest s h e =
     let q = test_is (s.header.table_id == table_id) (form_at greatest s.header.long (length s.body)) Syntax h e in
@@ -42,7 +44,8 @@ unfolding form_at
 form_read greatest n h fits = rw (le-ltb greatest (9 + n) fits) refl
 
 -- a header that stands there is read
-pub table_header_at-read : (table_id greatest : ℕ) (s : SectionView) (h : LongHeader) → HasHeader table_id greatest s h → table_header_at table_id greatest s ≡ Ok h
+pub table_header_at-read : (table_id greatest : ℕ) (s : SectionView) (h : LongHeader) → HasHeader table_id greatest s h →
+    table_header_at table_id greatest s ≡ Ok h
 unfolding table_header_at
 table_header_at-read table_id greatest s h k =
     let test : (s.header.table_id == table_id) ≡ true = eq-eqb s.header.table_id table_id k.table_id in

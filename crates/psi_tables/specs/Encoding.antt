@@ -18,7 +18,8 @@ start_bytes table_id is_long private_indicator n =
 -- the five bytes after the length of the long form
 unfoldable pub long_header_bytes : LongHeader → List ℕ
 long_header_bytes h =
-    (h.table_id_extension / 256) ∷ (h.table_id_extension % 256) ∷ (0xC0 + (h.version_number * 2 + bit h.current_next)) ∷ h.section_number ∷ h.last_section_number ∷ []
+    (h.table_id_extension / 256) ∷ (h.table_id_extension % 256) ∷ (0xC0 + (h.version_number * 2 + bit h.current_next)) ∷ h.section_number ∷
+    h.last_section_number ∷ []
 
 -- section_length over a body of n bytes: the long form has five bytes before it and four after it
 abbrev pub section_length : Option LongHeader → ℕ → ℕ

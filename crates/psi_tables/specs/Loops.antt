@@ -1,6 +1,7 @@
 -- Loops of entries with descriptors, as those of PMT, NIT, SDT and EIT: each entry is a head of a fixed number of bytes,
 -- the last 12 bits of which are the number of the bytes of its descriptors, and those bytes (ISO/IEC 13818-1, 2.4.4.8; EN 300 468, 5.2).
-use Rattle.std.specs.Prelude.{◌≡◌, ℕ, zero, suc, ◌+◌, ◌-◌, ◌*◌, ◌%◌, nat_lt, if◌then◌else◌, List, [], ◌∷◌, ◌++◌, length, take, drop, slice_index, Option, None, Some, option_map, option_and_then, unwrap_or}
+use Rattle.std.specs.Prelude.{◌≡◌, ℕ, zero, suc, ◌+◌, ◌-◌, ◌*◌, ◌%◌, nat_lt, if◌then◌else◌, List, [], ◌∷◌, ◌++◌, length, take, drop, slice_index, Option, None}
+use Rattle.std.specs.Prelude.{Some, option_map, option_and_then, unwrap_or}
 use Rattle.psi_tables.specs.declared.entries.Entry.{Entry}
 
 -- an entry: its head and its descriptors, lists of bytes

@@ -1,5 +1,6 @@
 -- The program association table (ISO/IEC 13818-1, 2.4.4.3 and 2.4.4.4).
-use Rattle.std.specs.Prelude.{◌≡◌, ℕ, ◌+◌, ◌*◌, ◌/◌, ◌%◌, ◌^◌, ◌<◌, ◌≤◌, ◌==◌, if◌then◌else◌, false, List, [], ◌∷◌, ◌++◌, length, Some, Result, Ok, Err, flat_map}
+use Rattle.std.specs.Prelude.{◌≡◌, ℕ, ◌+◌, ◌*◌, ◌/◌, ◌%◌, ◌^◌, ◌<◌, ◌≤◌, ◌==◌, if◌then◌else◌, false, List, [], ◌∷◌, ◌++◌, length, Some, Result, Ok, Err}
+use Rattle.std.specs.Prelude.{flat_map}
 use Rattle.bit_fields.specs.Fields.{number, fields}
 use Rattle.bit_fields.specs.Reading.{◌>>=◌}
 use Rattle.psi_tables.specs.Views.{SectionView}

@@ -1,5 +1,6 @@
 -- The program map table (ISO/IEC 13818-1, 2.4.4.8 and 2.4.4.9).
-use Rattle.std.specs.Prelude.{◌≡◌, ℕ, ◌+◌, ◌*◌, ◌/◌, ◌%◌, ◌^◌, ◌<◌, ◌≤◌, if◌then◌else◌, false, List, [], ◌∷◌, ◌++◌, length, slice_index, Option, None, Some, Result, Ok, Err, is_some, map, flat_map}
+use Rattle.std.specs.Prelude.{◌≡◌, ℕ, ◌+◌, ◌*◌, ◌/◌, ◌%◌, ◌^◌, ◌<◌, ◌≤◌, if◌then◌else◌, false, List, [], ◌∷◌, ◌++◌, length, slice_index, Option, None, Some}
+use Rattle.std.specs.Prelude.{Result, Ok, Err, is_some, map, flat_map}
 use Rattle.bit_fields.specs.Fields.{number, fields}
 use Rattle.bit_fields.specs.Reading.{◌>>=◌}
 use Rattle.psi_tables.specs.Views.{SectionView}

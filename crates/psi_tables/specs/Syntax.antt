@@ -26,7 +26,8 @@ pub record IsLongSection (bytes : List ℕ) (s : SectionView) (h : LongHeader) :
   pub front_length : length front ≡ 8
   pub crc_length : length crc ≡ 4
   pub spelled : number front ≡ fields ((8, s.header.table_id) ∷ (1, 1) ∷ (1, bit s.header.private_indicator) ∷ (2, reserved) ∷ (12, 9 + length s.body)
-      ∷ (16, h.table_id_extension) ∷ (2, reserved_after) ∷ (5, h.version_number) ∷ (1, bit h.current_next) ∷ (8, h.section_number) ∷ (8, h.last_section_number) ∷ [])
+      ∷ (16, h.table_id_extension) ∷ (2, reserved_after) ∷ (5, h.version_number) ∷ (1, bit h.current_next) ∷ (8, h.section_number) ∷ (8, h.last_section_number)
+      ∷ [])
   pub checked : check_word bytes ≡ 0
   pub table_id : s.header.table_id < 2 ^ 8
   pub two_bits : reserved < 2 ^ 2

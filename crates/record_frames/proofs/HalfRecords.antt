@@ -1,12 +1,14 @@
 -- The beginning of a record is no record, and its bytes one after another are read as the record at its last one.
-use Rattle.std.proofs.Common.{◌≡◌, ℕ, ◌+◌, ◌<◌, ◌≤◌, List, [], ◌∷◌, ◌++◌, length, take, drop, Option, Some, None, Result, Ok, Err, refl, sym, ap, ◌∙◌, arith, append_assoc, inl, inr}
+use Rattle.std.proofs.Common.{◌≡◌, ℕ, ◌+◌, ◌<◌, ◌≤◌, List, [], ◌∷◌, ◌++◌, length, take, drop, Option, Some, None, Result, Ok, Err, refl, sym, ap, ◌∙◌, arith}
+use Rattle.std.proofs.Common.{append_assoc, inl, inr}
 use Rattle.std.proofs.lemmas.Bool.{cases_lt}
 use Rattle.std.proofs.lemmas.List.{append-nil, length-append, length-drop, drop-append-le, take-append-le}
 use Rattle.byteorder.specs.Endian.{big_from, big_number, big_bytes}
 use Rattle.byteorder.specs.Numbers.{big_from-take, length-bytes_high_first}
 use Rattle.pes_packet.specs.AccessUnits.{AccessUnit}
 use Rattle.unit_records.specs.Laws.{FitsRecord}
-use Rattle.unit_records.specs.Records.{after_record, max_unit_size, private_bytes, private_size, record_at, record_bytes, record_head, size_at, size_in, word_of}
+use Rattle.unit_records.specs.Records.{after_record, max_unit_size, private_bytes, private_size, record_at, record_bytes, record_head, size_at, size_in}
+use Rattle.unit_records.specs.Records.{word_of}
 use Rattle.std.specs.Prelude.{if◌then◌else◌, is_some}
 use Rattle.pes_packet.proofs.Sixteen.{sixteen_size}
 use Rattle.unit_records.specs.declared.reading.UnitFileError.{UnitFileError}
@@ -19,7 +21,8 @@ use Rattle.record_frames.specs.Frames.{Outside, Within, by_record, with_bytes}
 
 number_front : (n : ℕ) (xs more : List ℕ) → n ≤ length xs → big_number n (xs ++ more) ≡ big_number n xs
 number_front n xs more h =
-    sym (big_from-take 0 n n (xs ++ more) (omega arith)) ∙ ap (λ (ys : List ℕ). big_from 0 n ys) (take-append-le n xs more h) ∙ big_from-take 0 n n xs (omega arith)
+    sym (big_from-take 0 n n (xs ++ more) (omega arith)) ∙ ap (λ (ys : List ℕ). big_from 0 n ys) (take-append-le n xs more h)
+    ∙ big_from-take 0 n n xs (omega arith)
 
 size_front : (head more : List ℕ) → 5 ≤ length head → size_at (head ++ more) ≡ size_at head
 size_front head more h =

@@ -1,5 +1,6 @@
 -- What a reader of frames leaves at each byte.
-use Rattle.std.proofs.Common.{◌≡◌, ◌==◌, Bool, true, false, ℕ, ◌+◌, ◌<◌, ◌≤◌, List, [], ◌∷◌, ◌++◌, length, replicate, Option, Some, None, Result, Ok, Err, refl, sym, ap, subst, ◌∙◌, arith, inl, inr}
+use Rattle.std.proofs.Common.{◌≡◌, ◌==◌, Bool, true, false, ℕ, ◌+◌, ◌<◌, ◌≤◌, List, [], ◌∷◌, ◌++◌, length, replicate, Option, Some, None, Result, Ok, Err, refl}
+use Rattle.std.proofs.Common.{sym, ap, subst, ◌∙◌, arith, inl, inr}
 use Rattle.std.proofs.lemmas.Bool.{cases_lt, eq-eqb, ne_eqb}
 use Rattle.std.proofs.lemmas.List.{length-append, length-replicate}
 use Rattle.bit_fields.proofs.Bind.{ok_not_err}
@@ -62,7 +63,8 @@ unfolding frame_step
 no_mark s b e = rw (ne_eqb b 192 e) refl
 
 -- by the place
-pub step_at : (frame : OpenFrame) (p : Place) (b : ℕ) → (b ≡ 192 → ⊥) → frame.place ≡ p → frame_step (state_of frame) b ≡ at_byte (state_by p (come_of frame.begun)) b
+pub step_at : (frame : OpenFrame) (p : Place) (b : ℕ) → (b ≡ 192 → ⊥) → frame.place ≡ p →
+    frame_step (state_of frame) b ≡ at_byte (state_by p (come_of frame.begun)) b
 step_at frame p b other is =
     ap (λ (q : Place). frame_step (state_by q (come_of frame.begun)) b) is ∙ no_mark (state_by p (come_of frame.begun)) b other
 
@@ -92,11 +94,13 @@ stands : (s : FrameState) (frame : OpenFrame) → state_of frame ≡ s → IsOpe
 stands s frame is open_begun = record { state = is; open_record = open_begun }
 
 -- for a step that is known
-by_step : (t u : FrameState × FrameAnswer) (frame : OpenFrame) (answer : FrameAnswer) → t ≡ u → StandsFor u.0 frame → u.1 ≡ answer → StandsFor t.0 frame × (t.1 ≡ answer)
+by_step : (t u : FrameState × FrameAnswer) (frame : OpenFrame) (answer : FrameAnswer) → t ≡ u → StandsFor u.0 frame → u.1 ≡ answer →
+    StandsFor t.0 frame × (t.1 ≡ answer)
 by_step t u frame answer is s a =
     (subst (λ (v : FrameState × FrameAnswer). StandsFor v.0 frame) (sym is) s, ap (λ (v : FrameState × FrameAnswer). v.1) is ∙ a)
 
-lost_now : (t : FrameState × FrameAnswer) (frame : OpenFrame) → t ≡ (Lost, Err Dropped) → frame.place ≡ Skipping → IsOpen frame.begun → StandsFor t.0 frame × (t.1 ≡ Err Dropped)
+lost_now : (t : FrameState × FrameAnswer) (frame : OpenFrame) → t ≡ (Lost, Err Dropped) → frame.place ≡ Skipping → IsOpen frame.begun →
+    StandsFor t.0 frame × (t.1 ≡ Err Dropped)
 lost_now t frame is place open_begun =
     by_step t (Lost, Err Dropped) frame (Err Dropped) is (stands Lost frame (ap (λ (q : Place). state_by q (come_of frame.begun)) place) open_begun) refl
 
@@ -112,10 +116,12 @@ lost_still frame b other is open_begun =
     by_step (frame_step (state_of frame) b) (Lost, Ok None) frame (Ok None) (step_at frame Skipping b other is)
     (stands Lost frame (ap (λ (q : Place). state_by q (come_of frame.begun)) is) open_begun) refl
 
-pub escape_now : (old new : OpenFrame) (b : ℕ) → (b ≡ 192 → ⊥) → old.place ≡ Inside → b ≡ 219 → new.place ≡ AfterEscape → new.begun ≡ old.begun → IsOpen old.begun →
+pub escape_now : (old new : OpenFrame) (b : ℕ) → (b ≡ 192 → ⊥) → old.place ≡ Inside → b ≡ 219 → new.place ≡ AfterEscape → new.begun ≡ old.begun →
+    IsOpen old.begun →
     StandsFor (frame_step (state_of old) b).0 new × ((frame_step (state_of old) b).1 ≡ Ok None)
 escape_now old new b other is e place same open_begun =
-    by_step (frame_step (state_of old) b) (Escaped (come_of old.begun), Ok None) new (Ok None) (step_at old Inside b other is ∙ escape_byte (come_of old.begun) b e)
+    by_step (frame_step (state_of old) b) (Escaped (come_of old.begun), Ok None) new (Ok None)
+    (step_at old Inside b other is ∙ escape_byte (come_of old.begun) b e)
     (stands (Escaped (come_of old.begun)) new (ap (λ (q : Place). state_by q (come_of new.begun)) place ∙ ap (λ (r : OpenRecord). Escaped (come_of r)) same)
     (subst (λ (r : OpenRecord). IsOpen r) (sym same) open_begun)) refl
 
@@ -136,7 +142,8 @@ goes_on come byte new place taken =
     by_step (with_bytes (come ++ byte ∷ [])) (Within (come ++ byte ∷ []), Ok None) new (Ok None) (part_stays (come ++ byte ∷ []) cut)
     (stands (Within (come ++ byte ∷ [])) new (ap (λ (q : Place). state_by q (come_of new.begun)) place ∙ ap Within taken.1) taken.0) refl
 
-pub ends_here : (come : List ℕ) (byte : ℕ) (new : OpenFrame) (whole : ℕ × (ℕ × AccessUnit)) → new.place ≡ Before → TakesBytes come (byte ∷ []) new.begun (Ok (Some whole)) →
+pub ends_here : (come : List ℕ) (byte : ℕ) (new : OpenFrame) (whole : ℕ × (ℕ × AccessUnit)) → new.place ≡ Before →
+    TakesBytes come (byte ∷ []) new.begun (Ok (Some whole)) →
     StandsFor (with_bytes (come ++ byte ∷ [])).0 new × ((with_bytes (come ++ byte ∷ [])).1 ≡ Ok (Some whole.1))
 unfolding by_record
 ends_here come byte new whole place taken =

@@ -1,5 +1,6 @@
 -- What is read of frames one byte after another, and piece by piece.
-use Rattle.std.proofs.Common.{◌≡◌, ◌⊎◌, ◌<◌, ◌≤◌, ◌-◌, ◌^◌, ◌||◌, Bool, true, false, ℕ, ◌+◌, List, [], ◌∷◌, ◌++◌, length, take, drop, map, get_or, Option, Some, None, Result, Ok, Err, refl, sym, ap, ◌∙◌, subst, add-one, inl, inr, arith, append_assoc, append-nil, length-append}
+use Rattle.std.proofs.Common.{◌≡◌, ◌⊎◌, ◌<◌, ◌≤◌, ◌-◌, ◌^◌, ◌||◌, Bool, true, false, ℕ, ◌+◌, List, [], ◌∷◌, ◌++◌, length, take, drop, map, get_or, Option, Some}
+use Rattle.std.proofs.Common.{None, Result, Ok, Err, refl, sym, ap, ◌∙◌, subst, add-one, inl, inr, arith, append_assoc, append-nil, length-append}
 use Rattle.std.specs.Prelude.{if◌then◌else◌, ⊤, min, slice_index, OnOk}
 use Rattle.std.specs.List.{flat_map}
 use Rattle.std.specs.Io.KnownBytes.{Appends, Consumes, IsAtEnd, Keeps}
@@ -20,8 +21,10 @@ use Rattle.record_frames.specs.declared.frame.OpenFrame.{OpenFrame}
 use Rattle.record_frames.specs.declared.fault.FrameFault.{FrameFault}
 use Rattle.record_frames.specs.Frames.{FrameAnswer, FrameState, Outside, at_mark, entries_read, frame_step, kept}
 use Rattle.record_frames.specs.OpenFrames.{StandsFor, state_of}
-use Rattle.record_frames.specs.Passing.{EndsFrames, IsHalted, IsOut, LetsOut, PassedOn, PassesFrames, PassesPieces, ReportsEnd, ReportsLast, StopsFrames, StopsPieces, TakesPiece, TakesSome, cut_line, cut_lines, ends_half, last_lines}
-use Rattle.record_frames.specs.Readings.{Reading, Unframes, UnframesByte, after, answer_bytes, answer_drops, bytes_of, counted, drops_in, first, reading_of, record_of, records_in, step, told_with}
+use Rattle.record_frames.specs.Passing.{EndsFrames, IsHalted, IsOut, LetsOut, PassedOn, PassesFrames, PassesPieces, ReportsEnd, ReportsLast, StopsFrames}
+use Rattle.record_frames.specs.Passing.{StopsPieces, TakesPiece, TakesSome, cut_line, cut_lines, ends_half, last_lines}
+use Rattle.record_frames.specs.Readings.{Reading, Unframes, UnframesByte, after, answer_bytes, answer_drops, bytes_of, counted, drops_in, first, reading_of}
+use Rattle.record_frames.specs.Readings.{record_of, records_in, step, told_with}
 
 -- 1. A byte
 
@@ -29,17 +32,20 @@ same_reading : (s t : FrameState) (n m : ℕ) (b c : Bool) → s ≡ t → n ≡
     ◌≡◌ {A = Reading} (record { state = s; count = n; told = b }) (record { state = t; count = m; told = c })
 same_reading s t n m b c e f g = rw (e, f, g) refl
 
-pub byte_taken : (old new : FrameFeed) (byte : ℕ) (answer : FrameAnswer) → StandsFor (frame_step (state_of old.frame) byte).0 new.frame → (frame_step (state_of old.frame) byte).1 ≡ answer →
+pub byte_taken : (old new : FrameFeed) (byte : ℕ) (answer : FrameAnswer) → StandsFor (frame_step (state_of old.frame) byte).0 new.frame →
+    (frame_step (state_of old.frame) byte).1 ≡ answer →
     new.count ≡ counted old.count answer → new.told ≡ told_with old.told answer → new.records.items ≡ old.records.items ++ answer_bytes answer →
     new.drops.items ≡ old.drops.items ++ answer_drops old.count answer → UnframesByte old new byte
 byte_taken old new byte answer stands is count told records drops = record {
   is_open = stands.open_record;
-  reading = same_reading _ _ _ _ _ _ stands.state (count ∙ ap (λ (a : FrameAnswer). counted old.count a) (sym is)) (told ∙ ap (λ (a : FrameAnswer). told_with old.told a) (sym is));
+  reading = same_reading _ _ _ _ _ _ stands.state (count ∙ ap (λ (a : FrameAnswer). counted old.count a) (sym is))
+      (told ∙ ap (λ (a : FrameAnswer). told_with old.told a) (sym is));
   records = records ∙ ap (λ (a : FrameAnswer). old.records.items ++ answer_bytes a) (sym is);
   drops = drops ∙ ap (λ (a : FrameAnswer). old.drops.items ++ answer_drops old.count a) (sym is);
 }
 
-pub none_taken : (old new : FrameFeed) (byte : ℕ) → StandsFor (frame_step (state_of old.frame) byte).0 new.frame → (frame_step (state_of old.frame) byte).1 ≡ Ok None →
+pub none_taken : (old new : FrameFeed) (byte : ℕ) → StandsFor (frame_step (state_of old.frame) byte).0 new.frame →
+    (frame_step (state_of old.frame) byte).1 ≡ Ok None →
     new.count ≡ old.count → new.told ≡ old.told → new.records.items ≡ old.records.items → new.drops.items ≡ old.drops.items → UnframesByte old new byte
 unfolding counted told_with answer_bytes answer_drops
 none_taken old new byte stands is count told records drops =
@@ -60,19 +66,26 @@ one_dropped old new byte fault stands is count told records drops =
     byte_taken old new byte (Err fault) stands is count told (records ∙ sym (append-nil old.records.items)) drops
 
 -- where a call passes the record on, or notes that bytes are dropped
-pub passes_on : {V : Type 0} (result : Result V Halt) (old new : FrameFeed) (frame : OpenFrame) (byte : ℕ) (entry : ℕ × AccessUnit) → StandsFor (frame_step (state_of old.frame) byte).0 frame →
-    (frame_step (state_of old.frame) byte).1 ≡ Ok (Some entry) → OnOk result (new.frame ≡ frame) → OnOk result (new.count ≡ min (old.count + 1) (2 ^ 64 - 1)) → OnOk result (new.told ≡ old.told) →
-    OnOk result (new.records.items ≡ old.records.items ++ record_of entry) → OnOk result (new.drops.items ≡ old.drops.items) → OnOk result (UnframesByte old new byte)
+pub passes_on : {V : Type 0} (result : Result V Halt) (old new : FrameFeed) (frame : OpenFrame) (byte : ℕ) (entry : ℕ × AccessUnit) →
+    StandsFor (frame_step (state_of old.frame) byte).0 frame →
+    (frame_step (state_of old.frame) byte).1 ≡ Ok (Some entry) → OnOk result (new.frame ≡ frame) → OnOk result (new.count ≡ min (old.count + 1) (2 ^ 64 - 1)) →
+    OnOk result (new.told ≡ old.told) →
+    OnOk result (new.records.items ≡ old.records.items ++ record_of entry) → OnOk result (new.drops.items ≡ old.drops.items) →
+    OnOk result (UnframesByte old new byte)
 unfolding counted
 passes_on (Ok x) old new frame byte entry stands is same count told records drops =
     one_taken old new byte entry (subst (λ (f : OpenFrame). StandsFor (frame_step (state_of old.frame) byte).0 f) (sym same) stands) is count told records drops
 passes_on (Err halt) old new frame byte entry stands is same count told records drops = tt
 
-pub notes_drop : {V : Type 0} (result : Result V Halt) (old new : FrameFeed) (frame : OpenFrame) (byte : ℕ) (fault : FrameFault) → StandsFor (frame_step (state_of old.frame) byte).0 frame →
-    (frame_step (state_of old.frame) byte).1 ≡ Err fault → OnOk result (new.frame ≡ frame) → OnOk result (new.count ≡ old.count) → OnOk result (new.told ≡ true) →
-    OnOk result (new.records.items ≡ old.records.items) → OnOk result (new.drops.items ≡ old.drops.items ++ (old.count ∷ [])) → OnOk result (UnframesByte old new byte)
+pub notes_drop : {V : Type 0} (result : Result V Halt) (old new : FrameFeed) (frame : OpenFrame) (byte : ℕ) (fault : FrameFault) →
+    StandsFor (frame_step (state_of old.frame) byte).0 frame →
+    (frame_step (state_of old.frame) byte).1 ≡ Err fault → OnOk result (new.frame ≡ frame) → OnOk result (new.count ≡ old.count) →
+    OnOk result (new.told ≡ true) →
+    OnOk result (new.records.items ≡ old.records.items) → OnOk result (new.drops.items ≡ old.drops.items ++ (old.count ∷ [])) →
+    OnOk result (UnframesByte old new byte)
 notes_drop (Ok x) old new frame byte fault stands is same count told records drops =
-    one_dropped old new byte fault (subst (λ (f : OpenFrame). StandsFor (frame_step (state_of old.frame) byte).0 f) (sym same) stands) is count told records drops
+    one_dropped old new byte fault (subst (λ (f : OpenFrame). StandsFor (frame_step (state_of old.frame) byte).0 f) (sym same) stands) is count told records
+    drops
 notes_drop (Err halt) old new frame byte fault stands is same count told records drops = tt
 
 -- 2. Bytes, one after another
@@ -90,7 +103,8 @@ none_yet old bytes opens = record { is_open = opens; reading = refl; records = r
 next_is : (bytes : List ℕ) (i : ℕ) → i < length bytes → drop i bytes ≡ slice_index bytes i ∷ drop (i + 1) bytes
 next_is bytes i below = rw (drop-cons bytes i 0 below, add-one i) refl
 
-pub one_more : (old mid new : FrameFeed) (bytes : List ℕ) (i : ℕ) → i < length bytes → Midway old mid bytes i → UnframesByte mid new (slice_index bytes i) → Midway old new bytes (i + 1)
+pub one_more : (old mid new : FrameFeed) (bytes : List ℕ) (i : ℕ) → i < length bytes → Midway old mid bytes i → UnframesByte mid new (slice_index bytes i) →
+    Midway old new bytes (i + 1)
 unfolding after records_in drops_in
 one_more old mid new bytes i below m t =
     let b = slice_index bytes i in
@@ -99,11 +113,13 @@ one_more old mid new bytes i below m t =
       is_open = t.is_open;
       reading = m.reading ∙ ap (λ (l : List ℕ). after (reading_of mid) l) next ∙ ap (λ (r : Reading). after r (drop (i + 1) bytes)) (sym t.reading);
       records = m.records ∙ ap (λ (l : List ℕ). mid.records.items ++ records_in (reading_of mid) l) next
-          ∙ sym (append_assoc mid.records.items (answer_bytes (frame_step (state_of mid.frame) b).1) (records_in (step (reading_of mid) b) (drop (i + 1) bytes)))
+          ∙ sym (append_assoc mid.records.items (answer_bytes (frame_step (state_of mid.frame) b).1)
+          (records_in (step (reading_of mid) b) (drop (i + 1) bytes)))
           ∙ ap (λ (l : List ℕ). l ++ records_in (step (reading_of mid) b) (drop (i + 1) bytes)) (sym t.records)
           ∙ ap (λ (r : Reading). new.records.items ++ records_in r (drop (i + 1) bytes)) (sym t.reading);
       drops = m.drops ∙ ap (λ (l : List ℕ). mid.drops.items ++ drops_in (reading_of mid) l) next
-          ∙ sym (append_assoc mid.drops.items (answer_drops mid.count (frame_step (state_of mid.frame) b).1) (drops_in (step (reading_of mid) b) (drop (i + 1) bytes)))
+          ∙ sym (append_assoc mid.drops.items (answer_drops mid.count (frame_step (state_of mid.frame) b).1)
+          (drops_in (step (reading_of mid) b) (drop (i + 1) bytes)))
           ∙ ap (λ (l : List ℕ). l ++ drops_in (step (reading_of mid) b) (drop (i + 1) bytes)) (sym t.drops)
           ∙ ap (λ (r : Reading). new.drops.items ++ drops_in r (drop (i + 1) bytes)) (sym t.reading);
     }
@@ -175,7 +191,8 @@ pub record Come (input output faults : Device) (feed : FrameFeed) (pieces : ℕ)
   pub reading : reading_of feed ≡ after first came
   pub long : pieces ≤ length came
 
-pub none_came : (input output faults : Port) (feed : FrameFeed) → reading_of feed ≡ first → Come (between input input) (between output output) (between faults faults) feed 0
+pub none_came : (input output faults : Port) (feed : FrameFeed) → reading_of feed ≡ first →
+    Come (between input input) (between output output) (between faults faults) feed 0
 unfolding after records_in drops_in
 none_came input output faults feed is = record {
   came = [];
@@ -220,12 +237,14 @@ pub takes_none : (old new : FrameFeed) (input : Device) (more : Bool) → more �
 takes_none old new input more is t = subst (λ (b : Bool). TakesPiece old input new (Ok b)) is t
 
 -- the input ended
-pub pieces_end : (i0 i1 i2 : Port) (output faults : Device) (old new : FrameFeed) (pieces : ℕ) → Come (between i0 i1) output faults old pieces → TakesPiece old (between i1 i2) new (Ok false) →
+pub pieces_end : (i0 i1 i2 : Port) (output faults : Device) (old new : FrameFeed) (pieces : ℕ) → Come (between i0 i1) output faults old pieces →
+    TakesPiece old (between i1 i2) new (Ok false) →
     PassesPieces (between i0 i2) output faults (Ok tt) new
 pieces_end i0 i1 i2 output faults old new pieces m (reads, clean, ends, same) = (
   m.came,
   record {
-    read = subst (λ (bytes : List ℕ). Consumes i0.bytes i2.bytes bytes) (append-nil m.came) (Consumes-trans i0.bytes i1.bytes i2.bytes m.came [] m.passed.read reads);
+    read = subst (λ (bytes : List ℕ). Consumes i0.bytes i2.bytes bytes) (append-nil m.came)
+        (Consumes-trans i0.bytes i1.bytes i2.bytes m.came [] m.passed.read reads);
     unfailed = clean ∙ m.passed.unfailed;
     written = m.passed.written;
     clean = m.passed.clean;
@@ -259,7 +278,8 @@ piece_stops i0 i1 i2 output faults old new pieces Memory m (piece, reads) = reco
 }
 
 -- the writer failed
-pub out_stops : (i0 i1 i2 o0 o1 o2 : Port) (faults f : Device) (old mid new : FrameFeed) (pieces : ℕ) (halt : Halt) → Come (between i0 i1) (between o0 o1) faults old pieces →
+pub out_stops : (i0 i1 i2 o0 o1 o2 : Port) (faults f : Device) (old mid new : FrameFeed) (pieces : ℕ) (halt : Halt) →
+    Come (between i0 i1) (between o0 o1) faults old pieces →
     old.records.items ≡ [] → TakesSome old (between i1 i2) mid → LetsOut mid new (between o1 o2) f (Err halt) → StopsPieces (between i0 i2) (between o0 o2) halt
 out_stops i0 i1 i2 o0 o1 o2 faults f old mid new pieces Read m nothing t out = absurd out
 out_stops i0 i1 i2 o0 o1 o2 faults f old mid new pieces Memory m nothing t out = absurd out
@@ -274,13 +294,15 @@ out_stops i0 i1 i2 o0 o1 o2 faults f old mid new pieces Write m nothing t (stopp
       rest = drop stopped.taken mid.records.items;
       read = Consumes-trans i0.bytes i1.bytes i2.bytes m.came t.piece m.passed.read t.read;
       written = Appends-trans o0.bytes o1.bytes o2.bytes (records_in first m.came) (take stopped.taken mid.records.items) m.passed.written stopped.appends;
-      beginning = records_more first m.came t.piece ∙ ap (λ (l : List ℕ). records_in first m.came ++ l) (sym records ∙ sym (take-append-drop stopped.taken mid.records.items))
+      beginning = records_more first m.came t.piece
+          ∙ ap (λ (l : List ℕ). records_in first m.came ++ l) (sym records ∙ sym (take-append-drop stopped.taken mid.records.items))
           ∙ sym (append_assoc (records_in first m.came) (take stopped.taken mid.records.items) (drop stopped.taken mid.records.items));
       why = failed_later o0.failed o1.failed o2.failed m.passed.clean failed;
     }
 
 -- more bytes came than are counted
-pub long_enough : (input output faults : Device) (feed : FrameFeed) (pieces : ℕ) → Come input output faults feed pieces → 2 ^ 64 - 1 ≤ pieces → StopsPieces input output Read
+pub long_enough : (input output faults : Device) (feed : FrameFeed) (pieces : ℕ) → Come input output faults feed pieces → 2 ^ 64 - 1 ≤ pieces →
+    StopsPieces input output Read
 long_enough input output faults feed pieces m many = record {
   came = m.came;
   sent = records_in first m.came;
@@ -293,7 +315,8 @@ long_enough input output faults feed pieces m many = record {
 
 -- 5. The end
 
-pub frames_end : (input output : Device) (f0 f1 f2 : Port) (feed : FrameFeed) (status : ℕ) → PassesPieces input output (between f0 f1) (Ok tt) feed → ReportsLast (reading_of feed) (between f1 f2) status →
+pub frames_end : (input output : Device) (f0 f1 f2 : Port) (feed : FrameFeed) (status : ℕ) → PassesPieces input output (between f0 f1) (Ok tt) feed →
+    ReportsLast (reading_of feed) (between f1 f2) status →
     PassesFrames input output (between f0 f2) status
 frames_end input output f0 f1 f2 feed status (came, passed, ends, reading) last =
     let same = subst (λ (r : Reading). ReportsLast r (between f1 f2) status) reading last in
@@ -308,7 +331,8 @@ frames_end input output f0 f1 f2 feed status (came, passed, ends, reading) last 
       status_is = same.status_is;
     })
 
-pub frames_stop : (input output : Device) (before told after_all : Port) (halt : Halt) (status : ℕ) → StopsPieces input output halt → Reports (between told after_all) (halt_line halt) → status ≡ 3 →
+pub frames_stop : (input output : Device) (before told after_all : Port) (halt : Halt) (status : ℕ) → StopsPieces input output halt →
+    Reports (between told after_all) (halt_line halt) → status ≡ 3 →
     PassesFrames input output (between before after_all) status
 frames_stop input output before told after_all halt status s r is = inr (record {
   halt = halt;
@@ -324,7 +348,8 @@ frames_stop input output before told after_all halt status s r is = inr (record 
   status_is = is;
 })
 
-pub frames_done : (input output : Device) (f0 f1 f2 : Port) (feed : FrameFeed) (result : Result (Unit {0}) Halt) (status : ℕ) → PassesPieces input output (between f0 f1) result feed →
+pub frames_done : (input output : Device) (f0 f1 f2 : Port) (feed : FrameFeed) (result : Result (Unit {0}) Halt) (status : ℕ) →
+    PassesPieces input output (between f0 f1) result feed →
     ReportsEnd (reading_of feed) (between f1 f2) result status → PassesFrames input output (between f0 f2) status
 frames_done input output f0 f1 f2 feed (Ok x) status p r = frames_end input output f0 f1 f2 feed status p r
 frames_done input output f0 f1 f2 feed (Err halt) status p (r, is) = frames_stop input output f0 f1 f2 halt status p r is
@@ -338,7 +363,8 @@ no_piece input output faults after_all status r is =
     (record { came = []; sent = []; rest = []; read = Consumes-nil input.bytes; written = Appends-nil output.bytes; beginning = refl; why = tt }) r is
 
 -- the last line
-pub half_told : (r : Reading) (before after_all : Port) (status : ℕ) → ends_half r ≡ true → Reports (between before after_all) (cut_line r.count) → status ≡ 1 → ReportsLast r (between before after_all) status
+pub half_told : (r : Reading) (before after_all : Port) (status : ℕ) → ends_half r ≡ true → Reports (between before after_all) (cut_line r.count) → status ≡ 1 →
+    ReportsLast r (between before after_all) status
 half_told r before after_all status half t is = record {
   tells = rw half (told_more before before after_all [] (cut_line r.count) (told_none before) t);
   status_is = is ∙ one r.told (ends_half r) half;
@@ -367,16 +393,19 @@ pub record TellsDrops (old now : Port) (drops : List ℕ) (i : ℕ) : Type 0 whe
 pub no_drop : (port : Port) (drops : List ℕ) → TellsDrops port port drops 0
 no_drop port drops = record { texts = []; tells = told_none port; left = refl }
 
-pub drop_more : (old mid new : Port) (drops : List ℕ) (i : ℕ) → i < length drops → TellsDrops old mid drops i → Reports (between mid new) (cut_line (slice_index drops i)) →
+pub drop_more : (old mid new : Port) (drops : List ℕ) (i : ℕ) → i < length drops → TellsDrops old mid drops i →
+    Reports (between mid new) (cut_line (slice_index drops i)) →
     TellsDrops old new drops (i + 1)
 drop_more old mid new drops i below m r =
     let line = cut_line (slice_index drops i) in
     record {
       texts = m.texts ++ (line ∷ []);
       tells = told_more old mid new m.texts line m.tells r;
-      left = append_assoc m.texts (line ∷ []) (cut_lines (drop (i + 1) drops)) ∙ ap (λ (l : List ℕ). m.texts ++ cut_lines l) (sym (next_is drops i below)) ∙ m.left;
+      left = append_assoc m.texts (line ∷ []) (cut_lines (drop (i + 1) drops)) ∙ ap (λ (l : List ℕ). m.texts ++ cut_lines l) (sym (next_is drops i below))
+          ∙ m.left;
     }
 
 pub drops_told : (old now : Port) (drops : List ℕ) (i : ℕ) → length drops ≤ i → TellsDrops old now drops i → Tells old now (cut_lines drops)
 drops_told old now drops i past m =
-    subst (λ (l : List (List ℕ)). Tells old now l) (sym (append-nil m.texts) ∙ ap (λ (l : List ℕ). m.texts ++ cut_lines l) (sym (drop_all i drops past)) ∙ m.left) m.tells
+    subst (λ (l : List (List ℕ)). Tells old now l)
+    (sym (append-nil m.texts) ∙ ap (λ (l : List ℕ). m.texts ++ cut_lines l) (sym (drop_all i drops past)) ∙ m.left) m.tells

@@ -1,11 +1,13 @@
 -- Frames one after another, each of them whole or cut.
-use Rattle.std.proofs.Common.{◌≡◌, ◌==◌, ◌⊎◌, Bool, true, false, ℕ, ◌+◌, ◌<◌, List, [], ◌∷◌, ◌++◌, length, Option, Some, None, Result, Ok, Err, refl, sym, ap, subst, ◌∙◌, arith, append_assoc, inl, inr}
+use Rattle.std.proofs.Common.{◌≡◌, ◌==◌, ◌⊎◌, Bool, true, false, ℕ, ◌+◌, ◌<◌, List, [], ◌∷◌, ◌++◌, length, Option, Some, None, Result, Ok, Err, refl, sym, ap}
+use Rattle.std.proofs.Common.{subst, ◌∙◌, arith, append_assoc, inl, inr}
 use Rattle.std.proofs.lemmas.Bool.{cases_Bool, eqb-true}
 use Rattle.std.proofs.lemmas.List.{append-nil, length-append}
 use Rattle.pes_packet.specs.AccessUnits.{AccessUnit}
 use Rattle.unit_records.specs.Laws.{FitsRecord}
 use Rattle.unit_records.specs.Records.{record_bytes, record_head}
-use Rattle.record_frames.specs.Frames.{FrameAnswer, FrameState, Outside, Within, Escaped, Lost, at_byte, at_mark, entries_read, frame_of, frame_step, frames_of, kept, stuffed, stuffed_byte, with_bytes}
+use Rattle.record_frames.specs.Frames.{FrameAnswer, FrameState, Outside, Within, Escaped, Lost, at_byte, at_mark, entries_read, frame_of, frame_step, frames_of}
+use Rattle.record_frames.specs.Frames.{kept, stuffed, stuffed_byte, with_bytes}
 use Rattle.record_frames.specs.Laws.{AllFit, AllStopped, Writer, WritersAreRead, whole_of, written_by}
 use Rattle.record_frames.specs.declared.fault.FrameFault.TheVariants.{Dropped}
 use Rattle.record_frames.proofs.HalfRecords.{beginning_is_cut, part_stays, whole_ends}
@@ -64,11 +66,13 @@ byte_read : (come more : List ℕ) (x : ℕ) → entries_read (Within come) (stu
     ≡ kept (with_bytes (come ++ x ∷ [])).1 ++ entries_read (with_bytes (come ++ x ∷ [])).0 more
 byte_read come more x = elim (cases_Bool (x == 192)) [
   | inl e ↦
-      subst (λ (y : ℕ). entries_read (Within come) (stuffed_byte y ++ more) ≡ kept (with_bytes (come ++ y ∷ [])).1 ++ entries_read (with_bytes (come ++ y ∷ [])).0 more)
+      subst (λ (y : ℕ). entries_read (Within come) (stuffed_byte y ++ more) ≡ kept (with_bytes (come ++ y ∷ [])).1
+      ++ entries_read (with_bytes (come ++ y ∷ [])).0 more)
       (sym (eqb-true x 192 e)) (mark_read_back come more)
   | inr e ↦ elim (cases_Bool (x == 219)) [
     | inl f ↦
-        subst (λ (y : ℕ). entries_read (Within come) (stuffed_byte y ++ more) ≡ kept (with_bytes (come ++ y ∷ [])).1 ++ entries_read (with_bytes (come ++ y ∷ [])).0 more)
+        subst (λ (y : ℕ). entries_read (Within come) (stuffed_byte y ++ more) ≡ kept (with_bytes (come ++ y ∷ [])).1
+        ++ entries_read (with_bytes (come ++ y ∷ [])).0 more)
         (sym (eqb-true x 219 f)) (escape_read_back come more)
     | inr f ↦ ap (λ (t : List ℕ). entries_read (Within come) (t ++ more)) (stuffed_plain x e f) ∙ plain_read come more x e f
   ]
@@ -103,7 +107,8 @@ whole_read entry fits come (x ∷ y ∷ ys) more is some =
     let long : 0 < length (come ++ x ∷ []) = omega (arith, length-append come (x ∷ [])) in
     ap (λ (xs : List ℕ). entries_read (Within come) xs) (append_assoc (stuffed_byte x) (stuffed (y ∷ ys)) more)
     ∙ byte_read come (stuffed (y ∷ ys) ++ more) x
-    ∙ ap (λ (t : FrameState × FrameAnswer). kept t.1 ++ entries_read t.0 (stuffed (y ∷ ys) ++ more)) (part_stays (come ++ x ∷ []) (beginning_is_cut entry fits (come ++ x ∷ []) y ys joined long))
+    ∙ ap (λ (t : FrameState × FrameAnswer). kept t.1 ++ entries_read t.0 (stuffed (y ∷ ys) ++ more))
+    (part_stays (come ++ x ∷ []) (beginning_is_cut entry fits (come ++ x ∷ []) y ys joined long))
     ∙ whole_read entry fits (come ++ x ∷ []) (y ∷ ys) more joined (omega arith)
 
 -- 4. A half record
@@ -123,7 +128,8 @@ after_byte entry fits come x y ys p is none =
     let joined : (come ++ x ∷ []) ++ (y ∷ ys) ≡ record_bytes entry.0 entry.1 = append_assoc come (x ∷ []) (y ∷ ys) ∙ is in
     let long : 0 < length (come ++ x ∷ []) = omega (arith, length-append come (x ∷ [])) in
     byte_read come p x
-    ∙ ap (λ (t : FrameState × FrameAnswer). kept t.1 ++ entries_read t.0 p) (part_stays (come ++ x ∷ []) (beginning_is_cut entry fits (come ++ x ∷ []) y ys joined long))
+    ∙ ap (λ (t : FrameState × FrameAnswer). kept t.1 ++ entries_read t.0 p)
+    (part_stays (come ++ x ∷ []) (beginning_is_cut entry fits (come ++ x ∷ []) y ys joined long))
     ∙ none
 
 escape_alone : (come : List ℕ) → entries_read (Within come) (219 ∷ []) ≡ []
@@ -190,7 +196,8 @@ frames_read (entry ∷ entries) fit s =
     ∙ whole_read entry fit.0 [] (record_bytes entry.0 entry.1) (frames_of entries) refl (some_bytes entry)
     ∙ ap (λ (t : List (ℕ × AccessUnit)). entry ∷ t) (frames_read entries fit.1 Outside)
 
-half_frame : (entry : ℕ × AccessUnit) → FitsRecord entry.1 → (half : List ℕ) (z : ℕ) (zs : List ℕ) → half ++ (z ∷ zs) ≡ frame_of entry → (s : FrameState) → entries_read s half ≡ []
+half_frame : (entry : ℕ × AccessUnit) → FitsRecord entry.1 → (half : List ℕ) (z : ℕ) (zs : List ℕ) → half ++ (z ∷ zs) ≡ frame_of entry → (s : FrameState) →
+    entries_read s half ≡ []
 half_frame entry fits half z zs e s = elim (within_byte 192 half z zs (stuffed (record_bytes entry.0 entry.1)) e) [
   | inl none ↦ ap (entries_read s) none ∙ nothing_alone s
   | inr q ↦

@@ -1,5 +1,6 @@
 -- Frames that are read as they come: each whole record is written before the next read, and a line says where bytes are dropped.
-use Rattle.std.specs.Prelude.{◌≡◌, ◌⊎◌, ◌<◌, ◌≤◌, ◌-◌, ◌^◌, ◌||◌, ℕ, Bool, true, false, if◌then◌else◌, List, [], ◌∷◌, ◌++◌, length, map, Option, Some, None, Result, Ok, Err, codes, ⊤}
+use Rattle.std.specs.Prelude.{◌≡◌, ◌⊎◌, ◌<◌, ◌≤◌, ◌-◌, ◌^◌, ◌||◌, ℕ, Bool, true, false, if◌then◌else◌, List, [], ◌∷◌, ◌++◌, length, map, Option, Some, None}
+use Rattle.std.specs.Prelude.{Result, Ok, Err, codes, ⊤}
 use Rattle.std.specs.Io.KnownBytes.{Consumes, IsAtEnd, Keeps}
 use Rattle.counted_io.specs.Device.{CountsOne}
 use Rattle.devices.specs.Devices.{Device, Port, HasFailed, IsClean, Takes, between}
@@ -131,5 +132,6 @@ pub record StopsPieces (input output : Device) (halt : Halt) : Type 0 where
   pub why : IsHalted halt came input output
 
 abbrev pub PassesPieces : Device → Device → Device → Result (Unit {0}) Halt → FrameFeed → Type 0
-PassesPieces input output faults (Ok x) feed = (came : List ℕ) × PassedOn input output faults came × IsAtEnd input.after.bytes × (reading_of feed ≡ after first came)
+PassesPieces input output faults (Ok x) feed =
+    (came : List ℕ) × PassedOn input output faults came × IsAtEnd input.after.bytes × (reading_of feed ≡ after first came)
 PassesPieces input output faults (Err halt) feed = StopsPieces input output halt

@@ -14,7 +14,8 @@ use devices::{Halt, report_line, write_bytes};
 use std::alloc::{AllocError, Global};
 use unit_records::{Unit, record_head};
 
-/// Frames that are read: the bytes of the records that wait to be written, and after how many records bytes were dropped.
+/// Frames that are read: the bytes of the records that wait to be written, and after how many records bytes were
+/// dropped.
 #[derive(Drop)]
 pub struct FrameFeed {
     frame: OpenFrame,

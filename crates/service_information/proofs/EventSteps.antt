@@ -5,7 +5,8 @@ use Rattle.stream_programs.proofs.Slices.{more, done}
 use Rattle.service_information.specs.EventSections.{event_section_found}
 use Rattle.service_information.specs.Events.{FoundEventView, with_findings, with_section}
 
-pub events_more : {X : Type 0} (view : X → FindingView) (numbers : List ℕ) (i : ℕ) (fs : List X) (f : X) (taken after : List FoundEventView) → i < length fs → f ≡ get_or fs i f →
+pub events_more : {X : Type 0} (view : X → FindingView) (numbers : List ℕ) (i : ℕ) (fs : List X) (f : X) (taken after : List FoundEventView) → i < length fs →
+    f ≡ get_or fs i f →
     after ≡ with_section numbers taken (event_section_found (view f)) →
     with_findings numbers taken (map view (drop i fs)) ≡ with_findings numbers after (map view (drop (i + 1) fs))
 unfolding with_findings

@@ -1,5 +1,6 @@
 -- Moments and durations that tables say, from their binary coded decimals (EN 300 468, 5.2.4, 5.2.5 and annex C).
-use Rattle.std.specs.Prelude.{ℕ, ◌+◌, ◌-◌, ◌*◌, ◌/◌, ◌%◌, ◌&&◌, nat_le, nat_lt, if◌then◌else◌, List, [], ◌∷◌, slice_index, Option, Some, None, option_and_then, option_map}
+use Rattle.std.specs.Prelude.{ℕ, ◌+◌, ◌-◌, ◌*◌, ◌/◌, ◌%◌, ◌&&◌, nat_le, nat_lt, if◌then◌else◌, List, [], ◌∷◌, slice_index, Option, Some, None, option_and_then}
+use Rattle.std.specs.Prelude.{option_map}
 
 -- two decimal digits in a byte
 unfoldable pub decimal_in : ℕ → Option ℕ

@@ -88,8 +88,8 @@ fn write_clock(seconds: u64, text: &mut String) -> Result<(), AllocError>
     write_two_digits(seconds % 60, text)
 }
 
-/// Returns a moment in seconds since 1 January 1970 UTC as `YYYY-MM-DDThh:mm:ss`; the date by EN 300 468, annex C, which holds up
-/// to 2099.
+/// Returns a moment in seconds since 1 January 1970 UTC as `YYYY-MM-DDThh:mm:ss`; the date by EN 300 468, annex C,
+/// which holds up to 2099.
 #[tactic(auto, unfolding(crate::specs::CivilTimes::civil_text))]
 pub fn civil_text(alloc: Global, moment: u32) -> Result<String, AllocError>
     ensures { IfOk result (λ text. string_bytes text ≡ spec.civil_text moment) }

@@ -47,7 +47,8 @@ fn time_found(finding: &Finding<'_>) -> Option<u32>
     }
 }
 
-/// Returns the time of the first time and date section with a time from 1970 to 2037, in seconds since 1 January 1970 UTC.
+/// Returns the time of the first time and date section with a time from 1970 to 2037, in seconds since 1 January 1970
+/// UTC.
 pub fn stream_time(findings: &[Finding<'_>]) -> Option<u32>
     ensures { result ≡ spec.stream_time (map finding_view findings.now) }
 {

@@ -21,8 +21,9 @@ const INFORMATION_PIDS: [u16; 4] = [0x10, 0x11, 0x12, 0x14];
 /// A warning: what of the service information of a stream is left out.
 #[derive(Clone, Copy, PartialEq, Eq)]
 pub enum InformationWarning {
-    /// A section of present and following events of the stream itself ends in this packet that is not carried as it stands: not
-    /// in force, not readable, or with an event that is not taken, or with other descriptors than a short event descriptor.
+    /// A section of present and following events of the stream itself ends in this packet that is not carried as it
+    /// stands: not in force, not readable, or with an event that is not taken, or with other descriptors than a short
+    /// event descriptor.
     EventSurplus { packet: u64 },
     /// The name or the text of an event has characters that can't be read, or more bytes than a description has of it.
     EventTexts,
@@ -133,9 +134,9 @@ fn push_event_texts(
     Ok(())
 }
 
-/// Returns the warnings about service information: the first section that can't be read of each of its PIDs (0x10, 0x11, 0x12 and 0x14),
-/// the first time and date section that says no time, the first section with table_id 0x4E that says more of these programs than
-/// `stream_events`, and whether a text of an event is cut or can't be read.
+/// Returns the warnings about service information: the first section that can't be read of each of its PIDs (0x10,
+/// 0x11, 0x12 and 0x14), the first time and date section that says no time, the first section with table_id 0x4E that
+/// says more of these programs than `stream_events`, and whether a text of an event is cut or can't be read.
 #[tactic(auto, unfolding(crate::specs::Warnings::information_warnings))]
 pub fn information_warnings(
     alloc: Global,

@@ -1,10 +1,12 @@
 -- Payloads on a PID: their numbers, their counters, and what comes back of them.
-use Rattle.std.proofs.Common.{◌≡◌, ℕ, zero, suc, ◌+◌, ◌<◌, ◌==◌, Bool, false, cond, List, [], ◌∷◌, ◌++◌, length, map, Option, ◌%◌, refl, ap, ap₂, sym, subst, ◌∙◌, arith, inl, inr, eq-eqb}
+use Rattle.std.proofs.Common.{◌≡◌, ℕ, zero, suc, ◌+◌, ◌<◌, ◌==◌, Bool, false, cond, List, [], ◌∷◌, ◌++◌, length, map, Option, ◌%◌, refl, ap, ap₂, sym, subst}
+use Rattle.std.proofs.Common.{◌∙◌, arith, inl, inr, eq-eqb}
 use Rattle.std.proofs.lemmas.Bool.{cases_Bool, eqb-true, false≢true}
 use Rattle.std.specs.List.{concat, flat_map}
 use Rattle.own_slots.specs.Slots.{own_before, own_slots}
 use Rattle.ts_packet.specs.PidList.{Entry, is_of_pid, payload_of}
-use Rattle.slot_contents.specs.Contents.{Content, PayloadContent, PcrContent, NullContent, packet_of, view_of, entry_at, entries_in, Payload, payload_in, payloads_in, NumberedBy, Numbered, PayloadCount, HasNumber, payload_entry, payload_entries, Piece, put}
+use Rattle.slot_contents.specs.Contents.{Content, PayloadContent, PcrContent, NullContent, packet_of, view_of, entry_at, entries_in, Payload, payload_in}
+use Rattle.slot_contents.specs.Contents.{payloads_in, NumberedBy, Numbered, PayloadCount, HasNumber, payload_entry, payload_entries, Piece, put}
 use Rattle.slot_contents.specs.RunLaws.{PayloadCountLaw, RunPayloadEntriesLaw, PayloadEntriesAgainLaw, RunJoinedLaw, RunByNumberLaw}
 use Rattle.ts_packet.specs.declared.start.Start.{Start}
 use Rattle.ts_packet.specs.Beginnings.{start_in}
@@ -13,15 +15,21 @@ use Rattle.ts_packet.proofs.PlainWritten.{start_again}
 use Rattle.slot_contents.proofs.Runs.{run_pid_list}
 
 -- slot by slot: the count before slot s is the number with which it goes on
-number_one : (pid s number next : ℕ) (c : Content) (rest : ℕ → Type 0) → HasNumber pid c number → next ≡ number + length (payload_in pid s c) → rest next → NumberedBy pid c number rest
+number_one : (pid s number next : ℕ) (c : Content) (rest : ℕ → Type 0) → HasNumber pid c number → next ≡ number + length (payload_in pid s c) → rest next →
+    NumberedBy pid c number rest
 number_one pid s number next (PayloadContent other n start payload) rest is more then = (
-  (λ y. let e : next ≡ number + 1 = more ∙ ap (λ (b : Bool). number + length {A = Payload} (cond b (record { index = s; start = start; bytes = payload } ∷ []) [])) y in (is y, subst rest e then)),
-  (λ k. let e : next ≡ number + 0 = more ∙ ap (λ (b : Bool). number + length {A = Payload} (cond b (record { index = s; start = start; bytes = payload } ∷ []) [])) k in let f : next ≡ number = omega (arith, e) in subst rest f then),
+  (λ y. let e : next ≡ number + 1 =
+      more ∙ ap (λ (b : Bool). number + length {A = Payload} (cond b (record { index = s; start = start; bytes = payload } ∷ []) [])) y in
+      (is y, subst rest e then)),
+  (λ k. let e : next ≡ number + 0 =
+      more ∙ ap (λ (b : Bool). number + length {A = Payload} (cond b (record { index = s; start = start; bytes = payload } ∷ []) [])) k in
+      let f : next ≡ number = omega (arith, e) in subst rest f then),
 )
 number_one pid s number next (PcrContent other pcr) rest is more then = let f : next ≡ number = omega (arith, more) in (is, subst rest f then)
 number_one pid s number next NullContent rest is more then = let f : next ≡ number = omega (arith, more) in subst rest f then
 
-numbered_on : (pid n : ℕ) (content : ℕ → Content) (count : ℕ → ℕ) (s k : ℕ) → s + k ≡ n → PayloadCount pid n content count → ((t : ℕ) → t < n → HasNumber pid (content t) (count t))
+numbered_on : (pid n : ℕ) (content : ℕ → Content) (count : ℕ → ℕ) (s k : ℕ) → s + k ≡ n → PayloadCount pid n content count →
+    ((t : ℕ) → t < n → HasNumber pid (content t) (count t))
     → Numbered pid content s k (count s)
 unfolding Numbered
 numbered_on pid n content count s zero e counted has = tt
@@ -30,7 +38,8 @@ numbered_on pid n content count s (suc k) e counted has =
     (numbered_on pid n content count (suc s) k (omega arith) counted has)
 
 pub payload_count_law : PayloadCountLaw
-payload_count_law pid n content count counted has = subst (Numbered pid content 0 n) counted.none (numbered_on pid n content count 0 n (omega arith) counted has)
+payload_count_law pid n content count counted has =
+    subst (Numbered pid content 0 n) counted.none (numbered_on pid n content count 0 n (omega arith) counted has)
 
 pub null_other : (pid : ℕ) → (pid == 8191) ≡ false → (8191 == pid) ≡ false
 null_other pid told = elim (cases_Bool (8191 == pid)) [
@@ -39,12 +48,15 @@ null_other pid told = elim (cases_Bool (8191 == pid)) [
 ]
 
 -- one slot's part of the PID list
-carried_one : (pid s number : ℕ) (c : Content) (after : ℕ → Type 0) (es : List Entry) (ps : List Payload) → (pid == 8191) ≡ false → NumberedBy pid c number after
+carried_one : (pid s number : ℕ) (c : Content) (after : ℕ → Type 0) (es : List Entry) (ps : List Payload) → (pid == 8191) ≡ false →
+    NumberedBy pid c number after
     → ((k : ℕ) → after k → es ≡ payload_entries pid k ps)
     → cond (is_of_pid pid (view_of c)) (entry_at s c ∷ es) es ≡ payload_entries pid number (payload_in pid s c ++ ps)
 unfolding payload_entries view_of packet_of
 carried_one pid s number (PayloadContent other n start payload) after es ps told (hit, miss) rest = elim (cases_Bool (other == pid)) [
-  | inl y ↦ let f : other ≡ pid = eqb-true other pid y in let g = (hit y).0 in rw (y, f, g) (ap (λ (l : List Entry). payload_entry pid number (record { index = s; start = start; bytes = payload }) ∷ l) (rest (number + 1) (hit y).1))
+  | inl y ↦ let f : other ≡ pid = eqb-true other pid y in let g =
+      (hit y).0 in rw (y, f, g)
+      (ap (λ (l : List Entry). payload_entry pid number (record { index = s; start = start; bytes = payload }) ∷ l) (rest (number + 1) (hit y).1))
   | inr k ↦ rw k (rest number (miss k))
 ]
 carried_one pid s number (PcrContent other pcr) after es ps told (other_pid, then) rest = rw other_pid (rest number then)
@@ -65,7 +77,8 @@ run_payload_entries pid n content fits told is = run_pid_list pid n content fits
 
 -- what begins with a payload is seen in its packet
 pub payload_again : (index : ℕ) (start : Start) (pid counter : ℕ) (bytes : List ℕ) →
-    ◌≡◌ {A = Payload} (record { index = index; start = start_in (payload_view pid start counter bytes); bytes = bytes }) (record { index = index; start = start; bytes = bytes })
+    ◌≡◌ {A = Payload} (record { index = index; start = start_in (payload_view pid start counter bytes); bytes = bytes })
+    (record { index = index; start = start; bytes = bytes })
 payload_again index start pid counter bytes = rw (start_again pid start counter bytes) refl
 
 pub payload_entries_again : PayloadEntriesAgainLaw

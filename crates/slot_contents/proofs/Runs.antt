@@ -56,7 +56,8 @@ unfolding entries_from
 run_entries content n fits = entries_run content 0 n fits
 
 -- those of a PID
-listed_entries : (pid : ℕ) (content : ℕ → Content) (s n : ℕ) → filter (λ entry. is_of_pid pid entry.packet) (all_entries content s n) ≡ entries_in pid content s n
+listed_entries : (pid : ℕ) (content : ℕ → Content) (s n : ℕ) →
+    filter (λ entry. is_of_pid pid entry.packet) (all_entries content s n) ≡ entries_in pid content s n
 unfolding all_entries entries_in
 listed_entries pid content s zero = refl
 listed_entries pid content s (suc n) =
@@ -84,5 +85,6 @@ run_indices pid n content own fits tests =
 
 pub run_two : RunTwoLaw
 run_two p q n content own fits tests =
-    ap (λ (es : List Entry). map (λ (entry : Entry). entry.index) (filter (λ (entry : Entry). is_of_pid p entry.packet || is_of_pid q entry.packet) es)) (run_entries content n fits)
+    ap (λ (es : List Entry). map (λ (entry : Entry). entry.index) (filter (λ (entry : Entry). is_of_pid p entry.packet || is_of_pid q entry.packet) es))
+    (run_entries content n fits)
     ∙ indices_of (λ entry. is_of_pid p entry.packet || is_of_pid q entry.packet) content own 0 n tests

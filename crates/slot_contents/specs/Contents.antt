@@ -45,7 +45,8 @@ entry_at s c = record { index = s; bytes = packet_of c; packet = view_of c }
 -- the packets of a PID in the next n slots from slot s on
 unfoldable pub entries_in : ℕ → (ℕ → Content) → ℕ → ℕ → List Entry
 entries_in pid content s zero = []
-entries_in pid content s (suc n) = cond (is_of_pid pid (view_of (content s))) (entry_at s (content s) ∷ entries_in pid content (suc s) n) (entries_in pid content (suc s) n)
+entries_in pid content s (suc n) =
+    cond (is_of_pid pid (view_of (content s))) (entry_at s (content s) ∷ entries_in pid content (suc s) n) (entries_in pid content (suc s) n)
 
 -- a payload in a packet: the packet's index, what begins at its first byte, and its bytes
 pub record Payload : Type 0 where
@@ -66,7 +67,8 @@ payloads_in pid content s (suc n) = payload_in pid s (content s) ++ payloads_in 
 
 -- payloads on a PID are numbered on from this number, and nothing else is on the PID
 abbrev pub NumberedBy : ℕ → Content → ℕ → (ℕ → Type 0) → Type 0
-NumberedBy pid (PayloadContent other n start payload) number rest = ((other == pid) ≡ true → (n ≡ number) × rest (number + 1)) × ((other == pid) ≡ false → rest number)
+NumberedBy pid (PayloadContent other n start payload) number rest =
+    ((other == pid) ≡ true → (n ≡ number) × rest (number + 1)) × ((other == pid) ≡ false → rest number)
 NumberedBy pid (PcrContent other pcr) number rest = ((other == pid) ≡ false) × rest number
 NumberedBy pid NullContent number rest = rest number
 

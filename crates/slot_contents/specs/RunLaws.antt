@@ -4,7 +4,8 @@ use Rattle.std.specs.List.{concat, flat_map}
 use Rattle.own_slots.specs.Slots.{own_before, own_slots}
 use Rattle.ts_packet.specs.Laws.{ReadAgain}
 use Rattle.ts_packet.specs.PidList.{entries_of, is_of_pid, pid_list, payloads_on}
-use Rattle.slot_contents.specs.Contents.{Content, packet_of, view_of, ContentFits, run_bytes, entries_in, Payload, payload_in, payloads_in, Numbered, PayloadCount, HasNumber, payload_entries, payload_at, Piece, put}
+use Rattle.slot_contents.specs.Contents.{Content, packet_of, view_of, ContentFits, run_bytes, entries_in, Payload, payload_in, payloads_in, Numbered}
+use Rattle.slot_contents.specs.Contents.{PayloadCount, HasNumber, payload_entries, payload_at, Piece, put}
 
 -- the packet of what can be one has 188 bytes, and is read again
 abbrev pub ContentAgainLaw : Type 0
@@ -34,7 +35,8 @@ RunTwoLaw = (p q n : ℕ) (content : ℕ → Content) (own : ℕ → Bool) → F
 
 -- a count of the payloads before each slot numbers them
 abbrev pub PayloadCountLaw : Type 0
-PayloadCountLaw = (pid n : ℕ) (content : ℕ → Content) (count : ℕ → ℕ) → PayloadCount pid n content count → ((s : ℕ) → s < n → HasNumber pid (content s) (count s)) →
+PayloadCountLaw = (pid n : ℕ) (content : ℕ → Content) (count : ℕ → ℕ) → PayloadCount pid n content count →
+    ((s : ℕ) → s < n → HasNumber pid (content s) (count s)) →
     Numbered pid content 0 n 0
 
 -- numbered payloads on a PID are all that its list has: counters go up by one modulo 16 from 0

@@ -6,8 +6,10 @@ use Rattle.description_parts.specs.Described.{Described}
 use Rattle.slot_plan.specs.Planned.{Planned}
 use Rattle.slot_plan.specs.Shape.{IsShaped}
 use Rattle.slot_plan.specs.Entries.{Entry, first_failing}
-use Rattle.slot_plan.specs.Conditions.{shape_entries, timing_entries, entries, pcr_gaps, table_gaps, spreads, stream_rates, stream_buffers, transport_buffers, stream_leads, main_buffers, system_buffers, multiplexing_buffers, elementary_leads, IsServing}
-use Rattle.slot_plan.specs.SwitchConditions.{joint_entries, pcr_switches, table_switches, stream_works, transport_works, system_works, multiplexing_works, lead_switches, main_switches, elementary_switches, IsSwitchable}
+use Rattle.slot_plan.specs.Conditions.{shape_entries, timing_entries, entries, pcr_gaps, table_gaps, spreads, stream_rates, stream_buffers, transport_buffers}
+use Rattle.slot_plan.specs.Conditions.{stream_leads, main_buffers, system_buffers, multiplexing_buffers, elementary_leads, IsServing}
+use Rattle.slot_plan.specs.SwitchConditions.{joint_entries, pcr_switches, table_switches, stream_works, transport_works, system_works, multiplexing_works}
+use Rattle.slot_plan.specs.SwitchConditions.{lead_switches, main_switches, elementary_switches, IsSwitchable}
 use Rattle.slot_plan.proofs.HeldConditions.{holds_both, shaped}
 
 -- no condition of a list fails

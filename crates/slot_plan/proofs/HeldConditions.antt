@@ -13,7 +13,8 @@ use Rattle.slot_plan.specs.Numbered.{numbered}
 use Rattle.slot_plan.specs.Planned.{Planned}
 use Rattle.slot_plan.specs.Items.{marks}
 use Rattle.slot_plan.specs.Entries.{Entry, at_most, equal_counts, entry_holds, first_failing}
-use Rattle.slot_plan.specs.Conditions.{shape_entries, length_entries, name_entries, stream_owner_entries, program_owner_entries, table_owner_entries, claim_entries, owner_entry}
+use Rattle.slot_plan.specs.Conditions.{shape_entries, length_entries, name_entries, stream_owner_entries, program_owner_entries, table_owner_entries}
+use Rattle.slot_plan.specs.Conditions.{claim_entries, owner_entry}
 use Rattle.slot_plan.specs.Shape.{IsShaped}
 
 -- the first holds, and so do the others
@@ -61,7 +62,8 @@ at_most_holds condition part item left right none = leb-true left right (holds_f
 -- the shape, in plain facts
 pub shaped : (d : Described) (p : Planned) → first_failing (shape_entries d p) ≡ None → IsShaped d p
 shaped d p none =
-    let n = name_entries d p in let st = stream_owner_entries d p in let pr = program_owner_entries d p in let ta = table_owner_entries d p in let cl = claim_entries d p in
+    let n = name_entries d p in let st = stream_owner_entries d p in let pr = program_owner_entries d p in let ta = table_owner_entries d p in let cl =
+    claim_entries d p in
     let few = at_most Shape 2 0 (length p.slots) 65536 in let last = equal_counts Shape 6 0 (length p.certificate.programs) (length d.programs) in
     let lengths = holds_both (length_entries p) (n ++ (st ++ (pr ++ (ta ++ cl)))) none in
     let names = holds_both n (st ++ (pr ++ (ta ++ cl))) lengths.1 in
@@ -75,7 +77,9 @@ shaped d p none =
     record {
       some_slots = grind (arith, nat_tests, some.0);
       slot_bound = grind (arith, nat_tests, second.0);
-      streams_own = λ i lt. at_most_holds Shape 4 i 1 (per_period (marks (Stream i) p.slots)) (holds_item (λ j. owner_entry p j (Stream j) ∷ []) d.streams i streams.0 lt);
+      streams_own =
+          λ i lt. at_most_holds Shape 4 i 1 (per_period (marks (Stream i) p.slots))
+          (holds_item (λ j. owner_entry p j (Stream j) ∷ []) d.streams i streams.0 lt);
       programs_own = λ i lt. at_most_holds Shape 4 (length d.streams + i) 1 (per_period (marks (Pcr i) p.slots))
           (holds_item (λ j. owner_entry p (length d.streams + j) (Pcr j) ∷ []) d.programs i programs.0 lt);
       tables_own = λ t lt. at_most_holds Shape 4 (length d.streams + length d.programs + t) 1 (per_period (marks (Table t) p.slots))

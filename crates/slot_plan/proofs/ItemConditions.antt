@@ -17,7 +17,8 @@ use Rattle.slot_plan.proofs.HeldConditions.{holds_both, holds_at, at_most_holds}
 use Rattle.slot_plan.proofs.ConditionLists.{Hold}
 
 -- those of the element of that number
-pub holds_element : {A : Type 0} (part : ℕ → A → List Entry) (xs : List A) (i : ℕ) (x : A) → Hold (numbered part 0 xs) → slice_get xs i ≡ Some x → Hold (part i x)
+pub holds_element : {A : Type 0} (part : ℕ → A → List Entry) (xs : List A) (i : ℕ) (x : A) → Hold (numbered part 0 xs) → slice_get xs i ≡ Some x →
+    Hold (part i x)
 holds_element part xs i x hold is =
     let zero_on : 0 + i ≡ i = omega arith in
     let here = holds_at part 0 xs i x hold (slice_get_within xs i x is) in
@@ -33,7 +34,8 @@ holds_count f m (suc n) (suc j) lt hold =
     rw (← e) (holds_count f (suc m) n j (omega arith) ((holds_both (f m ∷ []) (entries_from f (suc m) n) hold).1))
 
 -- the three parts of a buffer are its claims
-pub holds_work : (condition : Condition) (item rate drain room start peak : ℕ) (marks : List Bool) → Hold (buffer_entries condition item rate drain room start peak marks) →
+pub holds_work : (condition : Condition) (item rate drain room start peak : ℕ) (marks : List Bool) →
+    Hold (buffer_entries condition item rate drain room start peak marks) →
     HoldsWork rate drain room start peak marks
 holds_work condition item rate drain room start peak marks hold =
     let fits = at_most condition 1 item (most_before rate drain start marks) (room * rate) in

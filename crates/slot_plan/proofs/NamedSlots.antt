@@ -8,7 +8,8 @@ use Rattle.slot_plan.specs.declared.slot.Slot.{Slot}
 use Rattle.slot_plan.specs.declared.slot.Slot.TheVariants.{Stream, Pcr, Table, Null}
 use Rattle.slot_plan.specs.declared.condition.Condition.TheVariants.{Shape}
 use Rattle.slot_plan.specs.Numbered.{numbered}
-use Rattle.slot_plan.specs.Conditions.{named_entry, length_entries, name_entries, stream_owner_entries, program_owner_entries, table_owner_entries, claim_entries}
+use Rattle.slot_plan.specs.Conditions.{named_entry, length_entries, name_entries, stream_owner_entries, program_owner_entries, table_owner_entries}
+use Rattle.slot_plan.specs.Conditions.{claim_entries}
 use Rattle.slot_plan.specs.ServingLaws.{IsNamed, SomeSlotLaw, NamedLaw, NamedInRunLaw, SecondLaw}
 use Rattle.slot_plan.proofs.HeldConditions.{holds_both, at_most_holds}
 use Rattle.slot_plan.proofs.ConditionLists.{Hold, serves, in_turn, joint_in_turn}

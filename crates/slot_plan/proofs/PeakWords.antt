@@ -1,5 +1,6 @@
 -- What the reader of a line's last words accepts: a peak, and a claim on a multiplexing buffer after it or none.
-use Rattle.std.specs.Prelude.{ℕ, ◌+◌, ◌-◌, ◌*◌, ◌/◌, ◌%◌, ◌^◌, ◌<◌, ◌≤◌, ◌==◌, ◌&&◌, true, false, List, [], ◌∷◌, ◌++◌, Option, None, Some, nat_le, nat_lt, codes, decimal}
+use Rattle.std.specs.Prelude.{ℕ, ◌+◌, ◌-◌, ◌*◌, ◌/◌, ◌%◌, ◌^◌, ◌<◌, ◌≤◌, ◌==◌, ◌&&◌, true, false, List, [], ◌∷◌, ◌++◌, Option, None, Some, nat_le, nat_lt}
+use Rattle.std.specs.Prelude.{codes, decimal}
 use Rattle.std.proofs.Common.{◌≡◌, refl, subst, ◌∙◌, append_assoc, arith}
 use Rattle.std.proofs.lemmas.Bool.Decides.{nat_tests}
 use Rattle.std.proofs.lemmas.Fmt.{decimal_by_steps}
@@ -44,7 +45,8 @@ other_ending word ending other n rest ends differs below =
 multiplexing_words : MultiplexingEntry → List ℕ
 multiplexing_words m = field (codes "mstart ") m.start 32 ++ field (codes "mpeak ") m.peak 10
 
-multiplexing-complete : (m : MultiplexingEntry) (rest : List ℕ) → is_small_multiplexing (Some m) ≡ true → multiplexing_at (multiplexing_words m ++ rest) ≡ Some (m, rest)
+multiplexing-complete : (m : MultiplexingEntry) (rest : List ℕ) → is_small_multiplexing (Some m) ≡ true →
+    multiplexing_at (multiplexing_words m ++ rest) ≡ Some (m, rest)
 unfolding multiplexing_words
 multiplexing-complete m rest small =
     let f : (m.start < number_limit) × (m.peak < number_limit) = grind (arith, nat_tests) in

@@ -57,7 +57,8 @@ slot_none n i xs pre lt e =
     rw (a, b) (read_none pre (line_of_slot i) (slots_at n (n - (i + 1))) (slot_at (slot_ending n i) xs) e)
 
 -- stream entry number k is read
-pub stream_more : (line k : ℕ) (xs rest : List ℕ) (pre : List StreamEntry) (e : StreamEntry) → k < 256 → begins_with 115 xs ≡ true → stream_at k xs ≡ Some (e, rest) →
+pub stream_more : (line k : ℕ) (xs rest : List ℕ) (pre : List StreamEntry) (e : StreamEntry) → k < 256 → begins_with 115 xs ≡ true →
+    stream_at k xs ≡ Some (e, rest) →
     with_all pre (streams_at (256 - k) line k xs) ≡ with_all (pre ++ e ∷ []) (streams_at (256 - (k + 1)) line (k + 1) rest)
 unfolding streams_at
 stream_more line k xs rest pre e lt begins is =
@@ -81,7 +82,8 @@ streams_end line k xs pre lt begins =
     rw (a, begins, append-nil) refl
 
 -- program entry number k is read
-pub program_more : (line k : ℕ) (xs rest : List ℕ) (pre : List ProgramEntry) (e : ProgramEntry) → k < 256 → begins_with 112 xs ≡ true → program_at k xs ≡ Some (e, rest) →
+pub program_more : (line k : ℕ) (xs rest : List ℕ) (pre : List ProgramEntry) (e : ProgramEntry) → k < 256 → begins_with 112 xs ≡ true →
+    program_at k xs ≡ Some (e, rest) →
     with_all pre (programs_at (256 - k) line k xs) ≡ with_all (pre ++ e ∷ []) (programs_at (256 - (k + 1)) line (k + 1) rest)
 unfolding programs_at
 program_more line k xs rest pre e lt begins is =

@@ -5,7 +5,8 @@ use Rattle.own_slots.specs.Extremes.{greatest}
 use Rattle.own_slots.specs.Work.{work_at}
 use Rattle.slot_plan.specs.declared.slot.Slot.{Slot}
 use Rattle.slot_plan.specs.declared.slot.Slot.TheVariants.{Stream, Pcr, Table, Null}
-use Rattle.slot_plan.specs.declared.condition.Condition.TheVariants.{Shape, PcrGap, Spread, StreamRate, TransportBuffer, StreamLead, MainBuffer, SystemBuffer, MultiplexingBuffer, ElementaryLead, LeadSwitch, MainSwitch, ElementarySwitch}
+use Rattle.slot_plan.specs.declared.condition.Condition.TheVariants.{Shape, PcrGap, Spread, StreamRate, TransportBuffer, StreamLead, MainBuffer, SystemBuffer}
+use Rattle.slot_plan.specs.declared.condition.Condition.TheVariants.{MultiplexingBuffer, ElementaryLead, LeadSwitch, MainSwitch, ElementarySwitch}
 use Rattle.slot_plan.specs.Planned.{Planned, Certified}
 use Rattle.slot_plan.specs.EmptySlots.{empty_slots}
 use Rattle.slot_plan.specs.Entries.{Entry, at_most, equal_counts, first_failing}
@@ -66,7 +67,8 @@ moved_spread = refl
 burst_slots : List Slot
 burst_slots = replicate 5 (Stream 0) ++ (Pcr 0 ∷ Table 0 ∷ Table 1 ∷ Table 3 ∷ Table 2 ∷ Table 4 ∷ Table 5 ∷ []) ++ replicate 588 Null
 
-burst : answer (record base { rate = 38000000 }) (record { slots = burst_slots; certificate = with_spread 2380 }) ≡ Some (at_most TransportBuffer 1 0 34592000000 19456000000)
+burst : answer (record base { rate = 38000000 }) (record { slots = burst_slots; certificate = with_spread 2380 }) ≡ Some
+    (at_most TransportBuffer 1 0 34592000000 19456000000)
 unfolding answer burst_slots with_spread
 burst = refl
 
@@ -154,7 +156,8 @@ leaking lead size = with_stream (record base_stream { lead = lead; multiplexing 
 claiming : ℕ → ℕ → List Slot → Planned
 claiming start peak slots = record {
   slots = slots;
-  certificate = record claims { streams = record { spread = 0; start = 0; peak = 282752000; multiplexing = Some (record { start = start; peak = peak }) } ∷ [] };
+  certificate =
+      record claims { streams = record { spread = 0; start = 0; peak = 282752000; multiplexing = Some (record { start = start; peak = peak }) } ∷ [] };
 }
 
 leak_kept : answer (leaking 1667 188) (claiming 0 282752000 base_slots) ≡ None
@@ -202,7 +205,8 @@ to_turned_1688 : switch_answer (with_stream (record base_stream { lead = 1688 })
 unfolding switch_answer turned with_slots with_stream
 to_turned_1688 = refl
 
-to_turned_1687 : switch_answer (with_stream (record base_stream { lead = 1687 })) base_plan turned ≡ Some (at_most LeadSwitch 0 0 4568887296000000000 4567046400000000000)
+to_turned_1687 : switch_answer (with_stream (record base_stream { lead = 1687 })) base_plan turned ≡ Some
+    (at_most LeadSwitch 0 0 4568887296000000000 4567046400000000000)
 unfolding switch_answer turned with_slots with_stream
 to_turned_1687 = refl
 

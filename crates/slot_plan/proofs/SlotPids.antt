@@ -17,7 +17,8 @@ place d (Pcr i) = table_count d + i
 place d (Table t) = t
 place d Null = 0
 
-stream_named : (d : Described) (k pid : ℕ) (o : Option DescribedStream) → slice_get d.streams k ≡ o → slot_pid d (Stream k) ≡ Some pid → slice_get (all_pids d) (table_count d + length d.programs + k) ≡ Some pid
+stream_named : (d : Described) (k pid : ℕ) (o : Option DescribedStream) → slice_get d.streams k ≡ o → slot_pid d (Stream k) ≡ Some pid →
+    slice_get (all_pids d) (table_count d + length d.programs + k) ≡ Some pid
 unfolding slot_pid
 stream_named d k pid None e f = let g : slot_pid d (Stream k) ≡ None = rw e refl in absurd (cc)
 stream_named d k pid (Some s) e f = let g : slot_pid d (Stream k) ≡ Some s.pid = rw e refl in (pid_positions d).stream k s e ∙ sym g ∙ f
@@ -26,7 +27,8 @@ pcr_named : (d : Described) (i pid : ℕ) (o : Option DescribedProgram) → slic
     → (i < length d.programs) × (slice_get (all_pids d) (table_count d + i) ≡ Some pid)
 unfolding slot_pid
 pcr_named d i pid None e f = let g : slot_pid d (Pcr i) ≡ None = rw e refl in absurd (cc)
-pcr_named d i pid (Some p) e f = let g : slot_pid d (Pcr i) ≡ Some p.pcr_pid = rw e refl in (slice_get_within d.programs i p e, (pid_positions d).clock i p e ∙ sym g ∙ f)
+pcr_named d i pid (Some p) e f = let g : slot_pid d (Pcr i) ≡ Some p.pcr_pid =
+    rw e refl in (slice_get_within d.programs i p e, (pid_positions d).clock i p e ∙ sym g ∙ f)
 
 table_named : (d : Described) (t pid : ℕ) (o : Option TableKind) → table_kind d t ≡ o → slot_pid d (Table t) ≡ Some pid
     → (t < table_count d) × (slice_get (all_pids d) t ≡ Some pid)

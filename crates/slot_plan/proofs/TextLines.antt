@@ -12,7 +12,8 @@ use Rattle.slot_plan.specs.Planned.{is_small_multiplexing, is_small_stream, is_s
 use Rattle.slot_plan.specs.Plans.{IsByteSlot}
 use Rattle.slot_plan.specs.Text.{slot_text, peak_words, stream_line, program_line}
 use Rattle.slot_plan.specs.Readers.{slot_of_letter, slot_at, stream_claims, program_claims, stream_at, program_at}
-use Rattle.slot_plan.proofs.WordReaders.{Exact, some_same, word-complete, word-sound, number-exact, field-exact, after-complete, after-sound, then-some, then-read}
+use Rattle.slot_plan.proofs.WordReaders.{Exact, some_same, word-complete, word-sound, number-exact, field-exact, after-complete, after-sound, then-some}
+use Rattle.slot_plan.proofs.WordReaders.{then-read}
 use Rattle.slot_plan.proofs.PeakWords.{joined, peaks-exact}
 
 -- what comes after the number in the line of a stream entry, of a program entry
@@ -26,7 +27,8 @@ program_tail e = field (codes "tstart ") e.transport_start 32 ++ (field (codes "
 claims-complete : (e : StreamEntry) (rest : List ℕ) → is_small_stream e ≡ true → stream_claims (stream_tail e ++ rest) ≡ Some (e, rest)
 unfolding stream_tail
 claims-complete e rest small =
-    let f : (e.spread < number_limit) × (e.start < number_limit) × (e.peak < number_limit) × (is_small_multiplexing e.multiplexing ≡ true) = grind (arith, nat_tests) in
+    let f : (e.spread < number_limit) × (e.start < number_limit) × (e.peak < number_limit) × (is_small_multiplexing e.multiplexing ≡ true) =
+    grind (arith, nat_tests) in
     let a = field (codes "spread ") e.spread 32 in let b = field (codes "start ") e.start 32 in let d = peak_words e.peak e.multiplexing in
     rw (
       append_assoc a (b ++ d) rest,
@@ -51,7 +53,8 @@ claims-sound xs e rest is =
 program-claims-complete : (e : ProgramEntry) (rest : List ℕ) → is_small_program e ≡ true → program_claims (program_tail e ++ rest) ≡ Some (e, rest)
 unfolding program_tail
 program-claims-complete e rest small =
-    let f : (e.transport_start < number_limit) × (e.transport_peak < number_limit) × (e.system_start < number_limit) × (e.system_peak < number_limit) = grind (arith, nat_tests) in
+    let f : (e.transport_start < number_limit) × (e.transport_peak < number_limit) × (e.system_start < number_limit) × (e.system_peak < number_limit) =
+    grind (arith, nat_tests) in
     let a = field (codes "tstart ") e.transport_start 32 in let b = field (codes "tpeak ") e.transport_peak 32 in
     let d = field (codes "bstart ") e.system_start 32 in let g = field (codes "bpeak ") e.system_peak 10 in
     rw (
@@ -64,7 +67,8 @@ program-claims-complete e rest small =
       (field-exact (codes "bpeak ") 10 (omega arith)).complete e.system_peak rest f.3,
     ) refl
 
-program-claims-sound : (xs : List ℕ) (e : ProgramEntry) (rest : List ℕ) → program_claims xs ≡ Some (e, rest) → (is_small_program e ≡ true) × (xs ≡ program_tail e ++ rest)
+program-claims-sound : (xs : List ℕ) (e : ProgramEntry) (rest : List ℕ) → program_claims xs ≡ Some (e, rest) →
+    (is_small_program e ≡ true) × (xs ≡ program_tail e ++ rest)
 unfolding program_tail
 program-claims-sound xs e rest is =
     let w = then-read _ _ _ is in let v = then-read _ _ _ w.2 in let u = then-read _ _ _ v.2 in let t = then-read _ _ _ u.2 in

@@ -1,5 +1,6 @@
 -- What the readers of slots and of entries, one after another, accept.
-use Rattle.std.specs.Prelude.{ℕ, zero, suc, ◌+◌, ◌-◌, ◌%◌, ◌<◌, ◌≤◌, ◌==◌, ◌||◌, true, false, List, [], ◌∷◌, ◌++◌, Option, None, Some, Result, Ok, Err, All, length}
+use Rattle.std.specs.Prelude.{ℕ, zero, suc, ◌+◌, ◌-◌, ◌%◌, ◌<◌, ◌≤◌, ◌==◌, ◌||◌, true, false, List, [], ◌∷◌, ◌++◌, Option, None, Some, Result, Ok, Err, All}
+use Rattle.std.specs.Prelude.{length}
 use Rattle.std.specs.List.{list_all}
 use Rattle.std.proofs.Common.{◌≡◌, refl, ap, sym, subst, ◌∙◌, append_assoc, arith, inl, inr}
 use Rattle.std.proofs.lemmas.Bool.{cases_Bool}
@@ -55,7 +56,8 @@ slots-complete n (suc k) (s ∷ ss) rest e le small =
     let i : suc (n - suc k) ≡ n - k = omega arith in
     let here = slot-exact (slot_ending n (n - suc k)) (ending-small n (n - suc k)) in
     rw (append_assoc (slot_word n (n - suc k) s) (numbered (slot_word n) (suc (n - suc k)) ss) rest)
-    (first-some (line_of_slot (n - suc k)) (slots_at n k) _ s _ (here.complete s (numbered (slot_word n) (suc (n - suc k)) ss ++ rest) (All-head IsByteSlot s ss small))
+    (first-some (line_of_slot (n - suc k)) (slots_at n k) _ s _
+    (here.complete s (numbered (slot_word n) (suc (n - suc k)) ss ++ rest) (All-head IsByteSlot s ss small))
     ∙ (rw (i, slots-complete n k ss rest (omega arith) (omega arith) (All-tail IsByteSlot s ss small)) refl))
 
 pub record SlotsRead (n k : ℕ) (xs : List ℕ) (ss : List Slot) (rest : List ℕ) : Type 0 where
@@ -81,7 +83,8 @@ slots-sound n (suc k) xs ss rest le e =
       text = one_more_word n (n - suc k) (n - k) f.first f.others xs f.following rest (omega arith) here.1 more.text;
     })
 
-pub streams-complete : (m line k : ℕ) (es : List StreamEntry) (rest : List ℕ) → length es ≤ m → k + m ≤ 256 → list_all is_small_stream es ≡ true → begins_with 115 rest ≡ false →
+pub streams-complete : (m line k : ℕ) (es : List StreamEntry) (rest : List ℕ) → length es ≤ m → k + m ≤ 256 → list_all is_small_stream es ≡ true →
+    begins_with 115 rest ≡ false →
     streams_at m line k (numbered stream_line k es ++ rest) ≡ Ok (es, rest)
 unfolding streams_at
 streams-complete zero line k [] rest le few small ends = refl
@@ -99,7 +102,8 @@ pub record StreamsRead (m k : ℕ) (xs : List ℕ) (es : List StreamEntry) (rest
   pub small : list_all is_small_stream es ≡ true
   pub text : xs ≡ numbered stream_line k es ++ rest
 
-pub streams-sound : (m line k : ℕ) (xs : List ℕ) (es : List StreamEntry) (rest : List ℕ) → k + m ≤ 256 → streams_at m line k xs ≡ Ok (es, rest) → StreamsRead m k xs es rest
+pub streams-sound : (m line k : ℕ) (xs : List ℕ) (es : List StreamEntry) (rest : List ℕ) → k + m ≤ 256 → streams_at m line k xs ≡ Ok (es, rest) →
+    StreamsRead m k xs es rest
 unfolding streams_at
 streams-sound zero line k xs es rest few e =
     let same : ([], xs) ≡ (es, rest) = ok_same _ _ e in
@@ -112,13 +116,15 @@ streams-sound (suc m) line k xs es rest few e = elim (cases_Bool (begins_with 11
       subst (λ t. StreamsRead (suc m) k xs t rest) (sym f.are) (record {
         few = omega (arith, more.few);
         small = fine;
-        text = here.1 ∙ ap (λ t. stream_line k f.first ++ t) more.text ∙ sym (append_assoc (stream_line k f.first) (numbered stream_line (suc k) f.others) rest);
+        text = here.1 ∙ ap (λ t. stream_line k f.first ++ t) more.text
+            ∙ sym (append_assoc (stream_line k f.first) (numbered stream_line (suc k) f.others) rest);
       }))
   | inr other ↦ (let same : ([], xs) ≡ (es, rest) = ok_same _ _ (rw other at e) in
       subst (λ t. StreamsRead (suc m) k xs t.0 t.1) same (record { few = omega arith; small = refl; text = refl }))
 ]
 
-pub programs-complete : (m line k : ℕ) (es : List ProgramEntry) (rest : List ℕ) → length es ≤ m → k + m ≤ 256 → list_all is_small_program es ≡ true → begins_with 112 rest ≡ false →
+pub programs-complete : (m line k : ℕ) (es : List ProgramEntry) (rest : List ℕ) → length es ≤ m → k + m ≤ 256 → list_all is_small_program es ≡ true →
+    begins_with 112 rest ≡ false →
     programs_at m line k (numbered program_line k es ++ rest) ≡ Ok (es, rest)
 unfolding programs_at
 programs-complete zero line k [] rest le few small ends = refl
@@ -136,7 +142,8 @@ pub record ProgramsRead (m k : ℕ) (xs : List ℕ) (es : List ProgramEntry) (re
   pub small : list_all is_small_program es ≡ true
   pub text : xs ≡ numbered program_line k es ++ rest
 
-pub programs-sound : (m line k : ℕ) (xs : List ℕ) (es : List ProgramEntry) (rest : List ℕ) → k + m ≤ 256 → programs_at m line k xs ≡ Ok (es, rest) → ProgramsRead m k xs es rest
+pub programs-sound : (m line k : ℕ) (xs : List ℕ) (es : List ProgramEntry) (rest : List ℕ) → k + m ≤ 256 → programs_at m line k xs ≡ Ok (es, rest) →
+    ProgramsRead m k xs es rest
 unfolding programs_at
 programs-sound zero line k xs es rest few e =
     let same : ([], xs) ≡ (es, rest) = ok_same _ _ e in
@@ -149,7 +156,8 @@ programs-sound (suc m) line k xs es rest few e = elim (cases_Bool (begins_with 1
       subst (λ t. ProgramsRead (suc m) k xs t rest) (sym f.are) (record {
         few = omega (arith, more.few);
         small = fine;
-        text = here.1 ∙ ap (λ t. program_line k f.first ++ t) more.text ∙ sym (append_assoc (program_line k f.first) (numbered program_line (suc k) f.others) rest);
+        text = here.1 ∙ ap (λ t. program_line k f.first ++ t) more.text
+            ∙ sym (append_assoc (program_line k f.first) (numbered program_line (suc k) f.others) rest);
       }))
   | inr other ↦ (let same : ([], xs) ≡ (es, rest) = ok_same _ _ (rw other at e) in
       subst (λ t. ProgramsRead (suc m) k xs t.0 t.1) same (record { few = omega arith; small = refl; text = refl }))

@@ -53,7 +53,8 @@ line-ok : {A : Type 0} (line : ℕ) (o : Option A) (x : A) → or_line line o �
 line-ok line None x e = absurd (cc)
 line-ok line (Some y) x e = ap Some (ok_same y x e)
 
-certificate-sound : (line : ℕ) (xs : List ℕ) (c : Certified) (rest : List ℕ) → certificate_at line xs ≡ Ok (c, rest) → IsCertificate c × (xs ≡ certificate_text c ++ rest)
+certificate-sound : (line : ℕ) (xs : List ℕ) (c : Certified) (rest : List ℕ) → certificate_at line xs ≡ Ok (c, rest) →
+    IsCertificate c × (xs ≡ certificate_text c ++ rest)
 unfolding certificate_text
 certificate-sound line xs c rest e =
     let s = then-ok (streams_at 256 line 0 xs) _ (c, rest) e in
@@ -76,8 +77,11 @@ slot_bound p within = elim (cases_Bool (nat_lt 99999 (length p.slots))) [
   | inr few ↦ elim (cases_Bool (nat_lt 256 (length p.certificate.streams) || nat_lt 256 (length p.certificate.programs))) [
     | inl more ↦ absurd (let h = rw (few, more) at within in cc)
     | inr less ↦ elim (cases_Bool (has_small_numbers p.certificate)) [
-      | inl small ↦ (let s : (list_all is_small_stream p.certificate.streams ≡ true) × (list_all is_small_program p.certificate.programs ≡ true) = grind (arith, nat_tests) in
-          (grind (arith, nat_tests), record { few_streams = grind (arith, nat_tests); few_programs = grind (arith, nat_tests); small_streams = s.0; small_programs = s.1 }))
+      | inl small ↦ (let s : (list_all is_small_stream p.certificate.streams ≡ true) × (list_all is_small_program p.certificate.programs ≡ true) =
+          grind (arith, nat_tests) in (
+            grind (arith, nat_tests),
+            record { few_streams = grind (arith, nat_tests); few_programs = grind (arith, nat_tests); small_streams = s.0; small_programs = s.1 },
+          ))
       | inr great ↦ absurd (let h = rw (few, less, great) at within in cc)
     ]
   ]
@@ -101,7 +105,8 @@ period-sound xs n rest e =
     elim (cases_Bool (nat_lt 99999 w.0.0)) [
       | inl many ↦ absurd (let h = rw many at w.2 in cc)
       | inr few ↦ (let P : ℕ × List ℕ → Type 0 = λ t. (t.0 ≤ 99999) × (xs ≡ field (codes "period ") t.0 10 ++ t.1) in
-          subst P (some_same w.0 (n, rest) (rw few at w.2)) (grind (arith, nat_tests), ((field-exact (codes "period ") 10 (omega arith)).sound xs w.0.0 w.0.1 w.1).1))
+          subst P (some_same w.0 (n, rest) (rw few at w.2))
+          (grind (arith, nat_tests), ((field-exact (codes "period ") 10 (omega arith)).sound xs w.0.0 w.0.1 w.1).1))
     ]
 
 -- the parts of a plan text, each before what follows it
@@ -150,13 +155,15 @@ plan-sound xs p rest e =
         let zero_left : n - n ≡ 0 = omega arith in
         let p : Planned = record { slots = slots; certificate = c } in
         let v_is : v ≡ numbered (slot_word n) 0 slots ++ w = rw zero_left at r.text in
-        let text : xs ≡ codes "tsplan 1\n" ++ (field (codes "period ") n 10 ++ (numbered (slot_word n) 0 slots ++ (certificate_text c ++ rest))) = rw (a, b, v_is, d.1) refl in (
+        let text : xs ≡ codes "tsplan 1\n" ++ (field (codes "period ") n 10 ++ (numbered (slot_word n) 0 slots ++ (certificate_text c ++ rest))) =
+        rw (a, b, v_is, d.1) refl in (
           record { numbers = r.small; within = no_error slots c (rw r.count few) d.0 },
           (rw (← r.count) at text) ∙ sym (in_parts p rest),
         )
 
 -- a front part, by its length
-cut_front : (xs t rest : List ℕ) → xs ≡ t ++ rest → (length rest ≤ length xs) × (length xs - length rest ≡ length t) × (xs ≡ t ++ drop (length xs - length rest) xs)
+cut_front : (xs t rest : List ℕ) → xs ≡ t ++ rest →
+    (length rest ≤ length xs) × (length xs - length rest ≡ length t) × (xs ≡ t ++ drop (length xs - length rest) xs)
 cut_front xs t rest e =
     let long : length xs ≡ length t + length rest = rw (e, length-append) refl in
     let bytes : length xs - length rest ≡ length t = omega arith in

@@ -1,5 +1,6 @@
 -- What the readers of words and numbers accept: exactly the texts of what they give.
-use Rattle.std.specs.Prelude.{ℕ, ◌+◌, ◌-◌, ◌*◌, ◌/◌, ◌%◌, ◌^◌, ◌<◌, ◌≤◌, ◌==◌, ◌&&◌, true, false, List, [], ◌∷◌, ◌++◌, Option, None, Some, nat_eq, nat_lt, nat_le, length, drop, decimal}
+use Rattle.std.specs.Prelude.{ℕ, ◌+◌, ◌-◌, ◌*◌, ◌/◌, ◌%◌, ◌^◌, ◌<◌, ◌≤◌, ◌==◌, ◌&&◌, true, false, List, [], ◌∷◌, ◌++◌, Option, None, Some, nat_eq, nat_lt}
+use Rattle.std.specs.Prelude.{nat_le, length, drop, decimal}
 use Rattle.std.proofs.Common.{◌≡◌, refl, ap, sym, ◌∙◌, append_assoc, arith, inl, inr, if◌then◌else◌}
 use Rattle.std.specs.List.{starts_with}
 use Rattle.std.proofs.lemmas.Bool.{cases_Bool}
@@ -124,8 +125,11 @@ field-exact word ending ends = record { sound = sound; complete = complete }
     sound : (xs : List ℕ) (n : ℕ) (rest : List ℕ) → field_at word ending xs ≡ Some (n, rest) → (n < number_limit) × (xs ≡ field word n ending ++ rest)
     sound xs n rest e =
         let w = then-read (after_word word xs) (number_before ending number_limit) (n, rest) e in
-        let v = numbers.sound w.0 n rest w.2 in
-        (v.0, word-sound word xs w.0 w.1 ∙ ap (λ t. word ++ t) v.1 ∙ sym (append_assoc word (decimal n ++ ending ∷ []) rest) ∙ ap (λ t. t ++ rest) (sym (append_assoc word (decimal n) (ending ∷ []))))
+        let v = numbers.sound w.0 n rest w.2 in (
+          v.0,
+          word-sound word xs w.0 w.1 ∙ ap (λ t. word ++ t) v.1 ∙ sym (append_assoc word (decimal n ++ ending ∷ []) rest)
+              ∙ ap (λ t. t ++ rest) (sym (append_assoc word (decimal n) (ending ∷ []))),
+        )
 
 -- a word and one number
 pub after-complete : (word : List ℕ) (k : ℕ) (rest : List ℕ) → k < number_limit → after_number word k (field word k 32 ++ rest) ≡ Some rest

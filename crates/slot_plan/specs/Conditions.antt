@@ -19,7 +19,8 @@ use Rattle.slot_plan.specs.declared.slot.Item.{Item}
 use Rattle.slot_plan.specs.declared.slot.Slot.TheVariants.{Stream, Pcr, Table, Null}
 use Rattle.slot_plan.specs.declared.slot.Item.TheVariants.{Stream as StreamItem, Pcr as PcrItem, Table as TableItem, System}
 use Rattle.slot_plan.specs.declared.condition.Condition.{Condition}
-use Rattle.slot_plan.specs.declared.condition.Condition.TheVariants.{Shape, PcrGap, TableGap, Spread, StreamRate, TransportBuffer, StreamLead, MainBuffer, SystemBuffer, MultiplexingBuffer, ElementaryLead}
+use Rattle.slot_plan.specs.declared.condition.Condition.TheVariants.{Shape, PcrGap, TableGap, Spread, StreamRate, TransportBuffer, StreamLead, MainBuffer}
+use Rattle.slot_plan.specs.declared.condition.Condition.TheVariants.{SystemBuffer, MultiplexingBuffer, ElementaryLead}
 use Rattle.slot_plan.specs.Numbered.{numbered}
 use Rattle.slot_plan.specs.Planned.{Planned}
 use Rattle.slot_plan.specs.EmptySlots.{empty_slots}
@@ -67,7 +68,8 @@ claim_entries d p = equal_counts Shape 5 0 (length p.certificate.streams) (lengt
 
 -- code 1: the shape of a plan
 abbrev pub shape_entries : Described → Planned → List Entry
-shape_entries d p = length_entries p ++ (name_entries d p ++ (stream_owner_entries d p ++ (program_owner_entries d p ++ (table_owner_entries d p ++ claim_entries d p))))
+shape_entries d p =
+    length_entries p ++ (name_entries d p ++ (stream_owner_entries d p ++ (program_owner_entries d p ++ (table_owner_entries d p ++ claim_entries d p))))
 
 -- code 2: the PCRs of a program recur within its limit, in ms (ISO/IEC 13818-1, 2.7.2)
 abbrev pub pcr_gap_entry : Described → Planned → ℕ → DescribedProgram → Entry

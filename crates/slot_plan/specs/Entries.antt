@@ -1,7 +1,9 @@
 -- A list of conditions, each with the two numbers that it compares, and the first that fails.
 use Rattle.std.specs.Prelude.{ℕ, ◌==◌, Bool, List, [], ◌∷◌, Option, Some, None, nat_le, if◌then◌else◌}
 use Rattle.slot_plan.specs.declared.condition.Condition.{Condition}
-use Rattle.slot_plan.specs.declared.condition.Condition.TheVariants.{Shape, PcrGap, TableGap, Spread, StreamRate, TransportBuffer, StreamLead, MainBuffer, SystemBuffer, MultiplexingBuffer, ElementaryLead, PcrSwitch, TableSwitch, WorkSwitch, LeadSwitch, MainSwitch, ElementarySwitch}
+use Rattle.slot_plan.specs.declared.condition.Condition.TheVariants.{Shape, PcrGap, TableGap, Spread, StreamRate, TransportBuffer, StreamLead, MainBuffer}
+use Rattle.slot_plan.specs.declared.condition.Condition.TheVariants.{SystemBuffer, MultiplexingBuffer, ElementaryLead, PcrSwitch, TableSwitch, WorkSwitch}
+use Rattle.slot_plan.specs.declared.condition.Condition.TheVariants.{LeadSwitch, MainSwitch, ElementarySwitch}
 use Rattle.slot_plan.specs.declared.condition.Relation.{Relation}
 use Rattle.slot_plan.specs.declared.condition.Relation.TheVariants.{AtMost, Equal}
 

@@ -1,5 +1,6 @@
 -- A plan text, read from left to right. Each reader gives what it finds at the front and the text after it, or nothing.
-use Rattle.std.specs.Prelude.{ℕ, zero, suc, ◌+◌, ◌-◌, ◌/◌, ◌==◌, Bool, false, List, [], ◌∷◌, Option, None, Some, Result, Ok, Err, nat_lt, length, codes, if◌then◌else◌}
+use Rattle.std.specs.Prelude.{ℕ, zero, suc, ◌+◌, ◌-◌, ◌/◌, ◌==◌, Bool, false, List, [], ◌∷◌, Option, None, Some, Result, Ok, Err, nat_lt, length, codes}
+use Rattle.std.specs.Prelude.{if◌then◌else◌}
 use Rattle.slot_plan.specs.Words.{◌>>=◌, after_word, number_before, field_at, after_number}
 use Rattle.slot_plan.specs.declared.slot.Slot.{Slot}
 use Rattle.slot_plan.specs.declared.slot.Slot.TheVariants.{Stream, Pcr, Table, Null}

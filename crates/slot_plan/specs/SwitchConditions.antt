@@ -1,6 +1,7 @@
 -- The conditions under which a plan may be followed, at the end of one of its periods, by a second plan of the same
 -- description.
-use Rattle.std.specs.Prelude.{◌≡◌, ℕ, suc, ◌+◌, ◌-◌, ◌*◌, ◌==◌, ◌&&◌, ◌||◌, Bool, List, [], ◌∷◌, ◌++◌, length, is_none, is_some, Option, Some, None, if◌then◌else◌}
+use Rattle.std.specs.Prelude.{◌≡◌, ℕ, suc, ◌+◌, ◌-◌, ◌*◌, ◌==◌, ◌&&◌, ◌||◌, Bool, List, [], ◌∷◌, ◌++◌, length, is_none, is_some, Option, Some, None}
+use Rattle.std.specs.Prelude.{if◌then◌else◌}
 use Rattle.std.specs.Bool.{beq}
 use Rattle.std.specs.List.{list_any, list_all, zip}
 use Rattle.clock27.specs.Units.{slot_ms_at_1bps, slot_seconds_at_1bps}
@@ -42,7 +43,8 @@ pcr_switch_entry d first second i program =
 -- code 13: each section of a table recurs across the switch
 abbrev pub table_switch_entry : Described → Planned → Planned → ℕ → Entry
 table_switch_entry d first second t =
-    at_most TableSwitch 0 t (gap_across (marks (TableItem t) first.slots) (marks (TableItem t) second.slots) (round_packets d t) * slot_ms_at_1bps) (table_limit d t * d.rate)
+    at_most TableSwitch 0 t (gap_across (marks (TableItem t) first.slots) (marks (TableItem t) second.slots) (round_packets d t) * slot_ms_at_1bps)
+    (table_limit d t * d.rate)
 
 -- code 14: the work that a period of the first plan leaves in a buffer is at most that with which the second begins
 abbrev pub work_switch_entry : ℕ → ℕ → ℕ → ℕ → List Bool → ℕ → Entry

@@ -31,7 +31,8 @@ peak_words peak (Some m) = field (codes "peak ") peak 32 ++ (field (codes "mstar
 
 -- `stream k spread A start V peak X`, and what is claimed of a multiplexing buffer
 abbrev pub stream_line : ℕ → StreamEntry → List ℕ
-stream_line k e = field (codes "stream ") k 32 ++ (field (codes "spread ") e.spread 32 ++ (field (codes "start ") e.start 32 ++ peak_words e.peak e.multiplexing))
+stream_line k e =
+    field (codes "stream ") k 32 ++ (field (codes "spread ") e.spread 32 ++ (field (codes "start ") e.start 32 ++ peak_words e.peak e.multiplexing))
 
 -- `program k tstart V tpeak X bstart V bpeak X`
 abbrev pub program_line : ℕ → ProgramEntry → List ℕ

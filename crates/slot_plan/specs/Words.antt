@@ -1,6 +1,7 @@
 -- Words and numbers of a text: how they are written, and read from left to right. Each reader gives what it finds at the
 -- front and the text after it, or nothing.
-use Rattle.std.specs.Prelude.{ℕ, ◌+◌, ◌-◌, ◌*◌, ◌^◌, ◌==◌, ◌&&◌, List, [], ◌∷◌, ◌++◌, Option, None, Some, nat_eq, nat_le, nat_lt, length, drop, decimal, if◌then◌else◌}
+use Rattle.std.specs.Prelude.{ℕ, ◌+◌, ◌-◌, ◌*◌, ◌^◌, ◌==◌, ◌&&◌, List, [], ◌∷◌, ◌++◌, Option, None, Some, nat_eq, nat_le, nat_lt, length, drop, decimal}
+use Rattle.std.specs.Prelude.{if◌then◌else◌}
 use Rattle.std.specs.List.{starts_with}
 
 -- each number of a field is below this

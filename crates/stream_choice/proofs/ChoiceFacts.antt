@@ -17,13 +17,15 @@ record IsKeptChoice (needs : Needs) (max_packets : List ℕ) (delay max_lead : �
   pub either : IsChoice needs max_lead c
   pub of_groups : IsGroupsChoice needs max_packets delay c
 
-kept : (needs : Needs) (max_packets : List ℕ) (delay max_lead : ℕ) (c : Choice) → AreMaxPackets max_packets → groups_choice needs max_packets delay max_lead ≡ Some c →
+kept : (needs : Needs) (max_packets : List ℕ) (delay max_lead : ℕ) (c : Choice) → AreMaxPackets max_packets →
+    groups_choice needs max_packets delay max_lead ≡ Some c →
     IsKeptChoice needs max_packets delay max_lead c
 kept needs max_packets delay max_lead c ranges e =
     let groups : ℕ → Option Choice = λ i. group_choice needs delay max_lead (i + 1) (slice_index max_packets i) in
     let r : Found (length max_packets) groups c = best_found (length max_packets) groups c e in
     let packets : ℕ = slice_index max_packets r.at in
-    let q : Found leads (numbered_choice needs delay max_lead (r.at + 1) packets) c = best_found leads (numbered_choice needs delay max_lead (r.at + 1) packets) c r.same in
+    let q : Found leads (numbered_choice needs delay max_lead (r.at + 1) packets) c =
+    best_found leads (numbered_choice needs delay max_lead (r.at + 1) packets) c r.same in
     let k : IsTried needs delay max_lead (r.at + 1) packets c = tried_kept needs delay max_lead (r.at + 1) packets q.at c q.same in
     let here : packets ≡ slice_index max_packets (r.at + 1 - 1) = ap (slice_index max_packets) (omega arith) in
     let group : IsGroup (r.at + 1) packets = record {
@@ -59,24 +61,31 @@ precedes_all needs max_packets delay max_lead o e i number lt few =
     let groups : ℕ → Option Choice = λ i. group_choice needs delay max_lead (i + 1) (slice_index max_packets i) in
     let of_group : ℕ → Option Choice = numbered_choice needs delay max_lead (i + 1) (slice_index max_packets i) in
     subst (λ (a : Option Choice). Precedes a (of_group number)) (sym e)
-    (along (best (length max_packets) groups) (groups i) (of_group number) (best_precedes (length max_packets) groups i lt) (best_precedes leads of_group number few))
+    (along (best (length max_packets) groups) (groups i) (of_group number) (best_precedes (length max_packets) groups i lt)
+    (best_precedes leads of_group number few))
 
-pub is_choice : (needs : Needs) (max_packets : List ℕ) (delay max_lead : ℕ) (o : Option Choice) → AreMaxPackets max_packets → o ≡ groups_choice needs max_packets delay max_lead →
+pub is_choice : (needs : Needs) (max_packets : List ℕ) (delay max_lead : ℕ) (o : Option Choice) → AreMaxPackets max_packets →
+    o ≡ groups_choice needs max_packets delay max_lead →
     IfSome o (IsChoice needs max_lead)
 is_choice needs max_packets delay max_lead None ranges e = _
 is_choice needs max_packets delay max_lead (Some c) ranges e = (kept needs max_packets delay max_lead c ranges (sym e)).either
 
-pub is_groups_choice : (needs : Needs) (max_packets : List ℕ) (delay max_lead : ℕ) (o : Option Choice) → AreMaxPackets max_packets → o ≡ groups_choice needs max_packets delay max_lead →
+pub is_groups_choice : (needs : Needs) (max_packets : List ℕ) (delay max_lead : ℕ) (o : Option Choice) → AreMaxPackets max_packets →
+    o ≡ groups_choice needs max_packets delay max_lead →
     IfSome o (IsGroupsChoice needs max_packets delay)
 is_groups_choice needs max_packets delay max_lead None ranges e = _
 is_groups_choice needs max_packets delay max_lead (Some c) ranges e = (kept needs max_packets delay max_lead c ranges (sym e)).of_groups
 
-pub is_best : (needs : Needs) (max_packets : List ℕ) (delay max_lead : ℕ) (o : Option Choice) → o ≡ groups_choice needs max_packets delay max_lead → IfSome o (IsBest needs max_packets delay max_lead)
+pub is_best : (needs : Needs) (max_packets : List ℕ) (delay max_lead : ℕ) (o : Option Choice) → o ≡ groups_choice needs max_packets delay max_lead →
+    IfSome o (IsBest needs max_packets delay max_lead)
 is_best needs max_packets delay max_lead None e = _
 is_best needs max_packets delay max_lead (Some c) e = λ i number lt few.
-    not_better (numbered_choice needs delay max_lead (i + 1) (slice_index max_packets i) number) c (precedes_all needs max_packets delay max_lead (Some c) e i number lt few)
+    not_better (numbered_choice needs delay max_lead (i + 1) (slice_index max_packets i) number) c
+    (precedes_all needs max_packets delay max_lead (Some c) e i number lt few)
 
-pub is_refused : (needs : Needs) (max_packets : List ℕ) (delay max_lead : ℕ) (o : Option Choice) → o ≡ groups_choice needs max_packets delay max_lead → IsNone o → IsRefused needs max_packets delay max_lead
+pub is_refused : (needs : Needs) (max_packets : List ℕ) (delay max_lead : ℕ) (o : Option Choice) → o ≡ groups_choice needs max_packets delay max_lead →
+    IsNone o → IsRefused needs max_packets delay max_lead
 is_refused needs max_packets delay max_lead None e none = λ i number lt few.
-    nothing_left (numbered_choice needs delay max_lead (i + 1) (slice_index max_packets i) number) (precedes_all needs max_packets delay max_lead None e i number lt few)
+    nothing_left (numbered_choice needs delay max_lead (i + 1) (slice_index max_packets i) number)
+    (precedes_all needs max_packets delay max_lead None e i number lt few)
 is_refused needs max_packets delay max_lead (Some c) e none = absurd (true≢false none)

@@ -1,5 +1,6 @@
 -- Numbers that are found by halving.
-use Rattle.std.proofs.Common.{◌≡◌, ℕ, zero, suc, ◌+◌, ◌-◌, ◌*◌, ◌/◌, ◌^◌, ◌<◌, ◌≤◌, Bool, true, false, Option, Some, None, nat_lt, refl, sym, ◌∙◌, ap, subst, arith}
+use Rattle.std.proofs.Common.{◌≡◌, ℕ, zero, suc, ◌+◌, ◌-◌, ◌*◌, ◌/◌, ◌^◌, ◌<◌, ◌≤◌, Bool, true, false, Option, Some, None, nat_lt, refl, sym, ◌∙◌, ap, subst}
+use Rattle.std.proofs.Common.{arith}
 use Rattle.std.specs.Prelude.{if◌then◌else◌}
 use Rattle.std.proofs.Math.Nat.{div-div-eq-div-mul}
 use Rattle.std.proofs.lemmas.Bool.Decides.{nat_tests}
@@ -75,8 +76,10 @@ edge zero f low high fails passes lt few = record {
     below = omega (arith, lt, few)
 edge (suc n) f low high fails passes lt few =
     step (nat_lt (low + 1) high) refl
-    (λ is wide. widened f low middle low high (halved n f low middle) (omega arith) (omega (arith, wide)) (edge n f low middle fails is (omega (arith, wide)) (omega (arith, few, twice n))))
-    (λ is wide. widened f middle high low high (halved n f middle high) (omega (arith, wide)) (omega arith) (edge n f middle high is passes (omega (arith, wide)) (omega (arith, few, twice n))))
+    (λ is wide. widened f low middle low high (halved n f low middle) (omega arith) (omega (arith, wide))
+    (edge n f low middle fails is (omega (arith, wide)) (omega (arith, few, twice n))))
+    (λ is wide. widened f middle high low high (halved n f middle high) (omega (arith, wide)) (omega arith)
+    (edge n f middle high is passes (omega (arith, wide)) (omega (arith, few, twice n))))
     (λ narrow. edge n f low high fails passes lt (omega (arith, narrow, some_power n)))
   where
     middle : ℕ
@@ -88,14 +91,16 @@ edge (suc n) f low high fails passes lt few =
     narrow_of : (a b : ℕ) → nat_lt a b ≡ false → b ≤ a
     narrow_of a b e = grind (arith, nat_tests)
 
-    half : (b : Bool) → f middle ≡ b → (f middle ≡ true → Edge f low high (halved n f low middle)) → (f middle ≡ false → Edge f low high (halved n f middle high)) →
+    half : (b : Bool) → f middle ≡ b → (f middle ≡ true → Edge f low high (halved n f low middle)) →
+        (f middle ≡ false → Edge f low high (halved n f middle high)) →
         Edge f low high (if b then halved n f low middle else halved n f middle high)
     half true is below above = below is
     half false is below above = above is
 
     step : (b : Bool) → nat_lt (low + 1) high ≡ b → (f middle ≡ true → low + 1 < high → Edge f low high (halved n f low middle)) →
         (f middle ≡ false → low + 1 < high → Edge f low high (halved n f middle high)) → (high ≤ low + 1 → Edge f low high (halved n f low high)) →
-        Edge f low high (if b then (if f ((low + high) / 2) then halved n f low ((low + high) / 2) else halved n f ((low + high) / 2) high) else halved n f low high)
+        Edge f low high
+        (if b then (if f ((low + high) / 2) then halved n f low ((low + high) / 2) else halved n f ((low + high) / 2) high) else halved n f low high)
     step true e below above here = let wide = wide_of (low + 1) high e in half (f middle) refl (λ is. below is wide) (λ is. above is wide)
     step false e below above here = here (narrow_of (low + 1) high e)
 
@@ -106,7 +111,9 @@ unfolding first_half
 half_next n f p = refl
 
 halved_next : (n : ℕ) (f : ℕ → Bool) (low high : ℕ) →
-    halved (suc n) f low high ≡ (if nat_lt (low + 1) high then (if f ((low + high) / 2) then halved n f low ((low + high) / 2) else halved n f ((low + high) / 2) high) else halved n f low high)
+    halved (suc n) f low high ≡
+    (if nat_lt (low + 1) high then (if f ((low + high) / 2) then halved n f low ((low + high) / 2) else halved n f ((low + high) / 2) high) else halved n f
+    low high)
 unfolding halved
 halved_next n f low high = refl
 
@@ -140,7 +147,10 @@ not_lt : (a b : ℕ) → b ≤ a → nat_lt a b ≡ false
 not_lt a b le = grind (arith, nat_tests)
 
 halved_on : (n done : ℕ) (f : ℕ → Bool) (low high : ℕ) → done < n →
-    halved (n - done) f low high ≡ (if nat_lt (low + 1) high then (if f ((low + high) / 2) then halved (n - (done + 1)) f low ((low + high) / 2) else halved (n - (done + 1)) f ((low + high) / 2) high) else halved (n - (done + 1)) f low high)
+    halved (n - done) f low high ≡
+    (if nat_lt (low + 1)
+    high then (if f ((low + high) / 2) then halved (n - (done + 1)) f low ((low + high) / 2) else halved (n - (done + 1)) f ((low + high) / 2) high)
+    else halved (n - (done + 1)) f low high)
 halved_on n done f low high lt = ap (λ (k : ℕ). halved k f low high) (one_less n done lt) ∙ halved_next (n - (done + 1)) f low high
 
 pub halved_below : (n done : ℕ) (f : ℕ → Bool) (low high : ℕ) → done < n → low + 1 < high → f ((low + high) / 2) ≡ true →

@@ -28,7 +28,8 @@ same x y e = cc
 nothing : (x : Choice) → ◌≡◌ {A = Option Choice} None (Some x) → ⊥
 nothing x e = cc
 
-choice_kept : (needs : Needs) (group packets delay lead : ℕ) (c : Choice) → choice_of needs group packets delay lead ≡ Some c → IsKept needs delay group packets lead c
+choice_kept : (needs : Needs) (group packets delay lead : ℕ) (c : Choice) → choice_of needs group packets delay lead ≡ Some c →
+    IsKept needs delay group packets lead c
 choice_kept needs group packets delay lead c e = step (lead_share needs group packets delay lead) refl e
   where
     made : ℕ → Choice
@@ -78,7 +79,8 @@ pub record IsTried (needs : Needs) (delay max_lead group packets : ℕ) (c : Cho
 
 pub tried_kept : (needs : Needs) (delay max_lead group packets number : ℕ) (c : Choice) →
     numbered_choice needs delay max_lead group packets number ≡ Some c → IsTried needs delay max_lead group packets c
-tried_kept needs delay max_lead group packets number c e = step (nat_le lead (min (sufficient_lead needs group packets delay) max_lead)) (λ yes. below lead (sufficient_lead needs group packets delay) max_lead yes) e
+tried_kept needs delay max_lead group packets number c e =
+    step (nat_le lead (min (sufficient_lead needs group packets delay) max_lead)) (λ yes. below lead (sufficient_lead needs group packets delay) max_lead yes) e
   where
     lead : ℕ
     lead = numbered_lead needs (sufficient_lead needs group packets delay) max_lead number

@@ -1,5 +1,6 @@
 -- A pace that is found: it can be declared, and its buffers hold what comes.
-use Rattle.std.proofs.Common.{◌≡◌, ℕ, ◌+◌, ◌-◌, ◌*◌, ◌/◌, ◌<◌, ◌≤◌, ◌&&◌, max, min, Bool, true, false, Some, nat_le, nat_lt, refl, arith, div-mul-le_self, mul-le-mul_right}
+use Rattle.std.proofs.Common.{◌≡◌, ℕ, ◌+◌, ◌-◌, ◌*◌, ◌/◌, ◌<◌, ◌≤◌, ◌&&◌, max, min, Bool, true, false, Some, nat_le, nat_lt, refl, arith, div-mul-le_self}
+use Rattle.std.proofs.Common.{mul-le-mul_right}
 use Rattle.std.specs.Int.{div_ceil}
 use Rattle.std.proofs.lemmas.Bool.Decides.{nat_tests}
 use Rattle.clock27.specs.Units.{slot_units_at_1bps}
@@ -11,7 +12,8 @@ use Rattle.stream_choice.specs.Ranges.{IsNeeds, is_within}
 use Rattle.stream_choice.specs.Shares.{lateness, pace_share}
 use Rattle.stream_choice.specs.Buffers.{waiting_bytes, waiting_units}
 use Rattle.stream_choice.specs.Choices.{IsChoice}
-use Rattle.stream_choice.specs.Paces.{lead_by_sizes, lead_by_share, longest_lead, burst_lead, serves, greatest_pace, first_half, halved, halves, paced, IsPaceChoice}
+use Rattle.stream_choice.specs.Paces.{lead_by_sizes, lead_by_share, longest_lead, burst_lead, serves, greatest_pace, first_half, halved, halves, paced}
+use Rattle.stream_choice.specs.Paces.{IsPaceChoice}
 use Rattle.stream_choice.proofs.Quotients.{at_most, some_of}
 use Rattle.stream_choice.proofs.ShareTimes.{held_by}
 use Rattle.stream_choice.proofs.Halving.{Edge, edge, half_passes}
@@ -32,8 +34,10 @@ serving needs burst delay max_lead pace e =
     (pace_share pace * (longest_lead needs max_lead (pace_share pace) - lateness delay (pace_share pace))) e in
     record { some_pace = all.0; some_burst = all.1.1.0; most_burst = all.1.1.1.0; drained = all.1.0; in_time = all.1.1.1.1 }
   where
-    tests : (p b x y u v : ℕ) → (nat_lt 0 p && (nat_le x y && (is_within 1 100000 b && nat_le u v))) ≡ true → (1 ≤ p) × ((x ≤ y) × ((1 ≤ b) × ((b ≤ 100000) × (u ≤ v))))
-    tests p b x y u v e = (grind (arith, nat_tests), (grind (arith, nat_tests), (grind (arith, nat_tests), (grind (arith, nat_tests), grind (arith, nat_tests)))))
+    tests : (p b x y u v : ℕ) → (nat_lt 0 p && (nat_le x y && (is_within 1 100000 b && nat_le u v))) ≡ true →
+        (1 ≤ p) × ((x ≤ y) × ((1 ≤ b) × ((b ≤ 100000) × (u ≤ v))))
+    tests p b x y u v e =
+        (grind (arith, nat_tests), (grind (arith, nat_tests), (grind (arith, nat_tests), (grind (arith, nat_tests), grind (arith, nat_tests)))))
 
 pub some_share : (pace : ℕ) → 1 ≤ pace → 1 ≤ pace_share pace
 some_share pace pos = some_of pace (pace_share pace) slot_units_at_1bps pos (held_by (parts * pace) slot_units_at_1bps (omega arith))
@@ -87,9 +91,11 @@ by_share main lead share some one le =
     fits : (x q main : ℕ) → x ≤ (q - 1) * parts - 1 → 1 ≤ x → 184 * q ≤ main → 184 * (x / parts + 2) ≤ main
     fits x q main few some le = omega (arith, few, some, le)
 
-pub main_holds : (needs : Needs) (a : Allowance) (lead max_lead share : ℕ) → 0 < needs.interval → 1 ≤ lead → 1 ≤ share → lead ≤ longest_lead needs max_lead share →
+pub main_holds : (needs : Needs) (a : Allowance) (lead max_lead share : ℕ) → 0 < needs.interval → 1 ≤ lead → 1 ≤ share →
+    lead ≤ longest_lead needs max_lead share →
     waiting_bytes needs a lead share ≤ needs.main
-main_holds needs a lead max_lead share pos some one le = step (nat_le lead (lead_by_sizes needs)) (λ y. at_least lead (lead_by_sizes needs) y) (λ n. over lead (lead_by_sizes needs) n)
+main_holds needs a lead max_lead share pos some one le =
+    step (nat_le lead (lead_by_sizes needs)) (λ y. at_least lead (lead_by_sizes needs) y) (λ n. over lead (lead_by_sizes needs) n)
   where
     at_least : (a b : ℕ) → nat_le a b ≡ true → a ≤ b
     at_least a b e = grind (arith, nat_tests)
@@ -112,7 +118,8 @@ pub record IsFound (needs : Needs) (burst : ℕ → ℕ) (delay max_lead pace : 
   pub is_choice : IsChoice needs max_lead (paced burst delay pace)
   pub is_paced : IsPaceChoice needs burst delay max_lead (paced burst delay pace)
 
-pub found : (needs : Needs) (burst : ℕ → ℕ) (delay max_lead first : ℕ) → IsNeeds needs → first_half halves (serves needs burst delay max_lead) (greatest_pace needs) ≡ Some first →
+pub found : (needs : Needs) (burst : ℕ → ℕ) (delay max_lead first : ℕ) → IsNeeds needs →
+    first_half halves (serves needs burst delay max_lead) (greatest_pace needs) ≡ Some first →
     IsFound needs burst delay max_lead (halved halves (serves needs burst delay max_lead) 0 first)
 found needs burst delay max_lead first ranges is =
     let f : ℕ → Bool = serves needs burst delay max_lead in
@@ -123,7 +130,8 @@ found needs burst delay max_lead first ranges is =
     let s : Serves needs burst delay max_lead pace = serving needs burst delay max_lead pace e.passes in
     let share : ℕ = pace_share pace in
     let one : 1 ≤ share = some_share pace s.some_pace in
-    let t : InTime delay share (burst pace) (longest_lead needs max_lead share) = in_time delay share (burst pace) (longest_lead needs max_lead share) one s.some_burst s.in_time in
+    let t : InTime delay share (burst pace) (longest_lead needs max_lead share) =
+    in_time delay share (burst pace) (longest_lead needs max_lead share) one s.some_burst s.in_time in
     record {
       serves_it = e.passes;
       greatest = omega (arith, e.most, half.1);
@@ -132,7 +140,8 @@ found needs burst delay max_lead first ranges is =
         some_lead = t.some;
         greatest_lead = omega (arith, t.most);
         drained = s.drained;
-        held = main_holds needs (Pace (burst pace) pace) (burst_lead delay share (burst pace)) max_lead share (omega (arith, ranges.some_interval)) t.some one t.most;
+        held = main_holds needs (Pace (burst pace) pace) (burst_lead delay share (burst pace)) max_lead share (omega (arith, ranges.some_interval)) t.some one
+            t.most;
       };
       is_paced = record {
         pace = pace;

@@ -28,7 +28,8 @@ waited : (h w x r p : ℕ) → h * byte_units_at_1bps ≤ w * x → p ≤ h * r 
 waited h w x r p one room = omega (arith, mul-le-mul_right r one, room)
 
 -- all of them together
-together : (a w n c p x d e f g r : ℕ) → a ≤ 2 * c + n → w * n * slot_units_at_1bps ≤ c * r * f → 3 * slot_units_at_1bps ≤ e * r → n * slot_units_at_1bps ≤ g * (c * r) →
+together : (a w n c p x d e f g r : ℕ) → a ≤ 2 * c + n → w * n * slot_units_at_1bps ≤ c * r * f → 3 * slot_units_at_1bps ≤ e * r →
+    n * slot_units_at_1bps ≤ g * (c * r) →
     p * byte_units_at_1bps ≤ d * x * r → (a + w * n + c) * slot_units_at_1bps * x + c * p * byte_units_at_1bps ≤ c * (f + (d + e + g)) * r * x
 together a w n c p x d e f g r even row three one room = omega (
   arith,
@@ -55,20 +56,26 @@ share_law buffer needs (Groups group packets) lead share all rate own ranges uni
     let first : ℕ = share_for_time needs group packets h.first in
     let d : ℕ = div_ceil (held * byte_units_at_1bps) needs.rx in
     let e : ℕ = div_ceil (3 * parts) all in
-    let group_share : parts * packets ≤ share * (group * needs.interval) = subst (λ (s : ℕ). parts * packets ≤ s * (group * needs.interval)) (sym h.same) (group_held needs group packets h.free interval) in
+    let group_share : parts * packets ≤ share * (group * needs.interval) =
+    subst (λ (s : ℕ). parts * packets ≤ s * (group * needs.interval)) (sym h.same) (group_held needs group packets h.free interval) in
     let grown : first ≤ share = subst (λ (s : ℕ). first ≤ s) (sym h.same) (freer needs group packets h.free h.first h.some_free h.order) in
     let one : own.period * slot_units_at_1bps ≤ packet_distance first * (own.count * rate) =
-    distance (packet_distance first) first share own.period own.count rate (held_by parts first (some_of packets first (group * needs.interval) units.some_packets (group_held needs group packets h.first interval))) grown has.enough in
+    distance (packet_distance first) first share own.period own.count rate
+    (held_by parts first (some_of packets first (group * needs.interval) units.some_packets (group_held needs group packets h.first interval))) grown
+    has.enough in
     let three : 3 * slot_units_at_1bps ≤ e * rate = slots e all rate (held_by (3 * parts) all some) has.fast in
-    let room : own.peak * byte_units_at_1bps ≤ d * needs.rx * rate = waited held d needs.rx rate own.peak (held_by (held * byte_units_at_1bps) needs.rx (omega (arith, ranges.least_rx))) has.room in
+    let room : own.peak * byte_units_at_1bps ≤ d * needs.rx * rate =
+    waited held d needs.rx rate own.peak (held_by (held * byte_units_at_1bps) needs.rx (omega (arith, ranges.least_rx))) has.room in
     record {
       rate_serves = omega (arith, sent packets share (group * needs.interval) own.period own.count rate group_share has.enough);
       lead_serves = λ m pos le.
           let free : ℕ = h.free + (m - 1) * needs.interval in
-          let packets_row : parts * packets_in_row needs packets m ≤ share * free = subst (λ (s : ℕ). parts * packets_in_row needs packets m ≤ s * free) (sym h.same) (row_held needs group packets h.free m h.some_free pos le) in
+          let packets_row : parts * packets_in_row needs packets m ≤ share * free =
+          subst (λ (s : ℕ). parts * packets_in_row needs packets m ≤ s * free) (sym h.same) (row_held needs group packets h.free m h.some_free pos le) in
           let row = sent (packets_in_row needs packets m) share free own.period own.count rate packets_row has.enough in
           let sum : lead + (m - 1) * needs.interval ≡ free + (d + e + packet_distance first) = omega (arith, h.whole) in
-          let all = together own.spread (packets_in_row needs packets m) own.period own.count own.peak needs.rx d e free (packet_distance first) rate has.even row three one room in
+          let all = together own.spread (packets_in_row needs packets m) own.period own.count own.peak needs.rx d e free (packet_distance first) rate has.even
+          row three one room in
           rw sum (all);
     }
 share_law buffer needs (Pace burst pace) lead share all rate own ranges within some asks has =
@@ -76,19 +83,22 @@ share_law buffer needs (Pace burst pace) lead share all rate own ranges within s
     let d : ℕ = div_ceil (held * byte_units_at_1bps) needs.rx in
     let e : ℕ = div_ceil (3 * parts) all in
     let late : ℕ = lateness (delay_before buffer needs all) share in
-    let pays : parts * pace ≤ share * slot_units_at_1bps = subst (λ (s : ℕ). parts * pace ≤ s * slot_units_at_1bps) (sym asks.0) (held_by (parts * pace) slot_units_at_1bps (omega arith)) in
+    let pays : parts * pace ≤ share * slot_units_at_1bps =
+    subst (λ (s : ℕ). parts * pace ≤ s * slot_units_at_1bps) (sym asks.0) (held_by (parts * pace) slot_units_at_1bps (omega arith)) in
     let pos : 0 < share = some_of pace share slot_units_at_1bps within.some_pace pays in
     let one : own.period * slot_units_at_1bps ≤ packet_distance share * (own.count * rate) =
     distance (packet_distance share) share share own.period own.count rate (held_by parts share pos) (omega arith) has.enough in
     let three : 3 * slot_units_at_1bps ≤ e * rate = slots e all rate (held_by (3 * parts) all some) has.fast in
-    let room : own.peak * byte_units_at_1bps ≤ d * needs.rx * rate = waited held d needs.rx rate own.peak (held_by (held * byte_units_at_1bps) needs.rx (omega (arith, ranges.least_rx))) has.room in
+    let room : own.peak * byte_units_at_1bps ≤ d * needs.rx * rate =
+    waited held d needs.rx rate own.peak (held_by (held * byte_units_at_1bps) needs.rx (omega (arith, ranges.least_rx))) has.room in
     let free : 0 < lead - late = some_time burst share (lead - late) within.some_burst asks.1 in
     let row = sent burst share (lead - late) own.period own.count rate asks.1 has.enough in
     let all = together own.spread burst own.period own.count own.peak needs.rx d e (lead - late) (packet_distance share) rate has.even row three one room in
     record {
       rate_serves = paced pace share slot_units_at_1bps own.period own.count rate pays has.enough;
       lead_serves = λ m pos le.
-          let sum : lead + (m - 1) * needs.interval ≡ (lead - late) + (d + e + packet_distance share) = alone lead m needs.interval ((lead - late) + (d + e + packet_distance share)) pos le (omega (arith, free)) in
+          let sum : lead + (m - 1) * needs.interval ≡ (lead - late) + (d + e + packet_distance share) =
+          alone lead m needs.interval ((lead - late) + (d + e + packet_distance share)) pos le (omega (arith, free)) in
           rw sum (all);
     }
   where

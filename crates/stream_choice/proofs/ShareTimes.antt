@@ -1,5 +1,6 @@
 -- What a share says of the packets of groups and of units in a row.
-use Rattle.std.proofs.Common.{List, length, ◌^◌, ◌≡◌, ℕ, ◌+◌, ◌-◌, ◌*◌, ◌<◌, ◌≤◌, Bool, true, false, Option, Some, None, refl, arith, nat_lt, mul-le-mul_right, sym, ap}
+use Rattle.std.proofs.Common.{List, length, ◌^◌, ◌≡◌, ℕ, ◌+◌, ◌-◌, ◌*◌, ◌<◌, ◌≤◌, Bool, true, false, Option, Some, None, refl, arith, nat_lt, mul-le-mul_right}
+use Rattle.std.proofs.Common.{sym, ap}
 use Rattle.std.specs.Prelude.{if◌then◌else◌, slice_index}
 use Rattle.std.specs.Int.{div_ceil}
 use Rattle.std.proofs.lemmas.Bool.Decides.{nat_tests}
@@ -16,13 +17,15 @@ pub held_by : (x y : ℕ) → 0 < y → x ≤ div_ceil x y * y
 held_by x y pos = (div_ceil_times x y pos).0
 
 -- more freedom asks for less
-pub freer : (needs : Needs) (group packets free more : ℕ) → 0 < free → free ≤ more → share_for_time needs group packets more ≤ share_for_time needs group packets free
+pub freer : (needs : Needs) (group packets free more : ℕ) → 0 < free → free ≤ more →
+    share_for_time needs group packets more ≤ share_for_time needs group packets free
 freer needs group packets free more pos le =
     let rows : greatest group (λ before. row_share needs packets more (before + 1)) ≤ greatest group (λ before. row_share needs packets free (before + 1)) =
     greatest_at_most group (λ before. row_share needs packets more (before + 1)) (greatest group (λ before. row_share needs packets free (before + 1)))
     (λ i lt. omega (
       arith,
-      less_of (parts * packets_in_row needs packets (i + 1)) (free + (i + 1 - 1) * needs.interval) (more + (i + 1 - 1) * needs.interval) (omega (arith, pos)) (omega (arith, le)),
+      less_of (parts * packets_in_row needs packets (i + 1)) (free + (i + 1 - 1) * needs.interval) (more + (i + 1 - 1) * needs.interval) (omega (arith, pos))
+          (omega (arith, le)),
       at_most_greatest group (λ before. row_share needs packets free (before + 1)) i lt,
     )) in
     omega (arith, rows)
@@ -45,14 +48,16 @@ no_number x e = cc
 below : (a b : ℕ) → nat_lt a b ≡ true → a < b
 below a b e = grind (arith, nat_tests)
 
-pub is_free : (needs : Needs) (group packets delay lead share : ℕ) → lead_share needs group packets delay lead ≡ Some share → IsFree needs group packets delay lead share
+pub is_free : (needs : Needs) (group packets delay lead share : ℕ) → lead_share needs group packets delay lead ≡ Some share →
+    IsFree needs group packets delay lead share
 is_free needs group packets delay lead share e = step (nat_lt delay lead) (λ yes. below delay lead yes) e
   where
     gap : ℕ
     gap = packet_distance (share_for_time needs group packets (lead - delay))
 
     last : (b : Bool) → delay < lead → (b ≡ true → delay + gap < lead) →
-        ◌≡◌ {A = Option ℕ} (if b then Some (share_for_time needs group packets (lead - (delay + gap))) else None) (Some share) → IsFree needs group packets delay lead share
+        ◌≡◌ {A = Option ℕ} (if b then Some (share_for_time needs group packets (lead - (delay + gap))) else None) (Some share) →
+        IsFree needs group packets delay lead share
     last true lt late e = record {
       free = lead - (delay + gap);
       first = lead - delay;
@@ -66,12 +71,14 @@ is_free needs group packets delay lead share e = step (nat_lt delay lead) (λ ye
 
     step : (b : Bool) → (b ≡ true → delay < lead) →
         ◌≡◌ {A = Option ℕ} (if b then (let late = delay + packet_distance (share_for_time needs group packets (lead - delay)) in
-        if nat_lt late lead then Some (share_for_time needs group packets (lead - late)) else None) else None) (Some share) → IsFree needs group packets delay lead share
+        if nat_lt late lead then Some (share_for_time needs group packets (lead - late)) else None) else None) (Some share) →
+        IsFree needs group packets delay lead share
     step true lt e = last (nat_lt (delay + gap) lead) (lt refl) (λ yes. below (delay + gap) lead yes) e
     step false lt e = absurd (no_number share e)
 
 -- the packets of a group in its time, and those of units in a row in theirs
-pub group_held : (needs : Needs) (group packets free : ℕ) → 0 < group * needs.interval → parts * packets ≤ share_for_time needs group packets free * (group * needs.interval)
+pub group_held : (needs : Needs) (group packets free : ℕ) → 0 < group * needs.interval →
+    parts * packets ≤ share_for_time needs group packets free * (group * needs.interval)
 group_held needs group packets free pos =
     let most : group_share needs group packets ≤ share_for_time needs group packets free = omega arith in
     omega (arith, held_by (parts * packets) (group * needs.interval) pos, mul-le-mul_right (group * needs.interval) most)

@@ -1,5 +1,6 @@
 -- Slots of a slower output: what has room at a rate has it at each higher one.
-use Rattle.std.proofs.Common.{◌≡◌, ℕ, ◌+◌, ◌*◌, ◌/◌, ◌<◌, ◌≤◌, ◌&&◌, Bool, true, false, List, nat_le, nat_lt, refl, sym, arith, mul-le-mul_left, div-mul-le_self, true≢false}
+use Rattle.std.proofs.Common.{◌≡◌, ℕ, ◌+◌, ◌*◌, ◌/◌, ◌<◌, ◌≤◌, ◌&&◌, Bool, true, false, List, nat_le, nat_lt, refl, sym, arith, mul-le-mul_left}
+use Rattle.std.proofs.Common.{div-mul-le_self, true≢false}
 use Rattle.std.specs.Prelude.{if◌then◌else◌}
 use Rattle.std.specs.Int.{div_ceil}
 use Rattle.std.proofs.lemmas.Nat.{le-div}
@@ -28,7 +29,8 @@ abbrev gap_part : ℕ → ℕ → ℕ
 gap_part slots gap = if nat_lt 0 gap && nat_le slots gap then div_ceil (parts * slots) gap else parts + 1
 
 gap_less : (slots gap gap' : ℕ) → gap ≤ gap' → gap_part slots gap' ≤ gap_part slots gap
-gap_less slots gap gap' le = step (nat_lt 0 gap && nat_le slots gap) (nat_lt 0 gap' && nat_le slots gap') (fits slots gap) (fits slots gap') (fits_more slots gap gap' le)
+gap_less slots gap gap' le =
+    step (nat_lt 0 gap && nat_le slots gap) (nat_lt 0 gap' && nat_le slots gap') (fits slots gap) (fits slots gap') (fits_more slots gap gap' le)
   where
     step : (b c : Bool) → (b ≡ true → (0 < gap) × (slots ≤ gap)) → (c ≡ true → (0 < gap') × (slots ≤ gap')) → (b ≡ true → c ≡ true) →
         (if c then div_ceil (parts * slots) gap' else parts + 1) ≤ (if b then div_ceil (parts * slots) gap else parts + 1)
@@ -39,7 +41,8 @@ gap_less slots gap gap' le = step (nat_lt 0 gap && nat_le slots gap) (nat_lt 0 g
 
 recurring_less : (r r' : ℕ) (x : Recurring) → r ≤ r' → recurring_part r' x ≤ recurring_part r x
 recurring_less r r' x le = gap_less x.slots (x.limit * r / slot_ms_at_1bps) (x.limit * r' / slot_ms_at_1bps)
-    (le-div (x.limit * r / slot_ms_at_1bps) (x.limit * r') slot_ms_at_1bps (omega arith) (omega (arith, div-mul-le_self (x.limit * r) slot_ms_at_1bps, mul-le-mul_left x.limit le)))
+    (le-div (x.limit * r / slot_ms_at_1bps) (x.limit * r') slot_ms_at_1bps (omega arith)
+    (omega (arith, div-mul-le_self (x.limit * r) slot_ms_at_1bps, mul-le-mul_left x.limit le)))
 
 pub parts_less : (shares : List ℕ) (recurring : List Recurring) (r r' : ℕ) → 0 < r → r ≤ r' → all_parts shares recurring r' ≤ all_parts shares recurring r
 parts_less shares recurring r r' pos le =
@@ -48,6 +51,7 @@ parts_less shares recurring r r' pos le =
     omega (arith, streams, others)
 
 -- a slower output than one without slots enough has none either
-pub still_full : (shares : List ℕ) (recurring : List Recurring) (r r' : ℕ) → 0 < r → r ≤ r' → has_slots shares recurring r' ≡ false → has_slots shares recurring r ≡ false
+pub still_full : (shares : List ℕ) (recurring : List Recurring) (r r' : ℕ) → 0 < r → r ≤ r' → has_slots shares recurring r' ≡ false →
+    has_slots shares recurring r ≡ false
 still_full shares recurring r r' pos le full =
     under (all_parts shares recurring r) parts (omega (arith, over (all_parts shares recurring r') parts full, parts_less shares recurring r r' pos le))

@@ -1,5 +1,6 @@
 -- What a stream declares by pace: the least pace that is found by halving, whose burst is known of the units.
-use Rattle.std.specs.Prelude.{◌≡◌, ℕ, zero, suc, ◌+◌, ◌-◌, ◌*◌, ◌/◌, ◌^◌, ◌<◌, ◌≤◌, ◌&&◌, max, min, nat_le, nat_lt, Bool, false, if◌then◌else◌, Option, Some, None, option_map}
+use Rattle.std.specs.Prelude.{◌≡◌, ℕ, zero, suc, ◌+◌, ◌-◌, ◌*◌, ◌/◌, ◌^◌, ◌<◌, ◌≤◌, ◌&&◌, max, min, nat_le, nat_lt, Bool, false, if◌then◌else◌, Option, Some}
+use Rattle.std.specs.Prelude.{None, option_map}
 use Rattle.std.specs.Int.{div_ceil}
 use Rattle.unit_timing.specs.declared.allowance.Allowance.TheVariants.{Pace}
 use Rattle.unit_timing.specs.Shares.{parts}

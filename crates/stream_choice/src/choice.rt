@@ -35,7 +35,8 @@ pub fn better(one: Option<Choice>, other: Option<Choice>) -> Option<Choice>
     }
 }
 
-/// Returns the choice by groups if it asks for at most a 64th more than the choice by pace, otherwise the choice by pace.
+/// Returns the choice by groups if it asks for at most a 64th more than the choice by pace, otherwise the choice by
+/// pace.
 pub fn preferred(groups: Option<Choice>, pace: Option<Choice>) -> Option<Choice>
     ensures { result ≡ spec.preferred groups pace }
 {

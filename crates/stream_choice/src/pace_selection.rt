@@ -33,8 +33,8 @@ pub trait PacedUnits {
         ensures { result ≡ burst self.now pace };
 }
 
-/// Returns the longest lead that the main buffer lets, of packets of that share: by the sizes of units, or by the packets
-/// that come within it.
+/// Returns the longest lead that the main buffer lets, of packets of that share: by the sizes of units, or by the
+/// packets that come within it.
 fn longest_lead(needs: Needs, max_lead: u32, share: u64) -> u64
     requires ranges { IsNeeds needs }
     requires positive { 1 ≤ share }
@@ -147,9 +147,9 @@ fn paced<U: PacedUnits>(needs: Needs, units: &U, delay: u32, max_lead: u32, pace
     }
 }
 
-/// Returns a pace, with the burst that the units need at it and the least lead that brings the burst: it serves, and one
-/// bit/s less does not; `None` if none of the first tries serves. `delay` is the longest time from a packet's slot to its
-/// end in the transport buffer, and no lead is over `max_lead`; times are in units of 90 kHz.
+/// Returns a pace, with the burst that the units need at it and the least lead that brings the burst: it serves, and
+/// one bit/s less does not; `None` if none of the first tries serves. `delay` is the longest time from a packet's slot
+/// to its end in the transport buffer, and no lead is over `max_lead`; times are in units of 90 kHz.
 ///
 /// The packets of the units are asked for at most 55 times.
 pub fn choose_pace<U: PacedUnits>(

@@ -67,8 +67,9 @@ fn recurring_parts(rate: u64, recurring: &[Recurring]) -> u128
     total
 }
 
-/// Returns the least rate in bits/s, from 100,000 to 100,000,000, that makes the shares of all items sum to at most the whole
-/// output: streams, in packets a unit of 90 kHz in parts of 2^40, and recurring items. `None` if no such rate serves.
+/// Returns the least rate in bits/s, from 100,000 to 100,000,000, that makes the shares of all items sum to at most the
+/// whole output: streams, in packets a unit of 90 kHz in parts of 2^40, and recurring items. `None` if no such rate
+/// serves.
 pub fn least_rate(shares: &[u64], recurring: &[Recurring]) -> Option<u64>
     ensures least { IfSome result (spec.IsLeastRate shares.now recurring.now) }
     ensures refused { IsNone result → spec.IsTooMuch shares.now recurring.now }

@@ -79,8 +79,8 @@ fn group_choice(needs: Needs, delay: u32, max_lead: u32, group: u8, packets: u32
 }
 
 /// Returns the group and the lead, at most `max_lead`, that ask for the least share among the pairs that the stream's
-/// buffers hold; `None` if they hold none. `max_packets[g - 1]` are the most packets of `g` units in a row, and `delay` is the
-/// longest time from a packet's slot to its end in the transport buffer; times are in units of 90 kHz.
+/// buffers hold; `None` if they hold none. `max_packets[g - 1]` are the most packets of `g` units in a row, and `delay`
+/// is the longest time from a packet's slot to its end in the transport buffer; times are in units of 90 kHz.
 ///
 /// Up to 129 leads of up to 64 groups are tried, with as many divisions each as the group has units, twice.
 pub fn choose_groups(needs: Needs, max_packets: &[u32], delay: u32, max_lead: u32) -> Option<Choice>

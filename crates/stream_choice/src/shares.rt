@@ -116,8 +116,8 @@ pub fn lead_share(needs: Needs, group: u64, packets: u32, delay: u32, lead: u32)
     Some(share_for_time(needs, group, packets, lead - late))
 }
 
-/// Returns the least share that any group of a stream asks for, whatever its lead: in packets a unit of 90 kHz, in parts of
-/// 2^40 of a packet, rounded up. `max_packets[g - 1]` are the most packets of `g` units in a row.
+/// Returns the least share that any group of a stream asks for, whatever its lead: in packets a unit of 90 kHz, in
+/// parts of 2^40 of a packet, rounded up. `max_packets[g - 1]` are the most packets of `g` units in a row.
 pub fn least_share(needs: Needs, max_packets: &[u32]) -> u64
     requires ranges { IsNeeds needs }
     requires max_packets { AreMaxPackets max_packets.now }
@@ -132,7 +132,8 @@ pub fn least_share(needs: Needs, max_packets: &[u32]) -> u64
     least
 }
 
-/// The longest time from a packet's slot to its end in a buffer of which at most so many bytes wait, in units of 90 kHz.
+/// The longest time from a packet's slot to its end in a buffer of which at most so many bytes wait, in units of 90
+/// kHz.
 fn buffer_delay(bytes: u64, drain: u32, share: u64) -> u32
     requires some { 1 ≤ bytes }
     requires most { bytes ≤ 753 }
@@ -176,8 +177,8 @@ pub fn leaking_needs(buffer: Option<MultiplexingBuffer>, needs: Needs) -> Needs
 }
 
 /// Returns the longest time from a packet's slot to its end in the last buffer before the units' buffer, in units of 90
-/// kHz: until all bytes that wait in it are drained at `rx` bits/s, and three slots of an output of that share. The share is
-/// the sum of the least shares of its streams, so the delay does not depend on their choices.
+/// kHz: until all bytes that wait in it are drained at `rx` bits/s, and three slots of an output of that share. The
+/// share is the sum of the least shares of its streams, so the delay does not depend on their choices.
 pub fn delay_before(buffer: Option<MultiplexingBuffer>, needs: Needs, share: u64) -> u32
     requires rx { 1 ≤ needs.rx }
     requires share { 2 ^ 17 ≤ share }

@@ -5,7 +5,8 @@ use Rattle.stream_coding.specs.FrameWalks.{WalkView, begun, count_passed, part_a
 
 pub part_more : (n : ℕ) (w : WalkView) (place : ℕ) (bytes : List ℕ) → 0 < n → (length bytes == 0) ≡ false →
     parts_from n w place bytes
-    ≡ part_at (begun w) place bytes ∷ parts_from (n - 1) (passed (begun w) bytes) (place + count_passed (begun w) bytes) (drop (count_passed (begun w) bytes) bytes)
+    ≡ part_at (begun w) place bytes ∷ parts_from (n - 1) (passed (begun w) bytes) (place + count_passed (begun w) bytes)
+    (drop (count_passed (begun w) bytes) bytes)
 unfolding parts_from
 part_more zero w place bytes some more = absurd (omega arith)
 part_more (suc n) w place bytes some more = let e : suc n - 1 ≡ n = omega arith in rw (e, more) refl
@@ -37,13 +38,15 @@ no_step_walk zero w bytes none = refl
 no_step_walk (suc n) w bytes none = absurd (omega (arith, none))
 
 -- one step of it
-pub parts_on : (n : ℕ) (w w' w'' : WalkView) (place size ahead : ℕ) (bytes rest : List ℕ) (parts parts' whole : List FramePart) → 0 < n → (length bytes == 0) ≡ false → w' ≡ begun w →
+pub parts_on : (n : ℕ) (w w' w'' : WalkView) (place size ahead : ℕ) (bytes rest : List ℕ) (parts parts' whole : List FramePart) → 0 < n →
+    (length bytes == 0) ≡ false → w' ≡ begun w →
     w'' ≡ passed w' bytes → size ≡ count_passed w' bytes → rest ≡ drop size bytes → ahead ≡ (begun w).ahead →
     parts' ≡ parts ++ record { place = place; size = size; ahead = ahead } ∷ [] →
     parts ++ parts_from n w place bytes ≡ whole → parts' ++ parts_from (n - 1) w'' (place + size) rest ≡ whole
 parts_on n w w' w'' place size ahead bytes rest parts parts' whole some more p q r s a t is =
     rw (t, a, s, r, q, p)
-    (append_assoc parts (part_at (begun w) place bytes ∷ []) (parts_from (n - 1) (passed (begun w) bytes) (place + count_passed (begun w) bytes) (drop (count_passed (begun w) bytes) bytes))
+    (append_assoc parts (part_at (begun w) place bytes ∷ [])
+    (parts_from (n - 1) (passed (begun w) bytes) (place + count_passed (begun w) bytes) (drop (count_passed (begun w) bytes) bytes))
     ∙ ap (λ (l : List FramePart). parts ++ l) (sym (part_more n w place bytes some more)) ∙ is)
 
 pub walk_on : (n : ℕ) (w w' w'' whole : WalkView) (size : ℕ) (bytes rest : List ℕ) → 0 < n → (length bytes == 0) ≡ false → w' ≡ begun w →

@@ -1,7 +1,8 @@
 -- The access units at which a decoder may begin, by the syntax of their coding.
 use Rattle.std.specs.Prelude.{ℕ, ◌/◌, ◌%◌, ◌==◌, ◌&&◌, ◌||◌, Bool, false, if◌then◌else◌, List, [], ◌∷◌}
 use Rattle.stream_coding.specs.Structures.{bytes_of, has}
-use Rattle.stream_coding.specs.declared.structures.Structure.TheVariants.{SequenceHeader, PictureHeader, AvcParameters, IdrSlice, RecoveryPoint, HevcParameters, IrapSlice}
+use Rattle.stream_coding.specs.declared.structures.Structure.TheVariants.{SequenceHeader, PictureHeader, AvcParameters, IdrSlice, RecoveryPoint, HevcParameters}
+use Rattle.stream_coding.specs.declared.structures.Structure.TheVariants.{IrapSlice}
 
 -- picture_coding_type, 3 bits after the 10 of temporal_reference, of what follows the start code of a picture header (ISO/IEC 13818-2,
 -- 6.2.3); 0, which is forbidden (table 6-12), where it is not there

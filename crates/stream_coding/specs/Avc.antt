@@ -1,5 +1,6 @@
 -- What a sequence parameter set of ISO/IEC 14496-10 says; its bytes after the header of the NAL unit.
-use Rattle.std.specs.Prelude.{ℕ, zero, suc, ◌+◌, ◌-◌, ◌*◌, ◌/◌, ◌%◌, ◌^◌, ◌==◌, ◌&&◌, ◌||◌, nat_le, nat_lt, Bool, if◌then◌else◌, Option, None, Some, List, [], ◌∷◌, option_map, option_and_then, unwrap_or}
+use Rattle.std.specs.Prelude.{ℕ, zero, suc, ◌+◌, ◌-◌, ◌*◌, ◌/◌, ◌%◌, ◌^◌, ◌==◌, ◌&&◌, ◌||◌, nat_le, nat_lt, Bool, if◌then◌else◌, Option, None, Some, List, []}
+use Rattle.std.specs.Prelude.{◌∷◌, option_map, option_and_then, unwrap_or}
 use Rattle.std.specs.Option.{option_map_or}
 use Rattle.stream_coding.specs.Structures.{bytes_of}
 use Rattle.stream_coding.specs.declared.structures.Structure.TheVariants.{AvcParameters}

@@ -1,7 +1,8 @@
 -- The frames of a unit of sound, found as its bytes come, piece by piece: a frame begins where the frame before it ends, and the header of
 -- each frame says how many bytes it has and how long it sounds. So each frame is due the time of the frames before it after the first, whose
 -- time the unit's stamp is (ISO/IEC 13818-1, 2.4.2.3 and 2.7.5).
-use Rattle.std.specs.Prelude.{ℕ, zero, suc, ◌+◌, ◌-◌, ◌^◌, ◌==◌, min, nat_lt, Bool, true, false, if◌then◌else◌, Option, Some, None, List, [], ◌∷◌, ◌++◌, length, take, drop}
+use Rattle.std.specs.Prelude.{ℕ, zero, suc, ◌+◌, ◌-◌, ◌^◌, ◌==◌, min, nat_lt, Bool, true, false, if◌then◌else◌, Option, Some, None, List, [], ◌∷◌, ◌++◌, length}
+use Rattle.std.specs.Prelude.{take, drop}
 use Rattle.stream_coding.specs.declared.frame.FrameHeader.{FrameHeader}
 use Rattle.stream_coding.specs.declared.frame_headers.FrameKind.{FrameKind}
 use Rattle.stream_coding.specs.declared.frame_walk.FramePart.{FramePart}

@@ -5,7 +5,8 @@ use Rattle.std.specs.Option.{option_and_then, option_or, option_map_or}
 use Rattle.std.specs.Str.{bytes_eq}
 use Rattle.stream_coding.specs.Sei.{has_recovery_point}
 use Rattle.stream_coding.specs.declared.structures.Structure.{Structure}
-use Rattle.stream_coding.specs.declared.structures.Structure.TheVariants.{SequenceHeader, SequenceExtension, PictureHeader, AvcParameters, IdrSlice, RecoveryPoint, HevcParameters, IrapSlice, AdtsHeader}
+use Rattle.stream_coding.specs.declared.structures.Structure.TheVariants.{SequenceHeader, SequenceExtension, PictureHeader, AvcParameters, IdrSlice}
+use Rattle.stream_coding.specs.declared.structures.Structure.TheVariants.{RecoveryPoint, HevcParameters, IrapSlice, AdtsHeader}
 
 -- 1. What is at the front of bytes
 

@@ -39,7 +39,8 @@ fn is_hevc_access(unit: &[u8]) -> bool
     has(Structure::HevcParameters, unit) && has(Structure::IrapSlice, unit)
 }
 
-/// Returns whether a decoder may begin with this access unit of a stream that a program map names with this stream_type.
+/// Returns whether a decoder may begin with this access unit of a stream that a program map names with this
+/// stream_type.
 #[tactic(auto, unfolding(crate::specs::AccessPoints::is_access_point))]
 pub fn is_access_point(stream_type: u8, unit: &[u8]) -> bool
     ensures { result ≡ spec.is_access_point stream_type unit.now }

@@ -124,7 +124,8 @@ pub fn buffers_of(coding: Coding) -> Buffers
     }
 }
 
-/// Returns the multiplexing buffer of a stream of this coding, if it is of video, cut to what a description can declare.
+/// Returns the multiplexing buffer of a stream of this coding, if it is of video, cut to what a description can
+/// declare.
 pub fn multiplexing_of(coding: Coding) -> Option<MultiplexingBuffer>
     ensures { result ≡ spec.multiplexing_of coding }
 {
@@ -134,8 +135,8 @@ pub fn multiplexing_of(coding: Coding) -> Option<MultiplexingBuffer>
     }
 }
 
-/// Returns the buffers of a stream of this coding with the multiplexing buffer and the elementary stream buffer of video
-/// as one, for whoever keeps no two.
+/// Returns the buffers of a stream of this coding with the multiplexing buffer and the elementary stream buffer of
+/// video as one, for whoever keeps no two.
 pub fn joined_buffers_of(coding: Coding) -> Buffers
     ensures { result ≡ spec.joined_buffers_of coding }
 {
@@ -170,8 +171,8 @@ fn without_size(coding: Coding) -> Coding
     }
 }
 
-/// Returns the coding of a stream with a unit of this size: if the elementary stream buffer that the stream says does not
-/// hold the unit, the stream does not keep to it, and its level's buffer counts.
+/// Returns the coding of a stream with a unit of this size: if the elementary stream buffer that the stream says does
+/// not hold the unit, the stream does not keep to it, and its level's buffer counts.
 #[tactic(auto, unfolding(crate::specs::Buffers::coding_holding))]
 pub fn coding_holding(size: usize, coding: Coding) -> Coding
     ensures { result ≡ spec.coding_holding size coding }

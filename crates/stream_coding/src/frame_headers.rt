@@ -108,8 +108,8 @@ pub(crate) fn frame_header(kind: FrameKind, bytes: &[u8]) -> Option<FrameHeader>
     }
 }
 
-/// Returns the kind of frames of a stream that a program map names with this stream_type and these bytes of descriptors;
-/// none if the stream is no sound of these kinds.
+/// Returns the kind of frames of a stream that a program map names with this stream_type and these bytes of
+/// descriptors; none if the stream is no sound of these kinds.
 #[tactic(auto, unfolding(crate::specs::FrameHeaders::frame_kind))]
 pub fn frame_kind(stream_type: u8, descriptors: &[u8]) -> Option<FrameKind>
     ensures { result ≡ spec.frame_kind stream_type descriptors.now }

@@ -27,7 +27,8 @@ pub struct FramePart {
 #[derive(Drop)]
 pub struct FrameWalk {
     kind: FrameKind,
-    // The bytes of the current frame's header that have come, and the bytes of the frame after its header that are still to come.
+    // The bytes of the current frame's header that have come, and the bytes of the frame after its header that are
+    // still to come.
     header: ArrayVec<u8, 7>,
     left: u32,
     // The time of the current frame in units of 90 kHz, and how long after the first frame of the unit it is due.
@@ -180,8 +181,8 @@ impl FrameWalk {
         first + count
     }
 
-    /// Takes the next bytes of the unit, and returns the frames that begin among them: the bytes before the first of these are the current
-    /// frame's.
+    /// Takes the next bytes of the unit, and returns the frames that begin among them: the bytes before the first of
+    /// these are the current frame's.
     pub fn take(&mut self, alloc: Global, bytes: &[u8]) -> Result<Vec<FramePart>, AllocError>
         ensures walk { OnOk result (self.new ≡ spec.walk_after self.old bytes.now) }
         ensures parts { IfOk result (λ parts. parts.items ≡ spec.frames_in self.old bytes.now) }

@@ -1,11 +1,11 @@
 //! How an elementary stream is coded, and the buffers that a decoder has for it.
 //!
-//! The coding is the coding of its entry in the program map (`specs/Codings`), with what its first access unit says in the
-//! structures of `specs/Structures`: its profile, level, video buffer or number of channels (`specs/Sequences`, `Avc`,
-//! `Hevc`, `Adts`); the buffers are those of the standards (`specs/Video`, `Buffers`). The frames of units of sound are
-//! counted by their headers (`specs/FrameHeaders`, `Frames`), or found as the bytes of a unit come (`specs/FrameWalks`).
-//! The units at which a decoder may begin are those of `specs/AccessPoints`.
-//! `specs/Stays` says how long a byte of a stream may stay in a decoder.
+//! The coding is the coding of its entry in the program map (`specs/Codings`), with what its first access unit says in
+//! the structures of `specs/Structures`: its profile, level, video buffer or number of channels (`specs/Sequences`,
+//! `Avc`, `Hevc`, `Adts`); the buffers are those of the standards (`specs/Video`, `Buffers`). The frames of units of
+//! sound are counted by their headers (`specs/FrameHeaders`, `Frames`), or found as the bytes of a unit come
+//! (`specs/FrameWalks`). The units at which a decoder may begin are those of `specs/AccessPoints`. `specs/Stays` says
+//! how long a byte of a stream may stay in a decoder.
 #![tactic(auto)]
 
 mod ac3;

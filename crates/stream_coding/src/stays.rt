@@ -46,8 +46,8 @@ fn has_stills(descriptors: &[u8]) -> bool
     false
 }
 
-/// Returns the longest time in seconds that a byte of a stream may stay in a decoder before it is decoded, by the stream_type and the
-/// bytes of descriptors of its entry in the program map (ISO/IEC 13818-1, 2.4.2.6).
+/// Returns the longest time in seconds that a byte of a stream may stay in a decoder before it is decoded, by the
+/// stream_type and the bytes of descriptors of its entry in the program map (ISO/IEC 13818-1, 2.4.2.6).
 #[tactic(auto, unfolding(crate::specs::Stays::longest_stay, crate::specs::Stays::is_mpeg_video, crate::specs::Stays::is_later_video))]
 pub fn longest_stay(stream_type: u8, descriptors: &[u8]) -> u32
     ensures value { result ≡ spec.longest_stay stream_type descriptors.now }

@@ -1,4 +1,5 @@
-//! The structures of a coded stream that say its level, its video buffer, how many channels it has, or where a decoder may begin.
+//! The structures of a coded stream that say its level, its video buffer, how many channels it has, or where a decoder
+//! may begin.
 
 ghost use Rattle.std.specs.Prelude.{◌≡◌, option_map};
 ghost use Rattle.stream_coding.specs.Structures as spec;

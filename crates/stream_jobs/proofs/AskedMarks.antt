@@ -6,7 +6,8 @@ use Rattle.given_marks.proofs.MarkedFindings.{nothing_marked}
 use Rattle.stream_jobs.specs.AskedMarks.{NoneIsAsked, marking_of}
 use Rattle.stream_jobs.specs.JobOptions.{JobOptionsView}
 
-no_marks : (options : JobOptionsView) (findings : List FindingView) → options.mark_access ≡ false → options.aligned ≡ [] → marking_of options findings ≡ no_marking
+no_marks : (options : JobOptionsView) (findings : List FindingView) → options.mark_access ≡ false → options.aligned ≡ [] →
+    marking_of options findings ≡ no_marking
 unfolding marking_of
 no_marks options findings access aligned = rw (access, aligned) refl
 

@@ -15,7 +15,8 @@ use Rattle.stream_jobs.specs.Jobs.{IsCarried}
 use Rattle.stream_jobs.specs.FoundUnits.{source_of}
 use Rattle.stream_jobs.specs.JobOptions.{JobOptionsView}
 use Rattle.stream_jobs.specs.OddStreams.{odd_stream}
-use Rattle.stream_jobs.specs.WireStreams.{carried_stream, carried_streams, common_id, dts_refusal, can_carry, kept_stream, stream_if_any, unless_odd, with_stamps, stream_of, wire_stream, with_units}
+use Rattle.stream_jobs.specs.WireStreams.{carried_stream, carried_streams, common_id, dts_refusal, can_carry, kept_stream, stream_if_any, unless_odd}
+use Rattle.stream_jobs.specs.WireStreams.{with_stamps, stream_of, wire_stream, with_units}
 use Rattle.stream_jobs.proofs.Steps.{granted, comes}
 use Rattle.stream_jobs.specs.JobStreams.{WireStreamView}
 
@@ -41,13 +42,15 @@ stamped_units true pid findings us is =
     sym (ok_same (made_units (carried_units pid findings)) us (Ok (made_units (carried_units pid findings))) refl
     (granted (dts_refusal pid (carried_units pid findings)) (Ok (made_units (carried_units pid findings))) us is))
 
-one_carried : (made : Bool) (findings : List FindingView) (s : FoundStreamView) (w : WireStreamView) → wire_stream made findings s ≡ Ok w → IsCarried made findings w
+one_carried : (made : Bool) (findings : List FindingView) (s : FoundStreamView) (w : WireStreamView) → wire_stream made findings s ≡ Ok w →
+    IsCarried made findings w
 unfolding wire_stream stream_of with_units
 one_carried made findings s w is =
     let id = comes (λ id. and_then (λ us. Ok (with_units s id us)) (with_stamps made s.pid (carried_units s.pid findings)))
     (common_id s.pid (is_ac3 s.stream_type s.descriptors) (carried_units s.pid findings)) w is in
     let us = comes (λ us. Ok (with_units s id.value us)) (with_stamps made s.pid (carried_units s.pid findings)) w id.last_is in
-    rw (sym (ok_same (with_units s id.value us.value) w (Ok (with_units s id.value us.value)) refl us.last_is)) (stamped_units made s.pid findings us.value us.first_is)
+    rw (sym (ok_same (with_units s id.value us.value) w (Ok (with_units s id.value us.value)) refl us.last_is))
+    (stamped_units made s.pid findings us.value us.first_is)
 
 -- one that is kept is what the stream of the tables gives
 kept_carried : (options : JobOptionsView) (findings : List FindingView) (s : FoundStreamView) (r : Result WireStreamView JobRefusal) →
@@ -65,7 +68,8 @@ stream_carried options findings s false = All-nil (IsCarried options.make_dts fi
 stream_carried options findings s true =
     kept_carried options findings s (wire_stream options.make_dts findings s) (one_carried options.make_dts findings s)
 
-pub all_carried : (options : JobOptionsView) (findings : List FindingView) (ss : List FoundStreamView) → All (IsCarried options.make_dts findings) (carried_streams options findings ss)
+pub all_carried : (options : JobOptionsView) (findings : List FindingView) (ss : List FoundStreamView) →
+    All (IsCarried options.make_dts findings) (carried_streams options findings ss)
 unfolding carried_stream stream_if_any
 all_carried options findings [] = All-nil (IsCarried options.make_dts findings)
 all_carried options findings (s ∷ ss) =

@@ -1,5 +1,6 @@
 -- Each clock of a job has one constant.
-use Rattle.std.proofs.Common.{◌≡◌, ◌∙◌, ◌<◌, ◌+◌, ◌%◌, ◌^◌, ℕ, Bool, List, [], ◌∷◌, map, Option, Some, None, Result, Ok, Err, IfOk, All, refl, sym, ap, subst, slice_get, get_or, option_map, arith}
+use Rattle.std.proofs.Common.{◌≡◌, ◌∙◌, ◌<◌, ◌+◌, ◌%◌, ◌^◌, ℕ, Bool, List, [], ◌∷◌, map, Option, Some, None, Result, Ok, Err, IfOk, All, refl, sym, ap, subst}
+use Rattle.std.proofs.Common.{slice_get, get_or, option_map, arith}
 use Rattle.std.proofs.lemmas.Option.{same_Some, slice_get-get_or, slice_get-map, slice_get_within}
 use Rattle.demux.specs.Views.{FindingView}
 use Rattle.pes_packet.specs.AccessUnits.{AccessUnit}
@@ -17,7 +18,8 @@ use Rattle.stream_jobs.specs.JobOptions.{JobOptionsView}
 use Rattle.stream_jobs.specs.JobPrograms.{JobProgramView, clock_in}
 use Rattle.stream_jobs.specs.Jobs.{IsCarried}
 use Rattle.stream_jobs.specs.JobStreams.{TimedStreamView, WireStreamView}
-use Rattle.stream_jobs.specs.Moments.{base_for, base_of, base_of_first, earliest, first_base, first_dts_of, firsts, moved_by, moved_stream, moved_streams, stamps_of, stamps_refusal, pts_limit_of, wire_of, with_moments}
+use Rattle.stream_jobs.specs.Moments.{base_for, base_of, base_of_first, earliest, first_base, first_dts_of, firsts, moved_by, moved_stream, moved_streams}
+use Rattle.stream_jobs.specs.Moments.{stamps_of, stamps_refusal, pts_limit_of, wire_of, with_moments}
 use Rattle.stream_jobs.proofs.MovedInputs.{moved_of}
 use Rattle.stream_jobs.proofs.Steps.{granted, not_against, comes, same_value, each_all}
 
@@ -38,20 +40,24 @@ with_its_moments : (findings : List FindingView) (due : ℕ) (programs : List Jo
 unfolding moved_by moved_stream
 with_its_moments findings due programs all s t is =
     let base = base_of due all (clock_in programs s.program) in
-    same_value (with_moments base s) t (granted (option_map (stamps_refusal findings s.pid) (first_fault (pts_limit_of s.stream_type s.descriptors) base None 0 (wire_of s))) (Ok (with_moments base s)) t is)
+    same_value (with_moments base s) t
+    (granted (option_map (stamps_refusal findings s.pid) (first_fault (pts_limit_of s.stream_type s.descriptors) base None 0 (wire_of s)))
+    (Ok (with_moments base s)) t is)
 
 its_program : (findings : List FindingView) (due : ℕ) (programs : List JobProgramView) (all : List FirstDts) (s : WireStreamView) (t : TimedStreamView) →
     moved_by findings due programs all s ≡ Ok t → s.program ≡ t.program
 unfolding with_moments
 its_program findings due programs all s t is = ap (λ (x : TimedStreamView). x.program) (with_its_moments findings due programs all s t is)
 
-one_moved : (made : Bool) (findings : List FindingView) (due : ℕ) (programs : List JobProgramView) (all : List FirstDts) (s : WireStreamView) (t : TimedStreamView) →
+one_moved : (made : Bool) (findings : List FindingView) (due : ℕ) (programs : List JobProgramView) (all : List FirstDts) (s : WireStreamView)
+    (t : TimedStreamView) →
     IsCarried made findings s → moved_by findings due programs all s ≡ Ok t → IsMovedBy made findings (base_of due all (clock_of programs t)) t
 unfolding moved_by moved_stream with_moments base_of
 one_moved made findings due programs all s t carried is =
     let base = base_for due (stamps_of (clock_in programs s.program) all) in
     let against = option_map (stamps_refusal findings s.pid) (first_fault (pts_limit_of s.stream_type s.descriptors) base None 0 (wire_of s)) in
-    let none = no_value (stamps_refusal findings s.pid) (first_fault (pts_limit_of s.stream_type s.descriptors) base None 0 (wire_of s)) (not_against against (Ok (with_moments base s)) t is) in
+    let none = no_value (stamps_refusal findings s.pid) (first_fault (pts_limit_of s.stream_type s.descriptors) base None 0 (wire_of s))
+    (not_against against (Ok (with_moments base s)) t is) in
     let wire : wire_of s ≡ map (λ u. u.unit) (source_of made s.pid findings) = ap (map (λ u. u.unit)) carried in
     subst (λ (x : TimedStreamView). IsMovedBy made findings (base_for due (stamps_of (clock_in programs x.program) all)) x)
     (with_its_moments findings due programs all s t is)
@@ -65,12 +71,14 @@ one_moved made findings due programs all s t carried is =
 -- 2. The first stream
 
 -- what the clock of the first stream shows is what that of the first one at moments does
-first_shows : (findings : List FindingView) (due : ℕ) (programs : List JobProgramView) (streams : List WireStreamView) (timed : List TimedStreamView) (t : TimedStreamView) →
+first_shows : (findings : List FindingView) (due : ℕ) (programs : List JobProgramView) (streams : List WireStreamView) (timed : List TimedStreamView)
+    (t : TimedStreamView) →
     moved_streams findings due programs streams ≡ Ok timed → slice_get timed 0 ≡ Some t →
     first_base due programs streams ≡ base_of due (firsts programs streams) (clock_of programs t)
 unfolding moved_streams each first_base base_of_first first_dts_of
 first_shows findings due programs [] timed t is at =
-    let none : slice_get (let l : List TimedStreamView = [] in l) 0 ≡ Some t = subst (λ (l : List TimedStreamView). slice_get l 0 ≡ Some t) (sym (same_value [] timed is)) at in
+    let none : slice_get (let l : List TimedStreamView = [] in l) 0 ≡ Some t =
+    subst (λ (l : List TimedStreamView). slice_get l 0 ≡ Some t) (sym (same_value [] timed is)) at in
     absurd (let no : ⊥ = cc in no)
 first_shows findings due programs (s ∷ ss) timed t is at =
     let all = firsts programs (s ∷ ss) in
@@ -78,11 +86,13 @@ first_shows findings due programs (s ∷ ss) timed t is at =
     let rest = comes (λ ys. Ok (first.value ∷ ys)) (each (moved_by findings due programs all) ss) timed first.last_is in
     let same = same_value (first.value ∷ rest.value) timed rest.last_is in
     let this : first.value ≡ t = same_Some first.value t (ap (λ (l : List TimedStreamView). slice_get l 0) same ∙ at) in
-    ap (λ (n : ℕ). base_of due all (clock_in programs n)) (its_program findings due programs all s first.value first.first_is ∙ ap (λ (x : TimedStreamView). x.program) this)
+    ap (λ (n : ℕ). base_of due all (clock_in programs n))
+    (its_program findings due programs all s first.value first.first_is ∙ ap (λ (x : TimedStreamView). x.program) this)
 
 -- 3. A job
 
-pub constants_of : (options : JobOptionsView) (count : ℕ) (findings : List FindingView) (input : JobInputView) → job_input options count findings ≡ Ok input → HasConstants options findings input
+pub constants_of : (options : JobOptionsView) (count : ℕ) (findings : List FindingView) (input : JobInputView) → job_input options count findings ≡ Ok input →
+    HasConstants options findings input
 unfolding moved_streams
 constants_of options count findings input is =
     let wire = moved_of options count findings input is in
@@ -90,7 +100,8 @@ constants_of options count findings input is =
     let all = firsts input.programs wire.streams in
     record {
       constant = base_of due all;
-      streams = each_all (moved_by findings due input.programs all) (IsCarried options.make_dts findings) (λ t. IsMovedBy options.make_dts findings (base_of due all (clock_of input.programs t)) t)
+      streams = each_all (moved_by findings due input.programs all) (IsCarried options.make_dts findings)
+          (λ t. IsMovedBy options.make_dts findings (base_of due all (clock_of input.programs t)) t)
           (one_moved options.make_dts findings due input.programs all) wire.streams input.streams wire.carried wire.moved;
       first = λ t at. wire.base0_is ∙ ap (base0_of options.base) (first_shows findings due input.programs wire.streams input.streams t wire.moved at);
     }
@@ -103,7 +114,8 @@ element P xs i x all at =
     subst P (same_Some (get_or xs i x) x (sym (slice_get-get_or xs i x within) ∙ at)) (all i x within)
 
 -- what two lists are mapped to is one list: so are their elements
-mapped_alike : {A B : Type 0} (f g : A → B) (xs ys : List A) (k : ℕ) (x y : A) → map f xs ≡ map g ys → slice_get xs k ≡ Some x → slice_get ys k ≡ Some y → f x ≡ g y
+mapped_alike : {A B : Type 0} (f g : A → B) (xs ys : List A) (k : ℕ) (x y : A) → map f xs ≡ map g ys → slice_get xs k ≡ Some x → slice_get ys k ≡ Some y →
+    f x ≡ g y
 mapped_alike f g xs ys k x y alike one other =
     same_Some (f x) (g y)
     (sym (slice_get-map f xs k ∙ ap (option_map f) one) ∙ ap (λ l. slice_get l k) alike ∙ slice_get-map g ys k ∙ ap (option_map g) other)
@@ -122,12 +134,14 @@ stamps_of_unit base k wire us u w moved here there =
       mapped_alike (λ (x : AccessUnit). on_wire (x.pts + base)) (λ (x : AccessUnit). on_wire x.pts) (moved_units base None wire) wire k u w law.1 at there,
     )
 
-pub distances_of : (options : JobOptionsView) (findings : List FindingView) (input : JobInputView) → HasConstants options findings input → KeepDistances options.make_dts findings input
+pub distances_of : (options : JobOptionsView) (findings : List FindingView) (input : JobInputView) → HasConstants options findings input →
+    KeepDistances options.make_dts findings input
 distances_of options findings input has i j k l t s one other wire_one wire_other t_is s_is same one_is other_is wire_one_is wire_other_is =
     let P = λ (t : TimedStreamView). IsMovedBy options.make_dts findings (has.constant (clock_of input.programs t)) t in
     let base = has.constant (clock_of input.programs t) in
     let first = element P input.streams i t has.streams t_is in
-    let second = subst (λ (n : ℕ). AreMoved (found_of options.make_dts findings s) n s.units) (sym (ap has.constant same)) (element P input.streams j s has.streams s_is) in
+    let second = subst (λ (n : ℕ). AreMoved (found_of options.make_dts findings s) n s.units) (sym (ap has.constant same))
+    (element P input.streams j s has.streams s_is) in
     let stamps = stamps_of_unit base k (found_of options.make_dts findings t) t.units one wire_one first one_is wire_one_is in
     let others = stamps_of_unit base l (found_of options.make_dts findings s) s.units other wire_other second other_is wire_other_is in
     record {

@@ -6,11 +6,13 @@ use Rattle.stream_jobs.specs.declared.refusal.JobRefusal.{JobRefusal}
 use Rattle.stream_jobs.specs.declared.warning.Warning.{Warning}
 use Rattle.stream_jobs.specs.JobInput.{why_nothing, first_why}
 
-pub why_later : (some : Bool) (ws : List Warning) (i : ℕ) (d : Warning) → i < length ws → why_nothing some (slice_index_or ws i d) ≡ None → first_why some (drop i ws) ≡ first_why some (drop (i + 1) ws)
+pub why_later : (some : Bool) (ws : List Warning) (i : ℕ) (d : Warning) → i < length ws → why_nothing some (slice_index_or ws i d) ≡ None →
+    first_why some (drop i ws) ≡ first_why some (drop (i + 1) ws)
 unfolding first_why
 why_later some ws i d below none = rw (drop-cons ws i d below, add-one i, none) refl
 
-pub why_here : (some : Bool) (ws : List Warning) (i : ℕ) (d : Warning) (refusal : JobRefusal) → i < length ws → why_nothing some (slice_index_or ws i d) ≡ Some refusal → first_why some (drop i ws) ≡ Some refusal
+pub why_here : (some : Bool) (ws : List Warning) (i : ℕ) (d : Warning) (refusal : JobRefusal) → i < length ws →
+    why_nothing some (slice_index_or ws i d) ≡ Some refusal → first_why some (drop i ws) ≡ Some refusal
 unfolding first_why
 why_here some ws i d refusal below is = rw (drop-cons ws i d below, is) refl
 

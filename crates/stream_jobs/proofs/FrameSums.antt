@@ -17,7 +17,8 @@ frames_first : (kind : FrameKind) (c : UnitFrames) (unit : List ℕ) (later : Li
 unfolding all_frames
 frames_first kind c unit later = refl
 
-pub frames_more : (kind : FrameKind) (c d : UnitFrames) (units later : List AccessUnit) (u : AccessUnit) → units ≡ u ∷ later → unit_frames kind u.bytes ≡ Some d →
+pub frames_more : (kind : FrameKind) (c d : UnitFrames) (units later : List AccessUnit) (u : AccessUnit) → units ≡ u ∷ later →
+    unit_frames kind u.bytes ≡ Some d →
     all_frames kind c (all_bytes units) ≡ all_frames kind (joined_frames c d) (all_bytes later)
 frames_more kind c d units later u are is = ap (λ (l : List AccessUnit). all_frames kind c (all_bytes l)) are
     ∙ frames_first kind c u.bytes (all_bytes later) ∙ ap (with_later kind c (all_bytes later)) is

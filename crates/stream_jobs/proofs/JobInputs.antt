@@ -11,7 +11,8 @@ use Rattle.stream_jobs.specs.declared.refusal.JobRefusal.{JobRefusal}
 use Rattle.stream_jobs.specs.declared.warning.Warning.{Warning}
 use Rattle.stream_jobs.specs.InputDrafts.{Leads}
 use Rattle.stream_jobs.specs.JobPrograms.{JobProgramView, job_programs, all_program_warnings}
-use Rattle.stream_jobs.specs.JobInput.{JobInputView, service_warnings, table_warnings, stream_warnings, job_warnings, tables_of, with_pids, with_found, with_streams}
+use Rattle.stream_jobs.specs.JobInput.{JobInputView, service_warnings, table_warnings, stream_warnings, job_warnings, tables_of, with_pids, with_found}
+use Rattle.stream_jobs.specs.JobInput.{with_streams}
 use Rattle.stream_jobs.specs.Warnings.{pid_warnings}
 use Rattle.stream_jobs.specs.WireStreams.{wire_streams, all_left_out_warnings}
 use Rattle.stream_jobs.specs.JobOptions.{JobOptionsView}
@@ -19,7 +20,8 @@ use Rattle.stream_jobs.specs.JobTables.{JobTableView, job_tables, told}
 use Rattle.stream_jobs.specs.JobStreams.{WireStreamView}
 
 -- the warnings, one after the other
-pub all_warnings : (options : JobOptionsView) (count : ℕ) (findings : List FindingView) (a : AssociationView) (named : List Program) (found : FoundProgramsView) (assigned : List ProgramPids) (streams : List WireStreamView)
+pub all_warnings : (options : JobOptionsView) (count : ℕ) (findings : List FindingView) (a : AssociationView) (named : List Program) (found : FoundProgramsView)
+    (assigned : List ProgramPids) (streams : List WireStreamView)
     (tables empties programs units all : List Warning) →
     tables ≡ table_warnings options a named findings found →
     empties ≡ tables ++ all_left_out_warnings options count findings found.streams →
@@ -28,15 +30,19 @@ pub all_warnings : (options : JobOptionsView) (count : ℕ) (findings : List Fin
     all ≡ units ++ service_warnings options.names findings (job_programs streams found.programs assigned) →
     all ≡ job_warnings options count findings a named found assigned streams
 unfolding stream_warnings job_warnings
-all_warnings options count findings a named found assigned streams tables empties programs units all one two three four five = rw (five, four, three, two, one) refl
+all_warnings options count findings a named found assigned streams tables empties programs units all one two three four five =
+    rw (five, four, three, two, one) refl
 
 -- the streams have units, and these are the programs, the tables and the warnings
-pub in_pids : (options : JobOptionsView) (count : ℕ) (findings : List FindingView) (a : AssociationView) (named : List Program) (found : FoundProgramsView) (assigned : List ProgramPids) (streams : List WireStreamView)
-    (programs : List JobProgramView) (tables : List JobTableView) (warnings left : List Warning) {A : Type 0} (next : A → Result JobInputView JobRefusal) (result : Result A JobError) →
+pub in_pids : (options : JobOptionsView) (count : ℕ) (findings : List FindingView) (a : AssociationView) (named : List Program) (found : FoundProgramsView)
+    (assigned : List ProgramPids) (streams : List WireStreamView)
+    (programs : List JobProgramView) (tables : List JobTableView) (warnings left : List Warning) {A : Type 0} (next : A → Result JobInputView JobRefusal)
+    (result : Result A JobError) →
     wire_streams options findings found.streams ≡ streams → programs ≡ job_programs streams found.programs assigned →
     tables ≡ job_tables options.without count findings programs streams found.tables →
     warnings ≡ job_warnings options count findings a named found assigned streams → left ≡ told tables warnings →
-    Leads (with_streams options findings a.transport_stream_id programs tables left streams) next result → Leads (with_pids options count findings a named found assigned) next result
+    Leads (with_streams options findings a.transport_stream_id programs tables left streams) next result →
+    Leads (with_pids options count findings a named found assigned) next result
 unfolding with_pids with_found tables_of
 in_pids options count findings a named found assigned streams programs tables warnings left next result are made tabled all kept is =
     rw (are, sym made, sym tabled, sym all, sym kept) is

@@ -22,7 +22,8 @@ pub record StandsFor (d : Described) (units : List (ℕ × AccessUnit)) (P : Tim
   pub units_are : units_of k units ≡ stream.units
   pub holds : P stream
 
-pub stands_for : (d : Described) (input : JobInputView) (units : List (ℕ × AccessUnit)) (P : TimedStreamView → Type 0) → AllAgree d input → AreMerged (map (λ t. t.units) input.streams) units →
+pub stands_for : (d : Described) (input : JobInputView) (units : List (ℕ × AccessUnit)) (P : TimedStreamView → Type 0) → AllAgree d input →
+    AreMerged (map (λ t. t.units) input.streams) units →
     All P input.streams → (k : ℕ) (s : DescribedStream) → slice_get d.streams k ≡ Some s → StandsFor d units P k s
 stands_for d input units P agree merged all k s at =
     let lt : k < length input.streams = omega (arith, slice_get_within d.streams k s at, agree.same) in
@@ -52,7 +53,8 @@ stream_of made findings d input units moved fits agree merged k s at =
     is_stream made findings d s (units_of k units) one.stream other.stream one.agrees one.units_are one.holds other.units_are other.holds
 
 pub job_units : (made : Bool) (findings : List FindingView) (d : Described) (input : JobInputView) (units : List (ℕ × AccessUnit)) →
-    All (IsMoved made findings) input.streams → All FitsQueue input.streams → AllAgree d input → AreMerged (map (λ t. t.units) input.streams) units → AreUnits made findings d units
+    All (IsMoved made findings) input.streams → All FitsQueue input.streams → AllAgree d input → AreMerged (map (λ t. t.units) input.streams) units →
+    AreUnits made findings d units
 job_units made findings d input units moved fits agree merged = record {
   streams = stream_of made findings d input units moved fits agree merged;
   numbered = subst (λ n. All (λ e. e.0 < n) units) (length-map input.streams (λ t. t.units) ∙ agree.same) merged.numbered;

@@ -13,14 +13,16 @@ unfolding with_inputs and_then
 joins_on whole number next j more left later m so_far first here is =
     so_far ∙ ap (λ (n : ℕ). with_inputs n j left) (sym here) ∙ ap (with_inputs next j) first ∙ rw is refl
 
-pub joins_refused : (whole : Result JoinedInputsView JobRefusal) (number next : ℕ) (j : JoinedInputsView) (left later : List JobInputView) (m : JobInputView) (error : JobError) →
+pub joins_refused : (whole : Result JoinedInputsView JobRefusal) (number next : ℕ) (j : JoinedInputsView) (left later : List JobInputView) (m : JobInputView)
+    (error : JobError) →
     whole ≡ with_inputs (number + 1) j left → left ≡ m ∷ later → next ≡ number + 1 → Refuses (with_input next j m) error → Refuses whole error
 unfolding with_inputs and_then Refuses
 joins_refused whole number next j left later m Memory so_far first here is = tt
 joins_refused whole number next j left later m (Refused refusal) so_far first here is =
     so_far ∙ ap (λ (n : ℕ). with_inputs n j left) (sym here) ∙ ap (with_inputs next j) first ∙ rw is refl
 
-pub joins_done : (whole : Result JoinedInputsView JobRefusal) (number : ℕ) (j : JoinedInputsView) (left : List JobInputView) → whole ≡ with_inputs (number + 1) j left → length left ≡ 0 →
+pub joins_done : (whole : Result JoinedInputsView JobRefusal) (number : ℕ) (j : JoinedInputsView) (left : List JobInputView) →
+    whole ≡ with_inputs (number + 1) j left → length left ≡ 0 →
     whole ≡ Ok j
 unfolding with_inputs
 joins_done whole number j [] so_far none = so_far

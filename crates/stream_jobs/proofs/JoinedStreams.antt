@@ -1,5 +1,6 @@
 -- What holds of the streams of each input holds of those of joined inputs.
-use Rattle.std.proofs.Common.{◌≡◌, ◌≤◌, ℕ, ◌+◌, ◌==◌, nat_lt, Bool, List, [], ◌∷◌, ◌++◌, length, map, Option, Some, None, Result, Ok, Err, IfOk, All, sym, ap, subst, inl, inr, arith}
+use Rattle.std.proofs.Common.{◌≡◌, ◌≤◌, ℕ, ◌+◌, ◌==◌, nat_lt, Bool, List, [], ◌∷◌, ◌++◌, length, map, Option, Some, None, Result, Ok, Err, IfOk, All, sym, ap}
+use Rattle.std.proofs.Common.{subst, inl, inr, arith}
 use Rattle.std.specs.List.{AllZip}
 use Rattle.std.specs.Prelude.{ok_or}
 use Rattle.std.proofs.lemmas.Bool.{cases_Bool, leb-false}
@@ -10,7 +11,9 @@ use Rattle.stream_jobs.specs.Declarations.{too_many}
 use Rattle.stream_jobs.specs.JobInput.{JobInputView}
 use Rattle.stream_jobs.specs.JobStreams.{TimedStreamView}
 use Rattle.stream_jobs.specs.Jobs.{AreStreams, FitsQueue, IsMoved}
-use Rattle.stream_jobs.specs.JoinedInputs.{AreMadeOf, AreMovedByOne, AreStreamsIn, IsFoundIn, IsMovedByOne, IsMovedIn, JoinedAreStreams, JoinedInputsView, JoinedKeepConstants, findings_in, first_input, joined, joined_inputs, origin_in, with_input, with_inputs, with_renumbered, within_limits}
+use Rattle.stream_jobs.specs.JoinedInputs.{AreMadeOf, AreMovedByOne, AreStreamsIn, IsFoundIn, IsMovedByOne, IsMovedIn, JoinedAreStreams, JoinedInputsView}
+use Rattle.stream_jobs.specs.JoinedInputs.{JoinedKeepConstants, findings_in, first_input, joined, joined_inputs, origin_in, with_input, with_inputs}
+use Rattle.stream_jobs.specs.JoinedInputs.{with_renumbered, within_limits}
 use Rattle.stream_jobs.specs.RenumberedInputs.{RenumberingView, new_pids, new_programs, renumbered, renumbering_of, renumbering_with, stream_with}
 use Rattle.stream_jobs.specs.declared.joined_inputs.Origin.{Origin}
 use Rattle.stream_jobs.specs.declared.new_numbers.NewNumber.{NewNumber}
@@ -22,7 +25,8 @@ use Rattle.stream_jobs.proofs.Steps.{comes, granted, not_against, same_value}
 
 -- 1. Place by place
 
-zip_mapped : (P : Origin → TimedStreamView → Type 0) (Q : TimedStreamView → Type 0) (f : TimedStreamView → Origin) (g : TimedStreamView → TimedStreamView) (streams : List TimedStreamView) →
+zip_mapped : (P : Origin → TimedStreamView → Type 0) (Q : TimedStreamView → Type 0) (f : TimedStreamView → Origin) (g : TimedStreamView → TimedStreamView)
+    (streams : List TimedStreamView) →
     ((s : TimedStreamView) → Q s → P (f s) (g s)) → All Q streams → AllZip P (map f streams) (map g streams)
 zip_mapped P Q f g [] each all = tt
 zip_mapped P Q f g (s ∷ ss) each all = (each s (All-head Q s ss all), zip_mapped P Q f g ss each (All-tail Q s ss all))
@@ -32,7 +36,8 @@ zip_own : (P : Origin → TimedStreamView → Type 0) (Q : TimedStreamView → T
 zip_own P Q f [] each all = tt
 zip_own P Q f (s ∷ ss) each all = (each s (All-head Q s ss all), zip_own P Q f ss each (All-tail Q s ss all))
 
-zip_both : (P : Origin → TimedStreamView → Type 0) (os ps : List Origin) (ts us : List TimedStreamView) → AllZip P os ts → AllZip P ps us → AllZip P (os ++ ps) (ts ++ us)
+zip_both : (P : Origin → TimedStreamView → Type 0) (os ps : List Origin) (ts us : List TimedStreamView) → AllZip P os ts → AllZip P ps us →
+    AllZip P (os ++ ps) (ts ++ us)
 zip_both P [] ps [] us one other = other
 zip_both P (o ∷ os) ps (t ∷ ts) us one other = (one.0, zip_both P os ps ts us one.1 other)
 zip_both P [] ps (t ∷ ts) us one other = absurd one
@@ -40,7 +45,8 @@ zip_both P (o ∷ os) ps [] us one other = absurd one
 
 -- 2. New numbers are those of an input
 
-with_pids : (number : ℕ) (programs : List NewNumber) (pids : Option (List NewNumber)) (r : RenumberingView) → renumbering_with number programs pids ≡ Some r → r.input ≡ number
+with_pids : (number : ℕ) (programs : List NewNumber) (pids : Option (List NewNumber)) (r : RenumberingView) → renumbering_with number programs pids ≡ Some r →
+    r.input ≡ number
 unfolding renumbering_with
 with_pids number programs None r is = absurd cc
 with_pids number programs (Some ps) r is =
@@ -62,7 +68,8 @@ some_of (Some y) x refusal is = let same : y ≡ x = cc in ap Some same
 fits_with : (r : RenumberingView) (streams : List TimedStreamView) → All FitsQueue streams → All FitsQueue (map (stream_with r) streams)
 unfolding stream_with
 fits_with r [] all = All-nil FitsQueue
-fits_with r (s ∷ ss) all = All-cons FitsQueue (stream_with r s) (map (stream_with r) ss) (All-head FitsQueue s ss all) (fits_with r ss (All-tail FitsQueue s ss all))
+fits_with r (s ∷ ss) all =
+    All-cons FitsQueue (stream_with r s) (map (stream_with r) ss) (All-head FitsQueue s ss all) (fits_with r ss (All-tail FitsQueue s ss all))
 
 few : (programs streams : ℕ) → too_many programs streams ≡ None → streams ≤ 32
 unfolding too_many
@@ -104,7 +111,8 @@ next_of number j m more is =
 abbrev Becomes : (ℕ → JobInputView → TimedStreamView → Type 0) → (Origin → TimedStreamView → Type 0) → Type 0
 Becomes Q P = (r : RenumberingView) (m : JobInputView) (s : TimedStreamView) → Q r.input m s → P (origin_in r.input m.programs s) (stream_with r s)
 
-renumbered_zip : (Q : ℕ → JobInputView → TimedStreamView → Type 0) (P : Origin → TimedStreamView → Type 0) → Becomes Q P → (j : JoinedInputsView) (m : JobInputView) (r : RenumberingView) →
+renumbered_zip : (Q : ℕ → JobInputView → TimedStreamView → Type 0) (P : Origin → TimedStreamView → Type 0) → Becomes Q P →
+    (j : JoinedInputsView) (m : JobInputView) (r : RenumberingView) →
     AllZip P j.origins j.input.streams → All (Q r.input m) m.streams → AllZip P (with_renumbered j m r).origins (with_renumbered j m r).input.streams
 unfolding with_renumbered joined renumbered
 renumbered_zip Q P becomes j m r so_far streams =
@@ -116,7 +124,8 @@ renumbered_fits : (j : JoinedInputsView) (m : JobInputView) (r : RenumberingView
 unfolding with_renumbered joined renumbered
 renumbered_fits j m r so_far own = All-append FitsQueue j.input.streams (map (stream_with r) m.streams) so_far (fits_with r m.streams own)
 
-next_zip : (Q : ℕ → JobInputView → TimedStreamView → Type 0) (P : Origin → TimedStreamView → Type 0) → Becomes Q P → (number : ℕ) (j : JoinedInputsView) (m : JobInputView) (more : JoinedInputsView) →
+next_zip : (Q : ℕ → JobInputView → TimedStreamView → Type 0) (P : Origin → TimedStreamView → Type 0) → Becomes Q P →
+    (number : ℕ) (j : JoinedInputsView) (m : JobInputView) (more : JoinedInputsView) →
     with_input number j m ≡ Ok more → AllZip P j.origins j.input.streams → All (Q number m) m.streams → AllZip P more.origins more.input.streams
 next_zip Q P becomes number j m more is so_far streams =
     let next = next_of number j m more is in
@@ -130,7 +139,8 @@ abbrev EachInput : (ℕ → JobInputView → TimedStreamView → Type 0) → ℕ
 EachInput Q number [] = Unit {0}
 EachInput Q number (m ∷ ms) = All (Q number m) m.streams × EachInput Q (number + 1) ms
 
-all_zip : (Q : ℕ → JobInputView → TimedStreamView → Type 0) (P : Origin → TimedStreamView → Type 0) → Becomes Q P → (number : ℕ) (j : JoinedInputsView) (ms : List JobInputView) (all : JoinedInputsView) →
+all_zip : (Q : ℕ → JobInputView → TimedStreamView → Type 0) (P : Origin → TimedStreamView → Type 0) → Becomes Q P →
+    (number : ℕ) (j : JoinedInputsView) (ms : List JobInputView) (all : JoinedInputsView) →
     with_inputs number j ms ≡ Ok all → AllZip P j.origins j.input.streams → EachInput Q number ms → AllZip P all.origins all.input.streams
 unfolding with_inputs
 all_zip Q P becomes number j [] all is so_far each = subst (λ (x : JoinedInputsView). AllZip P x.origins x.input.streams) (same_value j all is) so_far
@@ -138,7 +148,8 @@ all_zip Q P becomes number j (m ∷ ms) all is so_far each =
     let next = comes (λ more. with_inputs (number + 1) more ms) (with_input number j m) all is in
     all_zip Q P becomes (number + 1) next.value ms all next.last_is (next_zip Q P becomes number j m next.value next.first_is so_far each.0) each.1
 
-first_zip : (Q : ℕ → JobInputView → TimedStreamView → Type 0) (P : Origin → TimedStreamView → Type 0) → ((m : JobInputView) (s : TimedStreamView) → Q 0 m s → P (origin_in 0 m.programs s) s) →
+first_zip : (Q : ℕ → JobInputView → TimedStreamView → Type 0) (P : Origin → TimedStreamView → Type 0) →
+    ((m : JobInputView) (s : TimedStreamView) → Q 0 m s → P (origin_in 0 m.programs s) s) →
     (m : JobInputView) → All (Q 0 m) m.streams → AllZip P (first_input m).origins (first_input m).input.streams
 unfolding first_input
 first_zip Q P stays m streams = zip_own P (Q 0 m) (origin_in 0 m.programs) m.streams (stays m) streams
@@ -149,7 +160,8 @@ found_becomes : (made : Bool) (inputs : List (List FindingView)) → Becomes (λ
 unfolding origin_in stream_with
 found_becomes made inputs r m s moved = moved
 
-found_stays : (made : Bool) (inputs : List (List FindingView)) (m : JobInputView) (s : TimedStreamView) → IsMoved made (findings_in inputs 0) s → IsFoundIn made inputs (origin_in 0 m.programs s) s
+found_stays : (made : Bool) (inputs : List (List FindingView)) (m : JobInputView) (s : TimedStreamView) → IsMoved made (findings_in inputs 0) s →
+    IsFoundIn made inputs (origin_in 0 m.programs s) s
 unfolding origin_in
 found_stays made inputs m s moved = moved
 
@@ -161,7 +173,8 @@ each_found made inputs number (m ∷ ms) of = (of.0.moved, each_found made input
 
 -- 7. Streams fit
 
-all_fit : (made : Bool) (inputs : List (List FindingView)) (number : ℕ) (j : JoinedInputsView) (ms : List JobInputView) (all : JoinedInputsView) → with_inputs number j ms ≡ Ok all →
+all_fit : (made : Bool) (inputs : List (List FindingView)) (number : ℕ) (j : JoinedInputsView) (ms : List JobInputView) (all : JoinedInputsView) →
+    with_inputs number j ms ≡ Ok all →
     All FitsQueue j.input.streams → AreMadeOf made inputs number ms → All FitsQueue all.input.streams
 unfolding with_inputs AreMadeOf
 all_fit made inputs number j [] all is so_far of = subst (λ (x : JoinedInputsView). All FitsQueue x.input.streams) (same_value j all is) so_far
@@ -171,7 +184,8 @@ all_fit made inputs number j (m ∷ ms) all is so_far of =
     all_fit made inputs (number + 1) step.value ms all step.last_is
     (subst (λ (x : JoinedInputsView). All FitsQueue x.input.streams) next.is (renumbered_fits j m next.numbers so_far of.0.fits)) of.1
 
-all_few : (number : ℕ) (j : JoinedInputsView) (ms : List JobInputView) (all : JoinedInputsView) → with_inputs number j ms ≡ Ok all → length j.input.streams ≤ 32 → length all.input.streams ≤ 32
+all_few : (number : ℕ) (j : JoinedInputsView) (ms : List JobInputView) (all : JoinedInputsView) → with_inputs number j ms ≡ Ok all →
+    length j.input.streams ≤ 32 → length all.input.streams ≤ 32
 unfolding with_inputs
 all_few number j [] all is so_far = subst (λ (x : JoinedInputsView). length x.input.streams ≤ 32) (same_value j all is) so_far
 all_few number j (m ∷ ms) all is so_far =
@@ -204,16 +218,19 @@ joined_found made inputs first more j of is =
 
 -- 8. Constants
 
-moved_becomes : (made : Bool) (inputs : List (List FindingView)) (constant : ℕ → ProgramClock → ℕ) → Becomes (IsMovedByOne made inputs constant) (IsMovedIn made inputs constant)
+moved_becomes : (made : Bool) (inputs : List (List FindingView)) (constant : ℕ → ProgramClock → ℕ) →
+    Becomes (IsMovedByOne made inputs constant) (IsMovedIn made inputs constant)
 unfolding origin_in stream_with
 moved_becomes made inputs constant r m s moved = moved
 
-moved_stays : (made : Bool) (inputs : List (List FindingView)) (constant : ℕ → ProgramClock → ℕ) (m : JobInputView) (s : TimedStreamView) → IsMovedByOne made inputs constant 0 m s →
+moved_stays : (made : Bool) (inputs : List (List FindingView)) (constant : ℕ → ProgramClock → ℕ) (m : JobInputView) (s : TimedStreamView) →
+    IsMovedByOne made inputs constant 0 m s →
     IsMovedIn made inputs constant (origin_in 0 m.programs s) s
 unfolding origin_in
 moved_stays made inputs constant m s moved = moved
 
-each_moved : (made : Bool) (inputs : List (List FindingView)) (constant : ℕ → ProgramClock → ℕ) (number : ℕ) (ms : List JobInputView) → AreMovedByOne made inputs constant number ms →
+each_moved : (made : Bool) (inputs : List (List FindingView)) (constant : ℕ → ProgramClock → ℕ) (number : ℕ) (ms : List JobInputView) →
+    AreMovedByOne made inputs constant number ms →
     EachInput (IsMovedByOne made inputs constant) number ms
 unfolding AreMovedByOne
 each_moved made inputs constant number [] all = tt
@@ -232,8 +249,10 @@ pub found_answered : (made : Bool) (inputs : List (List FindingView)) (first : J
 found_answered made inputs first more (Ok j) is of = joined_found made inputs first more j of is
 found_answered made inputs first more (Err error) is of = tt
 
-pub constants_answered : (made : Bool) (inputs : List (List FindingView)) (constant : ℕ → ProgramClock → ℕ) (first : JobInputView) (more : List JobInputView) (r : Result JoinedInputsView JobError) →
-    IfOk r (λ j. joined_inputs first more ≡ Ok j) → AreMovedByOne made inputs constant 0 (first ∷ more) → IfOk r (λ j. AllZip (IsMovedIn made inputs constant) j.origins j.input.streams)
+pub constants_answered : (made : Bool) (inputs : List (List FindingView)) (constant : ℕ → ProgramClock → ℕ) (first : JobInputView) (more : List JobInputView)
+    (r : Result JoinedInputsView JobError) →
+    IfOk r (λ j. joined_inputs first more ≡ Ok j) → AreMovedByOne made inputs constant 0 (first ∷ more) →
+    IfOk r (λ j. AllZip (IsMovedIn made inputs constant) j.origins j.input.streams)
 constants_answered made inputs constant first more (Ok j) is all = constants_kept made inputs constant first more j all is
 constants_answered made inputs constant first more (Err error) is all = tt
 

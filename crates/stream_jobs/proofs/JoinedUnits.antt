@@ -16,12 +16,14 @@ use Rattle.stream_jobs.specs.JoinedInputs.{AreUnitsIn, IsFoundIn, IsStreamIn}
 use Rattle.stream_jobs.specs.declared.joined_inputs.Origin.{Origin}
 
 -- of streams and where they were found, one in its place
-pub at_place : (P : Origin → TimedStreamView → Type 0) (os : List Origin) (ts : List TimedStreamView) (k : ℕ) (o : Origin) (t : TimedStreamView) → AllZip P os ts →
+pub at_place : (P : Origin → TimedStreamView → Type 0) (os : List Origin) (ts : List TimedStreamView) (k : ℕ) (o : Origin) (t : TimedStreamView) →
+    AllZip P os ts →
     slice_get os k ≡ Some o → slice_get ts k ≡ Some t → P o t
 at_place P [] [] k o t all one other = absurd (let no : ⊥ = cc in no)
 at_place P [] (u ∷ ts) k o t all one other = absurd all
 at_place P (p ∷ os) [] k o t all one other = absurd all
-at_place P (p ∷ os) (u ∷ ts) zero o t all one other = subst (λ (x : Origin). P x t) (same_Some p o one) (subst (λ (x : TimedStreamView). P p x) (same_Some u t other) all.0)
+at_place P (p ∷ os) (u ∷ ts) zero o t all one other =
+    subst (λ (x : Origin). P x t) (same_Some p o one) (subst (λ (x : TimedStreamView). P p x) (same_Some u t other) all.0)
 at_place P (p ∷ os) (u ∷ ts) (suc k) o t all one other = at_place P os ts k o t all.1 one other
 
 as_many : (P : Origin → TimedStreamView → Type 0) (os : List Origin) (ts : List TimedStreamView) → AllZip P os ts → length os ≡ length ts
@@ -51,8 +53,10 @@ stream_of made inputs origins d input units found fits agree merged k o s from a
     is_stream made inputs o d s (units_of k units) t (at_place (IsFoundIn made inputs) origins input.streams k o t found from here) (agree.each k s t at here)
     (merged.each k t.units (slice_get-map (λ t. t.units) input.streams k ∙ ap (option_map (λ t. t.units)) here)) (fits k none lt)
 
-pub joined_units : (made : Bool) (inputs : List (List FindingView)) (origins : List Origin) (d : Described) (input : JobInputView) (units : List (ℕ × AccessUnit)) →
-    AllZip (IsFoundIn made inputs) origins input.streams → All FitsQueue input.streams → AllAgree d input → AreMerged (map (λ t. t.units) input.streams) units → AreUnitsIn made inputs origins d units
+pub joined_units : (made : Bool) (inputs : List (List FindingView)) (origins : List Origin) (d : Described) (input : JobInputView)
+    (units : List (ℕ × AccessUnit)) →
+    AllZip (IsFoundIn made inputs) origins input.streams → All FitsQueue input.streams → AllAgree d input → AreMerged (map (λ t. t.units) input.streams) units →
+    AreUnitsIn made inputs origins d units
 joined_units made inputs origins d input units found fits agree merged = record {
   same = as_many (IsFoundIn made inputs) origins input.streams found ∙ agree.same;
   streams = stream_of made inputs origins d input units found fits agree merged;

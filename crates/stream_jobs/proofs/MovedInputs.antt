@@ -12,7 +12,8 @@ use Rattle.stream_jobs.specs.ClockBases.{base0_of}
 use Rattle.stream_jobs.specs.declared.declarations.StreamChoice.{StreamChoice}
 use Rattle.stream_jobs.specs.Declarations.{UnitCountsView, too_many, too_long, all_measured, all_unit_counts, choices}
 use Rattle.stream_jobs.specs.BufferWarnings.{buffer_warnings}
-use Rattle.stream_jobs.specs.JobInput.{JobInputView, job_input, with_association, with_programs, with_pids, with_found, with_streams, with_moved, with_unit_counts, job_warnings, named_of, nothing_carried, tables_of}
+use Rattle.stream_jobs.specs.JobInput.{JobInputView, job_input, with_association, with_programs, with_pids, with_found, with_streams, with_moved}
+use Rattle.stream_jobs.specs.JobInput.{with_unit_counts, job_warnings, named_of, nothing_carried, tables_of}
 use Rattle.stream_jobs.specs.Information.{JobInformationView, information_of}
 use Rattle.stream_jobs.specs.JobOptions.{JobOptionsView}
 use Rattle.stream_jobs.specs.JobPrograms.{JobProgramView, job_programs}
@@ -26,14 +27,16 @@ use Rattle.stream_jobs.proofs.CarriedStreams.{all_carried}
 use Rattle.stream_jobs.proofs.Steps.{granted, comes, same_value}
 
 -- what is counted of streams changes neither them, nor the programs, nor the clock, nor what is said of the whole
-record Made (information : JobInformationView) (base : ℕ) (programs : List JobProgramView) (tables : List JobTableView) (streams : List TimedStreamView) (input : JobInputView) : Type 0 where
+record Made (information : JobInformationView) (base : ℕ) (programs : List JobProgramView) (tables : List JobTableView) (streams : List TimedStreamView)
+    (input : JobInputView) : Type 0 where
   information_is : input.information ≡ information
   base0_is : input.base0 ≡ base
   programs_are : input.programs ≡ programs
   tables_are : input.tables ≡ tables
   streams_are : input.streams ≡ streams
 
-made : (options : JobOptionsView) (information : JobInformationView) (base : ℕ) (programs : List JobProgramView) (tables : List JobTableView) (warnings : List Warning) (streams : List TimedStreamView) (input : JobInputView) →
+made : (options : JobOptionsView) (information : JobInformationView) (base : ℕ) (programs : List JobProgramView) (tables : List JobTableView)
+    (warnings : List Warning) (streams : List TimedStreamView) (input : JobInputView) →
     with_moved options information base programs tables warnings streams ≡ Ok input → Made information base programs tables streams input
 unfolding with_moved with_unit_counts
 made options information base programs tables warnings streams input is =
@@ -49,7 +52,8 @@ made options information base programs tables warnings streams input is =
     } in i) in
     let counted = granted (too_long streams) (with_unit_counts options finish streams) input
     (granted (too_many (length programs) (length streams)) (unless (too_long streams) (with_unit_counts options finish streams)) input is) in
-    let all = comes (λ all. and_then (λ chosen. Ok (finish all chosen)) (choices options.declare_by options.lead (all_measured streams) all)) (all_unit_counts options.buffers (all_measured streams)) input counted in
+    let all = comes (λ all. and_then (λ chosen. Ok (finish all chosen)) (choices options.declare_by options.lead (all_measured streams) all))
+    (all_unit_counts options.buffers (all_measured streams)) input counted in
     let chosen = comes (λ chosen. Ok (finish all.value chosen)) (choices options.declare_by options.lead (all_measured streams) all.value) input all.last_is in
     let same : finish all.value chosen.value ≡ input = same_value (finish all.value chosen.value) input chosen.last_is in
     record {
@@ -70,7 +74,8 @@ pub record Moved (options : JobOptionsView) (findings : List FindingView) (input
   pub moved : moved_streams findings (earliest input.programs input.tables streams) input.programs streams ≡ Ok input.streams
   pub base0_is : input.base0 ≡ base0_of options.base (first_base (earliest input.programs input.tables streams) input.programs streams)
 
-pub moved_of : (options : JobOptionsView) (count : ℕ) (findings : List FindingView) (input : JobInputView) → job_input options count findings ≡ Ok input → Moved options findings input
+pub moved_of : (options : JobOptionsView) (count : ℕ) (findings : List FindingView) (input : JobInputView) → job_input options count findings ≡ Ok input →
+    Moved options findings input
 unfolding job_input with_association with_programs with_pids with_found with_streams
 moved_of options count findings input is =
     let associated = comes (with_association options count findings) (ok_or (association findings) refusals.NoAssociation) input
@@ -88,7 +93,8 @@ moved_of options count findings input is =
     let due = earliest programs tables streams in
     let base = base0_of options.base (first_base due programs streams) in
     let timed = comes (with_moved options information base programs tables warnings) (moved_streams findings due programs streams) input
-    (granted (nothing_carried options.strict warnings streams) (and_then (with_moved options information base programs tables warnings) (moved_streams findings due programs streams))
+    (granted (nothing_carried options.strict warnings streams)
+    (and_then (with_moved options information base programs tables warnings) (moved_streams findings due programs streams))
     input assigned.last_is) in
     let done = made options information base programs tables warnings timed.value input timed.last_is in
     record {
@@ -96,8 +102,10 @@ moved_of options count findings input is =
       information_is = done.information_is ∙ ap (information_of options a.transport_stream_id findings) (sym done.programs_are);
       streams = streams;
       carried = all_carried options findings (selected options.without found.streams);
-      moved = ap₂ (λ (ps : List JobProgramView) (ts : List JobTableView). moved_streams findings (earliest ps ts streams) ps streams) done.programs_are done.tables_are
+      moved = ap₂ (λ (ps : List JobProgramView) (ts : List JobTableView). moved_streams findings (earliest ps ts streams) ps streams) done.programs_are
+          done.tables_are
           ∙ subst (λ (ts : List TimedStreamView). moved_streams findings due programs streams ≡ Ok ts) (sym done.streams_are) timed.first_is;
       base0_is = done.base0_is
-          ∙ ap₂ (λ (ps : List JobProgramView) (ts : List JobTableView). base0_of options.base (first_base (earliest ps ts streams) ps streams)) (sym done.programs_are) (sym done.tables_are);
+          ∙ ap₂ (λ (ps : List JobProgramView) (ts : List JobTableView). base0_of options.base (first_base (earliest ps ts streams) ps streams))
+          (sym done.programs_are) (sym done.tables_are);
     }

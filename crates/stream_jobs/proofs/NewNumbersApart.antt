@@ -1,5 +1,6 @@
 -- New numbers are none of those before, and no two of them are equal.
-use Rattle.std.proofs.Common.{◌≡◌, ℕ, ◌==◌, ◌||◌, nat_eq, Bool, true, false, List, [], ◌∷◌, ◌++◌, append_assoc, append-nil, Option, Some, None, refl, sym, ap, subst, ◌∙◌, inl, inr, eq-eqb}
+use Rattle.std.proofs.Common.{◌≡◌, ℕ, ◌==◌, ◌||◌, nat_eq, Bool, true, false, List, [], ◌∷◌, ◌++◌, append_assoc, append-nil, Option, Some, None, refl, sym, ap}
+use Rattle.std.proofs.Common.{subst, ◌∙◌, inl, inr, eq-eqb}
 use Rattle.std.specs.Option.{option_or}
 use Rattle.std.specs.List.{AllByRecursion, IsDistinct, list_any}
 use Rattle.std.specs.Cmp.{nat_eq_equiv}
@@ -51,7 +52,8 @@ is_not x place ns in_it not_in_it = elim (cases_Bool (place == x)) [
 
 -- 2. One place
 
-free_of : (taken : List ℕ) (a b : Option ℕ) (place : ℕ) → ((p : ℕ) → a ≡ Some p → is_taken p taken ≡ false) → ((p : ℕ) → b ≡ Some p → is_taken p taken ≡ false) →
+free_of : (taken : List ℕ) (a b : Option ℕ) (place : ℕ) → ((p : ℕ) → a ≡ Some p → is_taken p taken ≡ false) →
+    ((p : ℕ) → b ≡ Some p → is_taken p taken ≡ false) →
     option_or a b ≡ Some place → is_taken place taken ≡ false
 free_of taken None b place one other is = other place is
 free_of taken (Some p) b place one other is = one place is
@@ -59,7 +61,8 @@ free_of taken (Some p) b place one other is = one place is
 new_is_free : (least number place : ℕ) (taken : List ℕ) → new_place least taken number ≡ Some place → is_taken place taken ≡ false
 unfolding new_place
 new_is_free least number place taken is =
-    free_of taken (least_free number taken) (least_free least taken) place (λ p at. (free_is number taken p at).free) (λ p at. (free_is least taken p at).free) is
+    free_of taken (least_free number taken) (least_free least taken) place (λ p at. (free_is number taken p at).free) (λ p at. (free_is least taken p at).free)
+    is
 
 -- what is left of the numbers of an input after those that were given places
 record AreLeft (own given rest : List ℕ) : Type 0 where
@@ -87,7 +90,8 @@ head_free : (n : ℕ) (ns : List ℕ) → IsDistinct nat_eq (n ∷ ns) → is_ta
 unfolding IsDistinct
 head_free n ns d = not_later n ns d.0
 
-place_is : (least : ℕ) (before own given ns : List ℕ) (n place : ℕ) → AreLeft own given (n ∷ ns) → place_of least before ((before ++ own) ++ given) n ≡ Some place → IsPlace before given ns place
+place_is : (least : ℕ) (before own given ns : List ℕ) (n place : ℕ) → AreLeft own given (n ∷ ns) →
+    place_of least before ((before ++ own) ++ given) n ≡ Some place → IsPlace before given ns place
 unfolding place_of
 place_is least before own given ns n place left is = elim (cases_Bool (is_taken n before)) [
   | inl taken ↦
@@ -122,19 +126,22 @@ still_left before own given ns n place left is = record {
   distinct = tail_distinct n ns left.distinct;
 }
 
-more_apart : (before given ns : List ℕ) (place : ℕ) → IsDistinct nat_eq (before ++ given) → IsPlace before given ns place → IsDistinct nat_eq (before ++ (given ++ place ∷ []))
+more_apart : (before given ns : List ℕ) (place : ℕ) → IsDistinct nat_eq (before ++ given) → IsPlace before given ns place →
+    IsDistinct nat_eq (before ++ (given ++ place ∷ []))
 more_apart before given ns place d is =
     subst (λ (l : List ℕ). IsDistinct nat_eq l) (append_assoc before given (place ∷ []))
     (IsDistinct-push nat_eq_equiv (before ++ given) place d (other_way place (before ++ given) (both place before given is.free_before is.free_given)))
 
-all_apart : (least : ℕ) (before own given rest places : List ℕ) → IsDistinct nat_eq (before ++ given) → AreLeft own given rest → places_after least before own given rest ≡ Some places →
+all_apart : (least : ℕ) (before own given rest places : List ℕ) → IsDistinct nat_eq (before ++ given) → AreLeft own given rest →
+    places_after least before own given rest ≡ Some places →
     IsDistinct nat_eq (before ++ places)
 unfolding places_after
 all_apart least before own given [] places d left is = let same : given ≡ places = cc in subst (λ (l : List ℕ). IsDistinct nat_eq (before ++ l)) same d
 all_apart least before own given (n ∷ ns) places d left is =
     option_and_then_some (λ (place : ℕ). places_after least before own (given ++ place ∷ []) ns) (place_of least before ((before ++ own) ++ given) n) places is
     (λ place at rest. let here = place_is least before own given ns n place left at in
-    all_apart least before own (given ++ place ∷ []) ns places (more_apart before given ns place d here) (still_left before own given ns n place left here) rest)
+    all_apart least before own (given ++ place ∷ []) ns places (more_apart before given ns place d here) (still_left before own given ns n place left here)
+    rest)
 
 none_taken : (x : ℕ) → is_taken x [] ≡ false
 unfolding is_taken

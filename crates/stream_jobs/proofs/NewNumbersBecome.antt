@@ -39,7 +39,8 @@ unfolding places_after
 many least before own given [] places is = let same : given ≡ places = cc in rw (sym same) (let none : length given ≡ length given + 0 = omega arith in none)
 many least before own given (n ∷ ns) places is =
     option_and_then_some (λ (place : ℕ). places_after least before own (given ++ place ∷ []) ns) (place_of least before ((before ++ own) ++ given) n) places is
-    (λ place at rest. let more = many least before own (given ++ place ∷ []) ns places rest in let one = length-append given (place ∷ []) in omega (arith, more, one))
+    (λ place at rest. let more = many least before own (given ++ place ∷ []) ns places rest in let one = length-append given (place ∷ []) in
+    omega (arith, more, one))
 
 pub as_many : (least : ℕ) (before own places : List ℕ) → places_of least before own ≡ Some places → length own ≡ length places
 as_many least before own places is = let more = many least before own [] own places is in omega (arith, more)

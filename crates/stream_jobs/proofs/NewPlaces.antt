@@ -8,7 +8,8 @@ pub more_taken : (front given taken given_then taken_then : List ℕ) (place : �
     taken_then ≡ taken ++ place ∷ [] → taken_then ≡ front ++ given_then
 more_taken front given taken given_then taken_then place is one other = rw (other, is, one) (append_assoc front given (place ∷ []))
 
-pub next_place : (least : ℕ) (before own given after : List ℕ) (i place : ℕ) → i < length own → place_of least before ((before ++ own) ++ given) (get_or own i 0) ≡ Some place →
+pub next_place : (least : ℕ) (before own given after : List ℕ) (i place : ℕ) → i < length own →
+    place_of least before ((before ++ own) ++ given) (get_or own i 0) ≡ Some place →
     after ≡ given ++ place ∷ [] → places_after least before own given (drop i own) ≡ places_after least before own after (drop (i + 1) own)
 unfolding places_after
 next_place least before own given after i place below is made = rw (drop-cons own i 0 below, is, made, add-one i) refl

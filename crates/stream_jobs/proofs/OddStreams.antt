@@ -37,9 +37,11 @@ unfolding framing_for
 no_framing t none = rw (none, framing_for) refl
 
 -- the measures of a stream whose units are not frames of sound
-pub measured_alone : (w : WireStreamView) (units : CountedUnitsView) (first descriptors : List ℕ) → units ≡ counted_units (moved (own_base w) None (wire_of w)) →
+pub measured_alone : (w : WireStreamView) (units : CountedUnitsView) (first descriptors : List ℕ) →
+    units ≡ counted_units (moved (own_base w) None (wire_of w)) →
     first ≡ first_bytes (alone w).units → descriptors ≡ w.descriptors → frame_kind w.stream_type w.descriptors ≡ None →
-    ◌≡◌ {A = MeasuredView} (record { pid = w.pid; stream_id = w.stream_id; stream_type = w.stream_type; descriptors = descriptors; first = first; framing = None; units = units })
+    ◌≡◌ {A = MeasuredView}
+    (record { pid = w.pid; stream_id = w.stream_id; stream_type = w.stream_type; descriptors = descriptors; first = first; framing = None; units = units })
     (measured (alone w))
 unfolding measured alone with_moments
 measured_alone w units first descriptors counted bytes same frames =

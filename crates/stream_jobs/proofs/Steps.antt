@@ -36,4 +36,5 @@ each_all {A} {B} f Q P holds (x ∷ xs) ys all is =
     let first = comes (λ y. and_then (λ zs. Ok (y ∷ zs)) (each f xs)) (f x) ys is in
     let rest = comes (λ zs. Ok (first.value ∷ zs)) (each f xs) ys first.last_is in
     subst (λ (l : List B). All P l) (same_value (first.value ∷ rest.value) ys rest.last_is)
-    (All-cons P first.value rest.value (holds x first.value (All-head Q x xs all) first.first_is) (each_all f Q P holds xs rest.value (All-tail Q x xs all) rest.first_is))
+    (All-cons P first.value rest.value (holds x first.value (All-head Q x xs all) first.first_is)
+    (each_all f Q P holds xs rest.value (All-tail Q x xs all) rest.first_is))

@@ -48,8 +48,11 @@ head_of s ms = record {
 }
 
 -- its units have those of the constant of its program's clock
-pub moved_leads : (made : Bool) (findings : List FindingView) (due base : ℕ) (programs : List JobProgramView) (all : List FirstDts) (s : WireStreamView) (ms : List UnitMoment) (h : StreamMomentsView) →
-    base ≡ base_of due all (clock_in programs s.program) → IsCarried made findings s → first_fault (pts_limit_of s.stream_type s.descriptors) base None 0 (wire_of s) ≡ None → ms ≡ map moment_of (moved base None (wire_of s)) → h ≡ head_of s ms →
+pub moved_leads : (made : Bool) (findings : List FindingView) (due base : ℕ) (programs : List JobProgramView) (all : List FirstDts) (s : WireStreamView)
+    (ms : List UnitMoment) (h : StreamMomentsView) →
+    base ≡ base_of due all (clock_in programs s.program) → IsCarried made findings s →
+    first_fault (pts_limit_of s.stream_type s.descriptors) base None 0 (wire_of s) ≡ None → ms ≡ map moment_of (moved base None (wire_of s)) →
+    h ≡ head_of s ms →
     moved_by findings due programs all s ≡ Ok (timed_stream findings h)
 unfolding moved_by moved_stream with_moments with_units unless
 moved_leads made findings due base programs all s ms h based carried sound is head =
@@ -64,7 +67,8 @@ moved_leads made findings due base programs all s ms h based carried sound is he
     }) in r) (sym (at_source made s.pid base findings s.units ms carried is)))
 
 pub moved_is : (made : Bool) (findings : List FindingView) (base : ℕ) (s : WireStreamView) (ms : List UnitMoment) (h : StreamMomentsView) →
-    base < 2 ^ 33 → IsCarried made findings s → first_fault (pts_limit_of s.stream_type s.descriptors) base None 0 (wire_of s) ≡ None → ms ≡ map moment_of (moved base None (wire_of s)) → h ≡ head_of s ms →
+    base < 2 ^ 33 → IsCarried made findings s → first_fault (pts_limit_of s.stream_type s.descriptors) base None 0 (wire_of s) ≡ None →
+    ms ≡ map moment_of (moved base None (wire_of s)) → h ≡ head_of s ms →
     IsMoved made findings (timed_stream findings h)
 unfolding with_units
 moved_is made findings base s ms h range carried sound is head =
@@ -73,14 +77,18 @@ moved_is made findings base s ms h range carried sound is head =
       moved = record {
         range = range;
         limit = pts_limit_of s.stream_type s.descriptors;
-        sound = subst (λ (us : List CarriedUnit). first_fault (pts_limit_of s.stream_type s.descriptors) base None 0 (map (λ (u : CarriedUnit). u.unit) us) ≡ None) carried sound;
-        are = at_source made s.pid base findings s.units ms carried is ∙ ap (λ (us : List CarriedUnit). moved base None (map (λ (u : CarriedUnit). u.unit) us)) carried;
+        sound = subst
+            (λ (us : List CarriedUnit). first_fault (pts_limit_of s.stream_type s.descriptors) base None 0 (map (λ (u : CarriedUnit). u.unit) us) ≡ None)
+            carried sound;
+        are = at_source made s.pid base findings s.units ms carried is ∙ ap (λ (us : List CarriedUnit). moved base None (map (λ (u : CarriedUnit). u.unit) us))
+            carried;
       };
     } in
     rw head are
 
 -- an input of these streams has them
-pub are_streams : (made : Bool) (findings : List FindingView) (streams : List TimedStreamView) (r : Result JobInputView JobError) → All (IsMoved made findings) streams →
+pub are_streams : (made : Bool) (findings : List FindingView) (streams : List TimedStreamView) (r : Result JobInputView JobError) →
+    All (IsMoved made findings) streams →
     IfOk r (λ i. i.streams ≡ streams) → IfOk r (λ i. All FitsQueue i.streams) → IfOk r (λ i. length i.streams ≤ 32) → IfOk r (AreStreams made findings)
 are_streams made findings streams (Ok i) all same fits count =
     record { moved = subst (All (IsMoved made findings)) (sym same) all; fits = fits; stream_count = count }

@@ -22,7 +22,11 @@ same_entry None t e = absurd cc
 same_entry (Some x) t e =
     let all = and_parts _ _ e in
     let after_program = and_parts _ _ all.1 in
-    rw (sym (eqb-true x.program t.program all.0), sym (eqb-true x.stream_type t.stream_type after_program.0), sym (same_bytes x.descriptors t.descriptors after_program.1)) refl
+    rw (
+      sym (eqb-true x.program t.program all.0),
+      sym (eqb-true x.stream_type t.stream_type after_program.0),
+      sym (same_bytes x.descriptors t.descriptors after_program.1),
+    ) refl
 
 -- a table that passes the test is the declared one
 pub table_is : (s : DescribedTable) (t : JobTableView) → is_table s t ≡ true → IsTable s t

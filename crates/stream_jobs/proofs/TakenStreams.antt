@@ -15,7 +15,8 @@ use Rattle.stream_jobs.specs.TakenStreams.{StayCarried}
 pub stay_same : (pids : List ℕ) (old : List FindingView) → StayCarried pids old old
 stay_same pids old pid among = refl
 
-apart_by : (pid other : ℕ) (pids : List ℕ) (same : Bool) → (pid == other) ≡ same → is_among pid pids ≡ false → is_among other pids ≡ true → (pid == other) ≡ false
+apart_by : (pid other : ℕ) (pids : List ℕ) (same : Bool) → (pid == other) ≡ same → is_among pid pids ≡ false → is_among other pids ≡ true →
+    (pid == other) ≡ false
 apart_by pid other pids false is none some = is
 apart_by pid other pids true is none some =
     absurd (let equal : pid ≡ other = eqb-true pid other is in let no : true ≡ false = sym some ∙ ap (λ (p : ℕ). is_among p pids) (sym equal) ∙ none in cc)
@@ -56,8 +57,10 @@ taken_start old pids left none are is = record { pids_are = are; stay = stay_sam
 tail_same : (a b : ℕ) (more others : List ℕ) → (let l : List ℕ = a ∷ more in l) ≡ b ∷ others → (a ≡ b) × (more ≡ others)
 tail_same a b more others is = (cc, cc)
 
-pub taken_more : (old now next : List FindingView) (pids later : List ℕ) (pid : ℕ) (left rest : List StreamMomentsView) (s : StreamMomentsView) (us : List CarriedUnit) (t : TimedStreamView) (all out after : List TimedStreamView) →
-    Taken old now pids left all out → pids ≡ pid ∷ later → left ≡ s ∷ rest → us ≡ carried_units pid now → StayCarried later now next → t ≡ with_units s us → after ≡ out ++ t ∷ [] →
+pub taken_more : (old now next : List FindingView) (pids later : List ℕ) (pid : ℕ) (left rest : List StreamMomentsView) (s : StreamMomentsView)
+    (us : List CarriedUnit) (t : TimedStreamView) (all out after : List TimedStreamView) →
+    Taken old now pids left all out → pids ≡ pid ∷ later → left ≡ s ∷ rest → us ≡ carried_units pid now → StayCarried later now next → t ≡ with_units s us →
+    after ≡ out ++ t ∷ [] →
     Taken old next later rest all after
 taken_more old now next pids later pid left rest s us t all out after before first next_is units others made pushed =
     let two = tail_same pid s.pid later (pids_of rest) (sym first ∙ before.pids_are ∙ ap pids_of next_is) in
@@ -68,8 +71,11 @@ taken_more old now next pids later pid left rest s us t all out after before fir
       stay = λ other some. others other some ∙ stays other (among_later other pid later some);
       timed = before.timed ∙ ap (λ (l : List StreamMomentsView). out ++ map (timed_stream old) l) next_is
           ∙ sym (append_assoc out (timed_stream old s ∷ []) (map (timed_stream old) rest))
-          ∙ ap (λ (l : List TimedStreamView). l ++ map (timed_stream old) rest) (sym (pushed ∙ ap (λ (u : TimedStreamView). out ++ u ∷ []) (made ∙ ap (with_units s) found)));
+          ∙ ap (λ (l : List TimedStreamView). l ++ map (timed_stream old) rest)
+          (sym (pushed ∙ ap (λ (u : TimedStreamView). out ++ u ∷ []) (made ∙ ap (with_units s) found)));
     }
 
-pub taken_end : (old now : List FindingView) (pids : List ℕ) (left : List StreamMomentsView) (all out : List TimedStreamView) → Taken old now pids left all out → left ≡ [] → out ≡ all
-taken_end old now pids left all out before none = sym (before.timed ∙ ap (λ (l : List StreamMomentsView). out ++ map (timed_stream old) l) none ∙ append-nil out)
+pub taken_end : (old now : List FindingView) (pids : List ℕ) (left : List StreamMomentsView) (all out : List TimedStreamView) →
+    Taken old now pids left all out → left ≡ [] → out ≡ all
+taken_end old now pids left all out before none =
+    sym (before.timed ∙ ap (λ (l : List StreamMomentsView). out ++ map (timed_stream old) l) none ∙ append-nil out)

@@ -1,5 +1,6 @@
 -- Rates that are tried one after another.
-use Rattle.std.proofs.Common.{◌≡◌, ◌≤◌, ◌<◌, ℕ, zero, suc, ◌+◌, ◌-◌, true, false, nat_le, List, [], ◌∷◌, ◌++◌, map, All, refl, sym, subst, ap, ◌∙◌, arith, append_assoc, append-nil}
+use Rattle.std.proofs.Common.{◌≡◌, ◌≤◌, ◌<◌, ℕ, zero, suc, ◌+◌, ◌-◌, true, false, nat_le, List, [], ◌∷◌, ◌++◌, map, All, refl, sym, subst, ap, ◌∙◌, arith}
+use Rattle.std.proofs.Common.{append_assoc, append-nil}
 use Rattle.std.proofs.lemmas.Bool.Decides.{nat_tests}
 use Rattle.std.proofs.lemmas.List.Elements.{All-nil, All-cons, All-append}
 use Rattle.std.proofs.lemmas.List.FromFn.{map-range_with_len_more}
@@ -57,7 +58,8 @@ pub all_spent : (P : ℕ → Type 0) (k first rate : ℕ) → ArePassed P first 
 all_spent P k first rate passed h = ended P k first rate (spent k rate h) passed
 
 -- this one is tried
-pub tried_after : (options : JobOptionsView) (input : JobInputView) (k first rate : ℕ) → ArePassed (IsUnserved options input) first k rate → k < 96 → rate ≤ 100_000_000 →
+pub tried_after : (options : JobOptionsView) (input : JobInputView) (k first rate : ℕ) → ArePassed (IsUnserved options input) first k rate → k < 96 →
+    rate ≤ 100_000_000 →
     IsTriedFrom options input first rate
 tried_after options input k first rate passed within h = record {
   before = passed.before;
@@ -67,7 +69,8 @@ tried_after options input k first rate passed within h = record {
 }
 
 -- it is passed too
-pub one_passed : (P : ℕ → Type 0) (k first rate : ℕ) → ArePassed P first k rate → k < 96 → rate ≤ 100_000_000 → P rate → ArePassed P first (k + 1) (next_rate k rate)
+pub one_passed : (P : ℕ → Type 0) (k first rate : ℕ) → ArePassed P first k rate → k < 96 → rate ≤ 100_000_000 → P rate →
+    ArePassed P first (k + 1) (next_rate k rate)
 one_passed P k first rate passed within h one =
     let rest = rates_from (96 - (k + 1)) (k + 1) (next_rate k rate) in
     record {
@@ -80,8 +83,10 @@ one_passed P k first rate passed within h one =
 pub tables_more : {X : Type 0} (f : ℕ → X) (n : ℕ) → map f (range_with_len 0 (n + 1)) ≡ map f (range_with_len 0 n) ++ f n ∷ []
 tables_more f n = map-range_with_len_more f 0 n n (omega arith)
 
-pub pushed_table : {X : Type 0} (f : ℕ → X) (old : List X) (now : List X) (n : ℕ) → now ≡ old ++ map f (range_with_len 0 n) → now ++ f n ∷ [] ≡ old ++ map f (range_with_len 0 (n + 1))
+pub pushed_table : {X : Type 0} (f : ℕ → X) (old : List X) (now : List X) (n : ℕ) → now ≡ old ++ map f (range_with_len 0 n) →
+    now ++ f n ∷ [] ≡ old ++ map f (range_with_len 0 (n + 1))
 pushed_table f old now n so_far = rw (so_far, tables_more f n) (append_assoc old (map f (range_with_len 0 n)) (f n ∷ []))
 
-pub all_tables : {X : Type 0} (f : ℕ → X) (old : List X) (now : List X) (n count : ℕ) → now ≡ old ++ map f (range_with_len 0 n) → n ≡ count → now ≡ old ++ map f (range_with_len 0 count)
+pub all_tables : {X : Type 0} (f : ℕ → X) (old : List X) (now : List X) (n count : ℕ) → now ≡ old ++ map f (range_with_len 0 n) → n ≡ count →
+    now ≡ old ++ map f (range_with_len 0 count)
 all_tables f old now n count so_far same = so_far ∙ ap (λ k. old ++ map f (range_with_len 0 k)) same

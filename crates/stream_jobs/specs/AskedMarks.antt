@@ -29,4 +29,5 @@ as_asked options findings = all_marked (marking_of options findings) findings
 
 -- where none is asked for, nothing changes
 abbrev pub NoneIsAsked : Type 0
-NoneIsAsked = (options : JobOptionsView) (findings : List FindingView) → options.mark_access ≡ false → options.aligned ≡ [] → as_asked options findings ≡ findings
+NoneIsAsked = (options : JobOptionsView) (findings : List FindingView) → options.mark_access ≡ false → options.aligned ≡ [] →
+    as_asked options findings ≡ findings

@@ -1,5 +1,6 @@
 -- Warnings about the buffers that are declared of the streams of a job.
-use Rattle.std.specs.Prelude.{ℕ, ◌*◌, ◌/◌, ◌==◌, ◌||◌, ◌++◌, nat_lt, if◌then◌else◌, List, [], ◌∷◌, flat_map, zip, Option, Some, None, is_some, option_map, option_to_list}
+use Rattle.std.specs.Prelude.{ℕ, ◌*◌, ◌/◌, ◌==◌, ◌||◌, ◌++◌, nat_lt, if◌then◌else◌, List, [], ◌∷◌, flat_map, zip, Option, Some, None, is_some, option_map}
+use Rattle.std.specs.Prelude.{option_to_list}
 use Rattle.clock27.specs.Units.{slot_units_at_1bps}
 use Rattle.unit_timing.specs.Shares.{parts}
 use Rattle.unit_timing.specs.declared.multiplexing_buffer.MultiplexingBuffer.{MultiplexingBuffer}

@@ -1,5 +1,6 @@
 -- What a description declares of the streams of a job.
-use Rattle.std.specs.Prelude.{ℕ, ◌+◌, ◌-◌, ◌*◌, ◌/◌, ◌^◌, ◌==◌, ◌&&◌, ◌||◌, min, max, nat_le, nat_lt, Bool, if◌then◌else◌, List, [], ◌∷◌, length, map, find, zip, sum_by, unwrap_or, ok_or, Option, Some, None, is_some, option_map, option_and_then, Result, Ok}
+use Rattle.std.specs.Prelude.{ℕ, ◌+◌, ◌-◌, ◌*◌, ◌/◌, ◌^◌, ◌==◌, ◌&&◌, ◌||◌, min, max, nat_le, nat_lt, Bool, if◌then◌else◌, List, [], ◌∷◌, length, map, find}
+use Rattle.std.specs.Prelude.{zip, sum_by, unwrap_or, ok_or, Option, Some, None, is_some, option_map, option_and_then, Result, Ok}
 use Rattle.std.specs.List.{range_with_len}
 use Rattle.clock27.specs.Units.{slot_units_at_1bps}
 use Rattle.clock27.specs.declared.rate.TheConstants.{LEAST_RATE}
@@ -148,7 +149,8 @@ size_refusal m = if nat_lt (greatest_size m.stream_id) m.units.largest then Some
 
 unfoldable pub unit_counts : List PidBuffers → MeasuredView → Result UnitCountsView JobRefusal
 unit_counts given m =
-    unless (size_refusal m) (Ok (record { needs = needs_of given m; multiplexing = multiplexing_for given m; framing = m.framing; max_group_packets = max_group_packets m }))
+    unless (size_refusal m)
+    (Ok (record { needs = needs_of given m; multiplexing = multiplexing_for given m; framing = m.framing; max_group_packets = max_group_packets m }))
 
 abbrev pub all_unit_counts : List PidBuffers → List MeasuredView → Result (List UnitCountsView) JobRefusal
 all_unit_counts given streams = each (unit_counts given) streams
@@ -201,7 +203,8 @@ choice_of by.Either lead sum buffer units c = preferred (groups_of lead sum buff
 
 -- it, with the multiplexing buffer that it keeps
 abbrev pub kept : DeclareBy → ℕ → ℕ → Option MultiplexingBuffer → UnitRunsView → UnitCountsView → Option StreamChoice
-kept declare_by lead sum buffer units c = option_map (λ choice. record { choice = choice; multiplexing = buffer }) (choice_of declare_by lead sum buffer units c)
+kept declare_by lead sum buffer units c =
+    option_map (λ choice. record { choice = choice; multiplexing = buffer }) (choice_of declare_by lead sum buffer units c)
 
 unfoldable pub first_kept : Option StreamChoice → Option StreamChoice → Option StreamChoice
 first_kept (Some choice) other = Some choice

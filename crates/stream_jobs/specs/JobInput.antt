@@ -1,5 +1,6 @@
 -- What a job is made of: the programs and streams of a transport stream, and what is declared of their units.
-use Rattle.std.specs.Prelude.{ℕ, ◌==◌, ◌&&◌, not, Bool, true, false, if◌then◌else◌, List, [], ◌∷◌, ◌++◌, length, map, filter, flat_map, ok_or, Option, Some, None, Result, Ok}
+use Rattle.std.specs.Prelude.{ℕ, ◌==◌, ◌&&◌, not, Bool, true, false, if◌then◌else◌, List, [], ◌∷◌, ◌++◌, length, map, filter, flat_map, ok_or, Option, Some}
+use Rattle.std.specs.Prelude.{None, Result, Ok}
 use Rattle.std.specs.List.{list_any}
 use Rattle.std.specs.Option.{option_or}
 use Rattle.psi_tables.specs.declared.pat.programs.Program.{Program}
@@ -81,7 +82,8 @@ unfoldable pub service_warnings : List ServiceNameView → List FindingView → 
 service_warnings names findings programs = text_warnings names findings programs ++ programs_information findings programs
 
 -- and about programs, what of the streams is in no unit, and services
-unfoldable pub job_warnings : JobOptionsView → ℕ → List FindingView → AssociationView → List Program → FoundProgramsView → List ProgramPids → List WireStreamView → List Warning
+unfoldable pub job_warnings : JobOptionsView → ℕ → List FindingView → AssociationView → List Program → FoundProgramsView → List ProgramPids →
+    List WireStreamView → List Warning
 job_warnings options count findings a named found assigned streams =
     ((stream_warnings options count findings a named found ++ all_program_warnings streams found.programs assigned)
     ++ flat_map (λ s. pid_warnings count findings s.pid) streams)
@@ -90,13 +92,15 @@ job_warnings options count findings a named found assigned streams =
 -- 2. What it is made of, step by step
 
 -- streams with their units at moments, and the counts of their units
-unfoldable pub with_unit_counts : JobOptionsView → (List UnitCountsView → List StreamChoice → JobInputView) → List TimedStreamView → Result JobInputView JobRefusal
+unfoldable pub with_unit_counts : JobOptionsView → (List UnitCountsView → List StreamChoice → JobInputView) → List TimedStreamView →
+    Result JobInputView JobRefusal
 with_unit_counts options finish streams =
     and_then (λ all. and_then (λ chosen. Ok (finish all chosen)) (choices options.declare_by options.lead (all_measured streams) all))
     (all_unit_counts options.buffers (all_measured streams))
 
 -- the last warnings are about their buffers
-unfoldable pub with_moved : JobOptionsView → JobInformationView → ℕ → List JobProgramView → List JobTableView → List Warning → List TimedStreamView → Result JobInputView JobRefusal
+unfoldable pub with_moved : JobOptionsView → JobInformationView → ℕ → List JobProgramView → List JobTableView → List Warning → List TimedStreamView →
+    Result JobInputView JobRefusal
 with_moved options information base programs tables all_warnings streams =
     unless (too_many (length programs) (length streams))
     (unless (too_long streams)
@@ -129,10 +133,12 @@ nothing_carried strict all_warnings streams =
     if length streams == 0 then first_why false all_warnings else (if strict then first_why true all_warnings else None)
 
 -- streams with their units as on the wire
-unfoldable pub with_streams : JobOptionsView → List FindingView → ℕ → List JobProgramView → List JobTableView → List Warning → List WireStreamView → Result JobInputView JobRefusal
+unfoldable pub with_streams : JobOptionsView → List FindingView → ℕ → List JobProgramView → List JobTableView → List Warning → List WireStreamView →
+    Result JobInputView JobRefusal
 with_streams options findings id programs tables all_warnings streams =
     unless (nothing_carried options.strict all_warnings streams)
-    (and_then (with_moved options (information_of options id findings programs) (base0_of options.base (first_base (earliest programs tables streams) programs streams)) programs tables all_warnings)
+    (and_then (with_moved options (information_of options id findings programs)
+    (base0_of options.base (first_base (earliest programs tables streams) programs streams)) programs tables all_warnings)
     (moved_streams findings (earliest programs tables streams) programs streams))
 
 -- the tables of programs that are given PIDs
@@ -141,14 +147,16 @@ tables_of options count findings found assigned streams =
     job_tables options.without count findings (job_programs streams found.programs assigned) streams found.tables
 
 -- these streams, programs, and the PIDs that they are given
-unfoldable pub with_found : JobOptionsView → ℕ → List FindingView → AssociationView → List Program → FoundProgramsView → List ProgramPids → List WireStreamView → Result JobInputView JobRefusal
+unfoldable pub with_found : JobOptionsView → ℕ → List FindingView → AssociationView → List Program → FoundProgramsView → List ProgramPids →
+    List WireStreamView → Result JobInputView JobRefusal
 with_found options count findings a named found assigned streams =
     with_streams options findings a.transport_stream_id (job_programs streams found.programs assigned)
     (tables_of options count findings found assigned streams)
     (told (tables_of options count findings found assigned streams) (job_warnings options count findings a named found assigned streams)) streams
 
 -- with the streams that can be carried
-unfoldable pub with_pids : JobOptionsView → ℕ → List FindingView → AssociationView → List Program → FoundProgramsView → List ProgramPids → Result JobInputView JobRefusal
+unfoldable pub with_pids : JobOptionsView → ℕ → List FindingView → AssociationView → List Program → FoundProgramsView → List ProgramPids →
+    Result JobInputView JobRefusal
 with_pids options count findings a named found assigned =
     with_found options count findings a named found assigned (wire_streams options findings found.streams)
 

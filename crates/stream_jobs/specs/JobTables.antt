@@ -1,5 +1,6 @@
 -- The private tables of a job: sections of its programs that do not change.
-use Rattle.std.specs.Prelude.{ℕ, ◌-◌, ◌*◌, ◌==◌, ◌&&◌, not, min, max, nat_le, Bool, true, if◌then◌else◌, List, [], ◌∷◌, length, take, filter, find, flat_map, slice_get, unwrap_or, Option, Some, None, option_map}
+use Rattle.std.specs.Prelude.{ℕ, ◌-◌, ◌*◌, ◌==◌, ◌&&◌, not, min, max, nat_le, Bool, true, if◌then◌else◌, List, [], ◌∷◌, length, take, filter, find, flat_map}
+use Rattle.std.specs.Prelude.{slice_get, unwrap_or, Option, Some, None, option_map}
 use Rattle.std.specs.Int.{div_ceil}
 use Rattle.std.specs.List.{list_any}
 use Rattle.pes_packet.specs.AccessUnits.{AccessUnit}

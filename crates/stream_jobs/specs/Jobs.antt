@@ -1,5 +1,6 @@
 -- What a job is of what a demultiplexer finds.
-use Rattle.std.specs.Prelude.{◌≡◌, ◌≤◌, ◌<◌, ⊤, ℕ, nat_le, ◌==◌, ◌&&◌, Bool, true, false, if◌then◌else◌, List, [], ◌∷◌, length, map, slice_get, Option, Some, None, All}
+use Rattle.std.specs.Prelude.{◌≡◌, ◌≤◌, ◌<◌, ⊤, ℕ, nat_le, ◌==◌, ◌&&◌, Bool, true, false, if◌then◌else◌, List, [], ◌∷◌, length, map, slice_get, Option, Some}
+use Rattle.std.specs.Prelude.{None, All}
 use Rattle.std.specs.Option.{option_or}
 use Rattle.std.specs.Str.{bytes_eq}
 use Rattle.pes_packet.specs.AccessUnits.{AccessUnit}
@@ -167,7 +168,8 @@ are_counted d input =
 unfoldable pub disagreeing : Described → JobInputView → Option ℕ
 disagreeing d input =
     if are_counted d input
-    then option_or (first_other_program d.programs input.programs) (option_or (first_other_table d.tables input.tables) (first_disagreeing d d.streams input.streams))
+    then option_or (first_other_program d.programs input.programs)
+    (option_or (first_other_table d.tables input.tables) (first_disagreeing d d.streams input.streams))
     else Some 0
 
 -- 3. Units

@@ -1,5 +1,6 @@
 -- The inputs of a job as one: their programs and streams one after another.
-use Rattle.std.specs.Prelude.{◌≡◌, ◌≤◌, ◌<◌, ⊤, ℕ, zero, suc, ◌+◌, ◌-◌, ◌^◌, min, ◌==◌, ◌&&◌, ◌||◌, not, nat_lt, Bool, true, false, if◌then◌else◌, List, [], ◌∷◌, ◌++◌, length, map, take, slice_get, ok_or, Option, Some, None, Result, Ok, All}
+use Rattle.std.specs.Prelude.{◌≡◌, ◌≤◌, ◌<◌, ⊤, ℕ, zero, suc, ◌+◌, ◌-◌, ◌^◌, min, ◌==◌, ◌&&◌, ◌||◌, not, nat_lt, Bool, true, false, if◌then◌else◌, List, []}
+use Rattle.std.specs.Prelude.{◌∷◌, ◌++◌, length, map, take, slice_get, ok_or, Option, Some, None, Result, Ok, All}
 use Rattle.std.specs.List.{AllZip}
 use Rattle.std.specs.Str.{bytes_eq}
 use Rattle.pes_packet.specs.AccessUnits.{AccessUnit}
@@ -191,7 +192,8 @@ AreMovedByOne made inputs constant number (m ∷ ms) =
 
 -- each clock of each input keeps its constant
 abbrev pub JoinedKeepConstants : Type 0
-JoinedKeepConstants = (made : Bool) (inputs : List (List FindingView)) (constant : ℕ → ProgramClock → ℕ) (first : JobInputView) (more : List JobInputView) (j : JoinedInputsView) →
+JoinedKeepConstants = (made : Bool) (inputs : List (List FindingView)) (constant : ℕ → ProgramClock → ℕ) (first : JobInputView) (more : List JobInputView)
+    (j : JoinedInputsView) →
     AreMovedByOne made inputs constant 0 (first ∷ more) → joined_inputs first more ≡ Ok j → AllZip (IsMovedIn made inputs constant) j.origins j.input.streams
 
 -- 6. The units of a job of joined inputs
@@ -205,5 +207,6 @@ pub record IsStreamIn (made : Bool) (inputs : List (List FindingView)) (o : Orig
 -- so have all streams of the description, in the order in which they were found
 pub record AreUnitsIn (made : Bool) (inputs : List (List FindingView)) (origins : List Origin) (d : Described) (units : List (ℕ × AccessUnit)) : Type 0 where
   pub same : length origins ≡ length d.streams
-  pub streams : (k : ℕ) (o : Origin) (s : DescribedStream) → slice_get origins k ≡ Some o → slice_get d.streams k ≡ Some s → IsStreamIn made inputs o d s (units_of k units)
+  pub streams : (k : ℕ) (o : Origin) (s : DescribedStream) → slice_get origins k ≡ Some o → slice_get d.streams k ≡ Some s →
+      IsStreamIn made inputs o d s (units_of k units)
   pub numbered : All (λ e. e.0 < length d.streams) units

@@ -1,5 +1,6 @@
 -- The units of streams at the moments of a run.
-use Rattle.std.specs.Prelude.{ℕ, ◌+◌, ◌*◌, ◌%◌, ◌^◌, nat_lt, ◌==◌, Bool, is_none, if◌then◌else◌, List, [], ◌∷◌, length, map, filter, sum_by, slice_get, unwrap_or, None, option_map, Result, Ok}
+use Rattle.std.specs.Prelude.{ℕ, ◌+◌, ◌*◌, ◌%◌, ◌^◌, nat_lt, ◌==◌, Bool, is_none, if◌then◌else◌, List, [], ◌∷◌, length, map, filter, sum_by, slice_get}
+use Rattle.std.specs.Prelude.{unwrap_or, None, option_map, Result, Ok}
 use Rattle.std.specs.List.{list_any}
 use Rattle.pes_packet.specs.AccessUnits.{AccessUnit}
 use Rattle.demux.specs.Views.{FindingView}
@@ -111,7 +112,8 @@ with_moments base s = record {
 -- a stream with its units at moments by a constant
 unfoldable pub moved_stream : List FindingView → ℕ → WireStreamView → Result TimedStreamView JobRefusal
 moved_stream findings base s =
-    unless (option_map (stamps_refusal findings s.pid) (first_fault (pts_limit_of s.stream_type s.descriptors) base None 0 (wire_of s))) (Ok (with_moments base s))
+    unless (option_map (stamps_refusal findings s.pid) (first_fault (pts_limit_of s.stream_type s.descriptors) base None 0 (wire_of s)))
+    (Ok (with_moments base s))
 
 -- those of a clock have one constant
 unfoldable pub moved_by : List FindingView → ℕ → List JobProgramView → List FirstDts → WireStreamView → Result TimedStreamView JobRefusal

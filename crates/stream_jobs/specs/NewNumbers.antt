@@ -1,5 +1,6 @@
 -- New numbers for programs, and new PIDs, where the inputs before have them.
-use Rattle.std.specs.Prelude.{◌≡◌, ℕ, ◌==◌, nat_eq, not, Bool, if◌then◌else◌, List, [], ◌∷◌, ◌++◌, map, filter, find, zip, Option, Some, option_map, option_and_then, unwrap_or}
+use Rattle.std.specs.Prelude.{◌≡◌, ℕ, ◌==◌, nat_eq, not, Bool, if◌then◌else◌, List, [], ◌∷◌, ◌++◌, map, filter, find, zip, Option, Some, option_map}
+use Rattle.std.specs.Prelude.{option_and_then, unwrap_or}
 use Rattle.std.specs.Option.{option_or}
 use Rattle.std.specs.List.{IsDistinct}
 use Rattle.stream_programs.specs.FreePids.{is_taken, least_free}

@@ -12,4 +12,5 @@ pub record AreApart (m : JobInputView) : Type 0 where
 
 -- so it is of inputs that are joined, where it is so of each
 abbrev pub JoinedAreApart : Type 0
-JoinedAreApart = (first : JobInputView) (more : List JobInputView) (j : JoinedInputsView) → All AreApart (first ∷ more) → joined_inputs first more ≡ Ok j → AreApart j.input
+JoinedAreApart = (first : JobInputView) (more : List JobInputView) (j : JoinedInputsView) → All AreApart (first ∷ more) → joined_inputs first more ≡ Ok j →
+    AreApart j.input

@@ -1,5 +1,6 @@
 -- The rates at which a plan is looked for.
-use Rattle.std.specs.Prelude.{◌≡◌, ◌⊎◌, ℕ, zero, suc, ◌+◌, ◌/◌, ◌-◌, ◌^◌, min, nat_le, nat_lt, false, if◌then◌else◌, List, [], ◌∷◌, ◌++◌, map, Option, Some, None, Ok, All}
+use Rattle.std.specs.Prelude.{◌≡◌, ◌⊎◌, ℕ, zero, suc, ◌+◌, ◌/◌, ◌-◌, ◌^◌, min, nat_le, nat_lt, false, if◌then◌else◌, List, [], ◌∷◌, ◌++◌, map, Option, Some}
+use Rattle.std.specs.Prelude.{None, Ok, All}
 use Rattle.std.specs.List.{range_with_len}
 use Rattle.description_parts.specs.Described.{Described, DescribedProgram}
 use Rattle.description.specs.Reading.{description_of}

@@ -1,5 +1,6 @@
 -- The streams of a job, their units with the stamps on the wire.
-use Rattle.std.specs.Prelude.{ℕ, Bool, true, false, is_some, if◌then◌else◌, List, [], ◌∷◌, slice_get, filter, flat_map, ok_or, Option, Some, None, option_map, option_and_then, option_to_list, Result, Ok, Err}
+use Rattle.std.specs.Prelude.{ℕ, Bool, true, false, is_some, if◌then◌else◌, List, [], ◌∷◌, slice_get, filter, flat_map, ok_or, Option, Some, None, option_map}
+use Rattle.std.specs.Prelude.{option_and_then, option_to_list, Result, Ok, Err}
 use Rattle.std.specs.List.{list_any}
 use Rattle.demux.specs.Views.{FindingView}
 use Rattle.stream_coding.specs.Codings.{is_ac3}

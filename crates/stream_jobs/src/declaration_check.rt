@@ -181,9 +181,9 @@ fn are_counted(description: &Description, input: &JobInput) -> bool
         && description.private_tables().len() == input.tables.len()
 }
 
-/// Returns the PID of the clock references of the first program that is not the declared one, else that of the first private table
-/// that is not, else that of the first stream that is not, or of whose units the description does not declare what they need; 0
-/// where there are not as many of any, or the clock begins otherwise.
+/// Returns the PID of the clock references of the first program that is not the declared one, else that of the first
+/// private table that is not, else that of the first stream that is not, or of whose units the description does not
+/// declare what they need; 0 where there are not as many of any, or the clock begins otherwise.
 #[tactic(auto, using(crate::proofs::WholeAgreement::in_turn), unfolding(crate::specs::Jobs::disagreeing))]
 pub(crate) fn disagreeing(
     alloc: Global,

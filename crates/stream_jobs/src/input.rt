@@ -185,12 +185,12 @@ fn input_of(
     finished(alloc, options, draft, findings)
 }
 
-/// Returns what a job of these findings is made of; `count` is the number of whole packets of the stream. The streams of
-/// all programs on one clock are moved by one constant. A stream that a job can't carry is left out, with a warning. Returns
-/// the first refusal that applies: more than half of the packets are none, no program association table, no program with a
-/// map, no PID left; no stream, since none can be written, is clear, or can be carried; stamps that are no moments; too many
-/// programs, streams, or units of a stream; a unit that is too large, and buffers where units can't wait. The bodies of the
-/// units are moved out of the findings.
+/// Returns what a job of these findings is made of; `count` is the number of whole packets of the stream. The streams
+/// of all programs on one clock are moved by one constant. A stream that a job can't carry is left out, with a warning.
+/// Returns the first refusal that applies: more than half of the packets are none, no program association table, no
+/// program with a map, no PID left; no stream, since none can be written, is clear, or can be carried; stamps that are
+/// no moments; too many programs, streams, or units of a stream; a unit that is too large, and buffers where units
+/// can't wait. The bodies of the units are moved out of the findings.
 #[tactic(auto, using(crate::proofs::ClockConstants::constants_answered, crate::proofs::ClockConstants::distances_answered))]
 pub fn job_input(
     alloc: Global,

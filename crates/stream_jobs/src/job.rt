@@ -78,7 +78,8 @@ fn agreed_plan(
     }
 }
 
-/// Returns the job of this input. Its units are the streams' units, wherever these were found: in one input, or in several joined inputs.
+/// Returns the job of this input. Its units are the streams' units, wherever these were found: in one input, or in
+/// several joined inputs.
 pub fn make_job(alloc: Global, options: &JobOptions<'_>, input: JobInput) -> Result<Job, JobError>
     requires { length input.streams ≤ 32 }
     ensures job { IfOk result (λ j. IsJob options.now input j.plan.description
@@ -119,7 +120,8 @@ fn served_rate(planned: PlannedDescription) -> u64
     planned.rate
 }
 
-/// Returns the text of the description of a job, at the rate of the options, else at the least at which a plan is found.
+/// Returns the text of the description of a job, at the rate of the options, else at the least at which a plan is
+/// found.
 pub fn describe(
     alloc: Global,
     options: &JobOptions<'_>,
@@ -157,8 +159,8 @@ fn rate_of(alloc: Global, draft: &DescriptionDraft<'_>) -> Result<u64, JobError>
     }
 }
 
-/// Returns the description of a job at the rate of the options, or at the least rate that gives all streams slots, whether or not a plan
-/// serves it.
+/// Returns the description of a job at the rate of the options, or at the least rate that gives all streams slots,
+/// whether or not a plan serves it.
 pub fn unplanned_description(
     alloc: Global,
     options: &JobOptions<'_>,

@@ -73,8 +73,8 @@ fn start_found(alloc: Global, moment: Option<u32>) -> Result<String, AllocError>
     }
 }
 
-/// Returns the moment of the first slot: the one that is given, else that of the stream's time and date table, else the start of
-/// the first of its events, else 2000-01-01T00:00:00.
+/// Returns the moment of the first slot: the one that is given, else that of the stream's time and date table, else the
+/// start of the first of its events, else 2000-01-01T00:00:00.
 #[tactic(auto, unfolding(crate::specs::Events::start_of))]
 pub(crate) fn start_of(
     alloc: Global,

@@ -12,7 +12,8 @@ use stream_coding::PidBuffers;
 pub struct JobOptions<'a> {
     /// The rate of the new stream in bits a second; without it the least at which a plan is found.
     pub rate: Option<u64>,
-    /// The moment of its first slot, as a description has it; without it the moment of the stream's time and date table.
+    /// The moment of its first slot, as a description has it; without it the moment of the stream's time and date
+    /// table.
     pub start: Option<&'a str>,
     /// The greatest time between two clock references, 1 to 100 ms.
     pub pcr_limit: u8,

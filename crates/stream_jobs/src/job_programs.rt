@@ -12,7 +12,8 @@ use std::alloc::{AllocError, Global};
 use std::marker::Model;
 use stream_programs::{FoundProgram, ProgramPids};
 
-/// A program, with the PIDs that its map and its clock references have in the new stream, and its clock in the one before.
+/// A program, with the PIDs that its map and its clock references have in the new stream, and its clock in the one
+/// before.
 #[derive(Drop)]
 pub(crate) struct JobProgram {
     pub number: u16,

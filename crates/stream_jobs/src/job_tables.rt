@@ -116,7 +116,8 @@ fn has_program(number: u16, programs: &[JobProgram]) -> bool
 // A description has as many bytes of descriptors of a table at most.
 const MOST_DESCRIPTORS: usize = 700;
 
-// Whether sections are not left out, are of one of these programs, and have descriptors that a description has room for.
+// Whether sections are not left out, are of one of these programs, and have descriptors that a description has room
+// for.
 #[tactic(auto, unfolding(crate::specs::JobTables::can_take))]
 fn can_take(without: &[u16], programs: &[JobProgram], entry: &FoundStream) -> bool
     ensures { result ≡ spec.can_take without.now programs.now entry.now }
@@ -181,8 +182,8 @@ fn all_tables(
     Ok(tables)
 }
 
-/// Returns the private tables of these programs: sections that do not change and are not left out; `count` is the number
-/// of whole packets of the stream.
+/// Returns the private tables of these programs: sections that do not change and are not left out; `count` is the
+/// number of whole packets of the stream.
 #[tactic(auto, unfolding(crate::specs::JobTables::job_tables))]
 pub(crate) fn job_tables(
     alloc: Global,

@@ -28,7 +28,8 @@ use std::marker::Model;
 /// The most events of a description.
 const MOST_EVENTS: usize = 256;
 
-/// Where a stream of a job was found: the number of an input, from 0 on, its PID there, and the clock of its stamps there.
+/// Where a stream of a job was found: the number of an input, from 0 on, its PID there, and the clock of its stamps
+/// there.
 #[derive(Clone, Copy)]
 pub struct Origin {
     pub input: usize,
@@ -341,8 +342,9 @@ fn all_joined(alloc: Global, first: JobInput, more: Vec<JobInput>) -> Result<Joi
     Ok(all)
 }
 
-/// Returns the inputs of a job as one: the programs and streams of the first, and of each after it, with new numbers if earlier inputs
-/// have their numbers. Refusals: no PID left for an input, or more programs or streams than a description may have.
+/// Returns the inputs of a job as one: the programs and streams of the first, and of each after it, with new numbers if
+/// earlier inputs have their numbers. Refusals: no PID left for an input, or more programs or streams than a
+/// description may have.
 #[tactic(auto, unfolding(crate::specs::Answers::Answers))]
 pub fn join_inputs(
     alloc: Global,

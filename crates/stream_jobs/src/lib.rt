@@ -2,14 +2,15 @@
 //!
 //! `mark_as_asked` sets the marks that options ask for on a demultiplexer's findings (`specs/AskedMarks`). `job_input`
 //! says what a job takes from them, its warnings, and what it refuses (`specs/JobInput`). Step by step: the packets
-//! (`specs/Packets`), the programs and streams that the options select
-//! (`specs/JobOptions`, `specs/GivenNames`, `specs/JobPrograms`), their private sections (`specs/JobTables`), the information of the transport stream as a
-//! whole (`specs/Information`), the units of the streams with the stamps on the wire (`specs/WireStreams`, `specs/OddStreams`) and at
-//! moments of a run (`specs/Moments`, `specs/ProgramClocks`, `specs/ClockBases`), whose bytes are moved out of the findings last
-//! (`specs/InputDrafts`, `specs/TakenStreams`), and their declarations (`specs/Declarations`). `specs/Warnings` has the
-//! warnings. `describe` and `make_job` write the description (`specs/Texts`), find a rate with a plan (`specs/Rates`),
-//! and give the units in order (`specs/Jobs`), or say why there is no job (`specs/WhyNoJob`). `join_inputs` joins several inputs
-//! (`specs/JoinedInputs`): program numbers and PIDs that earlier inputs have are replaced (`specs/NewNumbers`, `specs/RenumberedInputs`).
+//! (`specs/Packets`), the programs and streams that the options select (`specs/JobOptions`, `specs/GivenNames`,
+//! `specs/JobPrograms`), their private sections (`specs/JobTables`), the information of the transport stream as a whole
+//! (`specs/Information`), the units of the streams with the stamps on the wire (`specs/WireStreams`,
+//! `specs/OddStreams`) and at moments of a run (`specs/Moments`, `specs/ProgramClocks`, `specs/ClockBases`), whose
+//! bytes are moved out of the findings last (`specs/InputDrafts`, `specs/TakenStreams`), and their declarations
+//! (`specs/Declarations`). `specs/Warnings` has the warnings. `describe` and `make_job` write the description
+//! (`specs/Texts`), find a rate with a plan (`specs/Rates`), and give the units in order (`specs/Jobs`), or say why
+//! there is no job (`specs/WhyNoJob`). `join_inputs` joins several inputs (`specs/JoinedInputs`): program numbers and
+//! PIDs that earlier inputs have are replaced (`specs/NewNumbers`, `specs/RenumberedInputs`).
 #![tactic(auto)]
 
 mod alike;

@@ -78,9 +78,9 @@ fn pairs(alloc: Global, own: &[u16], places: &[u16]) -> Result<Vec<NewNumber>, A
         .collect(alloc)
 }
 
-/// Returns what the numbers of an input become beside those of the inputs before: a number that none of these has stays; another
-/// becomes the first free one from it on, up to 8,190, else the first from `least` on. Free is what no input has. `None` where
-/// there is none left.
+/// Returns what the numbers of an input become beside those of the inputs before: a number that none of these has
+/// stays; another becomes the first free one from it on, up to 8,190, else the first from `least` on. Free is what no
+/// input has. `None` where there is none left.
 pub(crate) fn new_numbers(
     alloc: Global,
     least: u16,

@@ -43,8 +43,8 @@ fn first_why(some: bool, warnings: &[Warning]) -> Option<JobRefusal>
     None
 }
 
-/// Returns the refusal of a transport stream of which no stream is carried, since none can be written, is clear, or fits a
-/// job; if `strict`, also if one stream is not carried.
+/// Returns the refusal of a transport stream of which no stream is carried, since none can be written, is clear, or
+/// fits a job; if `strict`, also if one stream is not carried.
 #[tactic(auto, unfolding(crate::specs::JobInput::nothing_carried))]
 pub(crate) fn nothing_carried(
     strict: bool,

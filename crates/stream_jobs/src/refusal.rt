@@ -7,8 +7,8 @@ use description_keys::DescFault;
 use es_units::{DtsFault, StampFault};
 use std::alloc::{AllocError, AllocFailed};
 
-/// Buffers that `--buffers` can give a stream: the rate out of its transport buffer in bits a second, and its main buffer
-/// in bytes.
+/// Buffers that `--buffers` can give a stream: the rate out of its transport buffer in bits a second, and its main
+/// buffer in bytes.
 #[derive(Clone, Copy, PartialEq, Eq)]
 pub struct GreaterBuffers {
     pub rx: u32,
@@ -47,8 +47,8 @@ pub enum JobRefusal {
         id: u8,
         first: u8,
     },
-    /// The stamps of a unit, which begins in this packet, can't be moments of a run; `mended` if they can with DTS that are
-    /// made from the PTS.
+    /// The stamps of a unit, which begins in this packet, can't be moments of a run; `mended` if they can with DTS that
+    /// are made from the PTS.
     Stamps {
         packet: u64,
         pid: u16,
@@ -70,8 +70,8 @@ pub enum JobRefusal {
         pid: u16,
         size: usize,
     },
-    /// No lead lets units of up to `size` bytes into these buffers, by groups or by pace; `way_out` has buffers that would
-    /// take them, if any that are tried do.
+    /// No lead lets units of up to `size` bytes into these buffers, by groups or by pace; `way_out` has buffers that
+    /// would take them, if any that are tried do.
     Buffers {
         pid: u16,
         size: u32,

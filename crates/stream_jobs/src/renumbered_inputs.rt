@@ -1,4 +1,5 @@
-//! An input of a job beside earlier inputs: its programs and PIDs have new numbers if earlier inputs have their numbers.
+//! An input of a job beside earlier inputs: its programs and PIDs have new numbers if earlier inputs have their
+//! numbers.
 
 ghost use Rattle.std.specs.Prelude.{◌≡◌, ◌++◌, IfOk, OnOk, map, option_map};
 ghost use Rattle.stream_jobs.specs.RenumberedInputs as spec;

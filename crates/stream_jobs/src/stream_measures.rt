@@ -143,8 +143,8 @@ fn first_copy(alloc: Global, stream: &WireStream<'_>) -> Result<Vec<u8>, AllocEr
     Ok(bytes)
 }
 
-/// Returns the measures of a stream without frames of sound at these moments, the first unit due at once. The bytes of its
-/// units stay where they are found.
+/// Returns the measures of a stream without frames of sound at these moments, the first unit due at once. The bytes of
+/// its units stay where they are found.
 pub(crate) fn found_measured(
     alloc: Global,
     stream: &WireStream<'_>,

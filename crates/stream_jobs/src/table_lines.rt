@@ -44,8 +44,8 @@ fn ticks_of(number: u16, streams: &[TimedStream]) -> u64
     }
 }
 
-// The time of a number of packets where others of a stream take so many ticks of 90 kHz, in ms, up; 1 to 30,000, which is what
-// it is where no packets are known.
+// The time of a number of packets where others of a stream take so many ticks of 90 kHz, in ms, up; 1 to 30,000, which
+// is what it is where no packets are known.
 #[tactic(auto, unfolding(crate::specs::JobTables::limit_of))]
 fn limit_of(gap: u64, packets: u64, ticks: u64) -> u16
     ensures { result ≡ spec.limit_of gap packets ticks }

@@ -17,8 +17,8 @@ pub enum PacketWarning {
     Errored,
     /// A program association section that says something else: the first one stands.
     AssociationChanges,
-    /// A network information section of the actual network that is not carried as it stands: not in force, not readable, of
-    /// another network, or with other or more descriptors or transport streams than `[network]` has.
+    /// A network information section of the actual network that is not carried as it stands: not in force, not
+    /// readable, of another network, or with other or more descriptors or transport streams than `[network]` has.
     NetworkSurplus,
 }
 
@@ -45,7 +45,8 @@ pub enum Warning {
     TrailingBytes {
         size: usize,
     },
-    /// An earlier program map section, which ends in this packet, is other in this part than the last one, which stands.
+    /// An earlier program map section, which ends in this packet, is other in this part than the last one, which
+    /// stands.
     Map {
         program: u16,
         packet: u64,
@@ -94,15 +95,16 @@ pub enum Warning {
         from: u16,
         to: u16,
     },
-    /// A stream says that a buffer of this size is enough for it, which does not hold this unit of it: another one counts.
+    /// A stream says that a buffer of this size is enough for it, which does not hold this unit of it: another one
+    /// counts.
     HeaderBuffer {
         pid: u16,
         said: u32,
         unit: usize,
         counted: u32,
     },
-    /// The packets of a stream ask for this rate, and with the leak of its multiplexing buffer nothing serves it: the buffer is
-    /// not declared. Both are in bits/s.
+    /// The packets of a stream ask for this rate, and with the leak of its multiplexing buffer nothing serves it: the
+    /// buffer is not declared. Both are in bits/s.
     Leak {
         pid: u16,
         rate: u64,
@@ -113,8 +115,8 @@ pub enum Warning {
         pid: u16,
         why: JobRefusal,
     },
-    /// The units of a stream have up to this number of access units, which its main buffer does not hold one by one: a unit
-    /// leaves it whole.
+    /// The units of a stream have up to this number of access units, which its main buffer does not hold one by one: a
+    /// unit leaves it whole.
     Frames {
         pid: u16,
         frames: u8,
@@ -146,8 +148,8 @@ impl ProgramWarning {
 }
 
 impl Warning {
-    /// Returns whether it says that something is lost: the stream is damaged, or a part of it or of what was asked for is
-    /// left out.
+    /// Returns whether it says that something is lost: the stream is damaged, or a part of it or of what was asked for
+    /// is left out.
     #[tactic(auto, unfolding(crate::specs::Warnings::is_damage))]
     pub fn is_damage(self) -> bool
         ensures { result ≡ spec.is_damage self }

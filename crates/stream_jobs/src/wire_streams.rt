@@ -328,8 +328,8 @@ fn selected(without: &[u16], found: Vec<FoundStream>) -> Vec<FoundStream>
     selected
 }
 
-/// Returns the selected streams that have units and a stream_id that can be written, and that a job can carry, each with
-/// its units, and the warnings about the others.
+/// Returns the selected streams that have units and a stream_id that can be written, and that a job can carry, each
+/// with its units, and the warnings about the others.
 #[tactic(auto, using(crate::proofs::CarriedStreams::all_carried))]
 pub(crate) fn wire_streams<'f>(
     alloc: Global,

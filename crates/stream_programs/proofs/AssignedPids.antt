@@ -12,7 +12,8 @@ pub more_taken : (front given taken given_then taken_then : List ℕ) (pid : ℕ
     taken_then ≡ taken ++ pid ∷ [] → taken_then ≡ front ++ given_then
 more_taken front given taken given_then taken_then pid is one other = rw (other, is, one) (append_assoc front given (pid ∷ []))
 
-pub next_map : (streams maps given after : List ℕ) (i place : ℕ) → i < length maps → assigned_map_pid streams given (streams ++ maps ++ given) (get_or maps i 0) ≡ Some place →
+pub next_map : (streams maps given after : List ℕ) (i place : ℕ) → i < length maps →
+    assigned_map_pid streams given (streams ++ maps ++ given) (get_or maps i 0) ≡ Some place →
     after ≡ given ++ place ∷ [] → assigned_map_pids streams maps given (drop i maps) ≡ assigned_map_pids streams maps after (drop (i + 1) maps)
 unfolding assigned_map_pids
 next_map streams maps given after i place below is made = rw (drop-cons maps i 0 below, is, made, add-one i) refl
@@ -34,7 +35,8 @@ pub next_clock : (used used_then maps : List ℕ) (given given_then : List Progr
 unfolding with_pcr_pids
 next_clock used used_then maps given given_then i clock below is one other = rw (drop-cons maps i 0 below, is, one, other, add-one i) refl
 
-pub no_clock : (used maps : List ℕ) (given : List ProgramPids) (i : ℕ) → i < length maps → least_free 256 used ≡ None → with_pcr_pids used given (drop i maps) ≡ None
+pub no_clock : (used maps : List ℕ) (given : List ProgramPids) (i : ℕ) → i < length maps → least_free 256 used ≡ None →
+    with_pcr_pids used given (drop i maps) ≡ None
 unfolding with_pcr_pids
 no_clock used maps given i below is = rw (drop-cons maps i 0 below, is) refl
 

@@ -3,7 +3,8 @@ use Rattle.std.proofs.Common.{◌≡◌, ◌≤◌, ◌<◌, ℕ, ◌+◌, true,
 use Rattle.std.specs.Option.{option_or}
 use Rattle.psi_tables.specs.declared.pat.programs.Program.{Program}
 use Rattle.demux.specs.Views.{FindingView}
-use Rattle.stream_programs.specs.Association.{pat_found, first_pat, entries_of, entries, with_program, with_programs, AssociationView, is_other, association_change}
+use Rattle.stream_programs.specs.Association.{pat_found, first_pat, entries_of, entries, with_program, with_programs, AssociationView, is_other}
+use Rattle.stream_programs.specs.Association.{association_change}
 use Rattle.stream_programs.proofs.Slices.{more, done}
 
 -- 1. The first table

@@ -1,17 +1,20 @@
 -- Characters, one after another.
-use Rattle.std.proofs.Common.{◌≡◌, ◌≤◌, ◌<◌, ◌∙◌, ℕ, ◌+◌, Bool, true, false, if◌then◌else◌, List, [], ◌∷◌, ◌++◌, length, drop, slice_index_or, refl, sym, ap, add-one, append_assoc}
+use Rattle.std.proofs.Common.{◌≡◌, ◌≤◌, ◌<◌, ◌∙◌, ℕ, ◌+◌, Bool, true, false, if◌then◌else◌, List, [], ◌∷◌, ◌++◌, length, drop, slice_index_or, refl, sym, ap}
+use Rattle.std.proofs.Common.{add-one, append_assoc}
 use Rattle.std.proofs.Math.Seq.{drop-cons}
 use Rattle.std.proofs.lemmas.List.{drop_all}
 use Rattle.stream_programs.specs.CharacterTables.{unread, is_pair, marked, is_double, single_character, double_character, in_doubles, next_character}
 
 -- 1. Marks
 
-pub marked_here : (pairs : List ((ℕ × ℕ) × ℕ)) (mark letter i : ℕ) (d : (ℕ × ℕ) × ℕ) → i < length pairs → is_pair (slice_index_or pairs i d) mark letter ≡ true →
+pub marked_here : (pairs : List ((ℕ × ℕ) × ℕ)) (mark letter i : ℕ) (d : (ℕ × ℕ) × ℕ) → i < length pairs →
+    is_pair (slice_index_or pairs i d) mark letter ≡ true →
     marked (drop i pairs) mark letter ≡ (slice_index_or pairs i d).1
 unfolding marked
 marked_here pairs mark letter i d below same = rw (drop-cons pairs i d below, same) refl
 
-pub marked_later : (pairs : List ((ℕ × ℕ) × ℕ)) (mark letter i : ℕ) (d : (ℕ × ℕ) × ℕ) → i < length pairs → is_pair (slice_index_or pairs i d) mark letter ≡ false →
+pub marked_later : (pairs : List ((ℕ × ℕ) × ℕ)) (mark letter i : ℕ) (d : (ℕ × ℕ) × ℕ) → i < length pairs →
+    is_pair (slice_index_or pairs i d) mark letter ≡ false →
     marked (drop i pairs) mark letter ≡ marked (drop (i + 1) pairs) mark letter
 unfolding marked
 marked_later pairs mark letter i d below other = rw (drop-cons pairs i d below, add-one i, other) refl
@@ -37,7 +40,8 @@ unfolding in_doubles next_character
 step wide b [] = refl
 step wide b (c ∷ rest) = by_both wide (is_double wide b) b c rest
 
-pub doubles_more : (wide : Bool) (left rest before after : List ℕ) (b : ℕ) (next : ℕ × List ℕ) → left ≡ b ∷ rest → next ≡ next_character wide b rest → after ≡ before ++ next.0 ∷ [] →
+pub doubles_more : (wide : Bool) (left rest before after : List ℕ) (b : ℕ) (next : ℕ × List ℕ) → left ≡ b ∷ rest → next ≡ next_character wide b rest →
+    after ≡ before ++ next.0 ∷ [] →
     before ++ in_doubles wide left ≡ after ++ in_doubles wide next.1
 doubles_more wide left rest before after b next is made pushed =
     let on : in_doubles wide left ≡ front wide next = rw is (step wide b rest ∙ ap (front wide) (sym made)) in

@@ -1,5 +1,6 @@
 -- PIDs of which none stands twice.
-use Rattle.std.proofs.Common.{◌≡◌, ◌≤◌, ◌<◌, ℕ, suc, ◌+◌, ◌==◌, ◌||◌, nat_eq, nat_le, nat_lt, Bool, true, false, if◌then◌else◌, List, [], ◌∷◌, ◌++◌, length, map, append_assoc, append-nil, Option, None, Some, refl, sym, subst, ap, ◌∙◌, inl, inr, arith}
+use Rattle.std.proofs.Common.{◌≡◌, ◌≤◌, ◌<◌, ℕ, suc, ◌+◌, ◌==◌, ◌||◌, nat_eq, nat_le, nat_lt, Bool, true, false, if◌then◌else◌, List, [], ◌∷◌, ◌++◌, length}
+use Rattle.std.proofs.Common.{map, append_assoc, append-nil, Option, None, Some, refl, sym, subst, ap, ◌∙◌, inl, inr, arith}
 use Rattle.std.proofs.lemmas.Bool.{and_parts, cases_Bool, not-true, or_parts, leb-false, eqb-false, ne_eqb}
 use Rattle.std.proofs.lemmas.List.{map-append, length-append, length-map}
 use Rattle.std.proofs.lemmas.List.Elements.{All-push, All-nil}
@@ -16,12 +17,16 @@ use Rattle.psi_tables.specs.declared.pat.programs.Program.{Program}
 use Rattle.demux.specs.Views.{FindingView}
 use Rattle.stream_programs.specs.FreePids.{is_taken, least_free}
 use Rattle.stream_programs.specs.Laws.{PidsAreDistinct, EachHasPids}
-use Rattle.stream_programs.specs.PidAssignment.{IsPid, AreDistinctPids, stream_pids, map_pids, assigned_map_pid, assigned_map_pids, with_pcr_pids, assigned_pids, all_pids}
+use Rattle.stream_programs.specs.PidAssignment.{IsPid, AreDistinctPids, stream_pids, map_pids, assigned_map_pid, assigned_map_pids, with_pcr_pids}
+use Rattle.stream_programs.specs.PidAssignment.{assigned_pids, all_pids}
 use Rattle.stream_programs.specs.ProgramMaps.{program_map}
-use Rattle.stream_programs.specs.Programs.{FoundProgramsView, FoundProgramView, nothing, can_place, can_share, holder_in, with_left_out, with_table, with_shared, with_stream_if, with_stream, with_streams, is_scrambled_map, is_multiplexed_map, with_multiplex, with_access, with_program_if, with_map, with_program_by, with_programs, programs_of, kept_stream, kept_program}
+use Rattle.stream_programs.specs.Programs.{FoundProgramsView, FoundProgramView, nothing, can_place, can_share, holder_in, with_left_out, with_table}
+use Rattle.stream_programs.specs.Programs.{with_shared, with_stream_if, with_stream, with_streams, is_scrambled_map, is_multiplexed_map, with_multiplex}
+use Rattle.stream_programs.specs.Programs.{with_access, with_program_if, with_map, with_program_by, with_programs, programs_of, kept_stream, kept_program}
 use Rattle.stream_programs.specs.Streams.{FoundStreamView, is_reserved, has_no_pes, holder, is_stream_of, taken, omission_of}
 use Rattle.stream_programs.specs.declared.omission.TableOmission.{TableOmission}
-use Rattle.stream_programs.specs.declared.omission.TableOmission.TheVariants.{NoMap, ConditionalAccess, Multiplex, NoPes, Reserved, Taken, SharedOtherwise, NoStream}
+use Rattle.stream_programs.specs.declared.omission.TableOmission.TheVariants.{NoMap, ConditionalAccess, Multiplex, NoPes, Reserved, Taken, SharedOtherwise}
+use Rattle.stream_programs.specs.declared.omission.TableOmission.TheVariants.{NoStream}
 use Rattle.stream_programs.specs.declared.pid_assignment.ProgramPids.{ProgramPids}
 use Rattle.stream_programs.proofs.LeastFreePid.{free_is}
 use Rattle.stream_programs.proofs.Sharers.{shared_pids}
@@ -80,11 +85,13 @@ place_is streams maps given pid place is = elim (cases_Bool (is_reserved pid || 
       subst (λ (p : ℕ). (is_taken p (streams ++ given) ≡ false) × IsPid p) same (both pid streams given apart.0 apart.1, is_pid pid parts.0)
 ]
 
-maps_apart : (streams maps given pids out : List ℕ) → AreDistinctPids (streams ++ given) → assigned_map_pids streams maps given pids ≡ Some out → AreDistinctPids (streams ++ out)
+maps_apart : (streams maps given pids out : List ℕ) → AreDistinctPids (streams ++ given) → assigned_map_pids streams maps given pids ≡ Some out →
+    AreDistinctPids (streams ++ out)
 unfolding assigned_map_pids
 maps_apart streams maps given [] out h is = let same : given ≡ out = cc in subst (λ (o : List ℕ). AreDistinctPids (streams ++ o)) same h
 maps_apart streams maps given (pid ∷ pids) out h is =
-    option_and_then_some (λ (place : ℕ). assigned_map_pids streams maps (given ++ place ∷ []) pids) (assigned_map_pid streams given (streams ++ maps ++ given) pid) out is
+    option_and_then_some (λ (place : ℕ). assigned_map_pids streams maps (given ++ place ∷ []) pids)
+    (assigned_map_pid streams given (streams ++ maps ++ given) pid) out is
     (λ place at rest. let free = place_is streams maps given pid place at in
     maps_apart streams maps (given ++ place ∷ []) pids out
     (subst (λ (ps : List ℕ). AreDistinctPids ps) (append_assoc streams given (place ∷ [])) (one_more (streams ++ given) place h free.0 free.1)) rest)
@@ -93,22 +100,27 @@ maps_many : (streams maps given pids out : List ℕ) → assigned_map_pids strea
 unfolding assigned_map_pids
 maps_many streams maps given [] out is = let same : given ≡ out = cc in rw (sym same) (let none : length given ≡ length given + 0 = omega arith in none)
 maps_many streams maps given (pid ∷ pids) out is =
-    option_and_then_some (λ (place : ℕ). assigned_map_pids streams maps (given ++ place ∷ []) pids) (assigned_map_pid streams given (streams ++ maps ++ given) pid) out is
-    (λ place at rest. let more = maps_many streams maps (given ++ place ∷ []) pids out rest in let one = length-append given (place ∷ []) in omega (arith, more, one))
+    option_and_then_some (λ (place : ℕ). assigned_map_pids streams maps (given ++ place ∷ []) pids)
+    (assigned_map_pid streams given (streams ++ maps ++ given) pid) out is
+    (λ place at rest. let more = maps_many streams maps (given ++ place ∷ []) pids out rest in let one = length-append given (place ∷ []) in
+    omega (arith, more, one))
 
 -- 3. Clocks
 
-clocks_apart : (front used : List ℕ) (given : List ProgramPids) (ms : List ℕ) (out : List ProgramPids) → used ≡ front ++ map (λ (p : ProgramPids). p.pcr_pid) given → AreDistinctPids used →
+clocks_apart : (front used : List ℕ) (given : List ProgramPids) (ms : List ℕ) (out : List ProgramPids) →
+    used ≡ front ++ map (λ (p : ProgramPids). p.pcr_pid) given → AreDistinctPids used →
     with_pcr_pids used given ms ≡ Some out → AreDistinctPids (front ++ map (λ (p : ProgramPids). p.pcr_pid) out)
 unfolding with_pcr_pids
 clocks_apart front used given [] out made h is =
     let same : given ≡ out = cc in
     subst (λ (o : List ProgramPids). AreDistinctPids (front ++ map (λ (p : ProgramPids). p.pcr_pid) o)) same (subst (λ (u : List ℕ). AreDistinctPids u) made h)
 clocks_apart front used given (m ∷ ms) out made h is =
-    option_and_then_some (λ (clock : ℕ). with_pcr_pids (used ++ clock ∷ []) (given ++ record { map_pid = m; pcr_pid = clock } ∷ []) ms) (least_free 256 used) out is
+    option_and_then_some (λ (clock : ℕ). with_pcr_pids (used ++ clock ∷ []) (given ++ record { map_pid = m; pcr_pid = clock } ∷ []) ms) (least_free 256 used)
+    out is
     (λ clock at rest. let free = free_is 256 used clock at in
     clocks_apart front (used ++ clock ∷ []) (given ++ record { map_pid = m; pcr_pid = clock } ∷ []) ms out
-    (rw (made, map-append (λ (p : ProgramPids). p.pcr_pid) given (record { map_pid = m; pcr_pid = clock } ∷ [])) (append_assoc front (map (λ (p : ProgramPids). p.pcr_pid) given) (clock ∷ [])))
+    (rw (made, map-append (λ (p : ProgramPids). p.pcr_pid) given (record { map_pid = m; pcr_pid = clock } ∷ []))
+    (append_assoc front (map (λ (p : ProgramPids). p.pcr_pid) given) (clock ∷ [])))
     (one_more used clock h free.free (new_pid 256 clock free.after free.below (omega arith))) rest)
 
 clocks_keep : (used : List ℕ) (given : List ProgramPids) (ms : List ℕ) (out : List ProgramPids) → with_pcr_pids used given ms ≡ Some out →
@@ -116,21 +128,28 @@ clocks_keep : (used : List ℕ) (given : List ProgramPids) (ms : List ℕ) (out 
 unfolding with_pcr_pids
 clocks_keep used given [] out is = let same : given ≡ out = cc in rw (sym same) (sym (append-nil (map (λ (p : ProgramPids). p.map_pid) given)))
 clocks_keep used given (m ∷ ms) out is =
-    option_and_then_some (λ (clock : ℕ). with_pcr_pids (used ++ clock ∷ []) (given ++ record { map_pid = m; pcr_pid = clock } ∷ []) ms) (least_free 256 used) out is
+    option_and_then_some (λ (clock : ℕ). with_pcr_pids (used ++ clock ∷ []) (given ++ record { map_pid = m; pcr_pid = clock } ∷ []) ms) (least_free 256 used)
+    out is
     (λ clock at rest. clocks_keep (used ++ clock ∷ []) (given ++ record { map_pid = m; pcr_pid = clock } ∷ []) ms out rest
-    ∙ rw (map-append (λ (p : ProgramPids). p.map_pid) given (record { map_pid = m; pcr_pid = clock } ∷ [])) (append_assoc (map (λ (p : ProgramPids). p.map_pid) given) (m ∷ []) ms))
+    ∙ rw (map-append (λ (p : ProgramPids). p.map_pid) given (record { map_pid = m; pcr_pid = clock } ∷ []))
+    (append_assoc (map (λ (p : ProgramPids). p.map_pid) given) (m ∷ []) ms))
 
 -- 4. All
 
 permuted : (xs ys : List ℕ) → AreDistinctPids (xs ++ ys) → AreDistinctPids (ys ++ xs)
 permuted xs ys h =
     let same = IsPermutation-append_comm xs ys in
-    record { range = All-permutation IsPid (xs ++ ys) (ys ++ xs) same h.range; apart = IsDistinct-IsPermutation nat_eq nat_eq_equiv.symm (xs ++ ys) (ys ++ xs) same h.apart }
+    record {
+      range = All-permutation IsPid (xs ++ ys) (ys ++ xs) same h.range;
+      apart =
+          IsDistinct-IsPermutation nat_eq nat_eq_equiv.symm (xs ++ ys) (ys ++ xs) same h.apart;
+    }
 
 in_order : (streams ms clocks : List ℕ) → AreDistinctPids (streams ++ ms ++ clocks) → AreDistinctPids (ms ++ clocks ++ streams)
 in_order streams ms clocks h = permuted streams (ms ++ clocks) (subst (λ (ps : List ℕ). AreDistinctPids ps) (append_assoc streams ms clocks) h)
 
-placed_apart : (found : FoundProgramsView) (places : List ProgramPids) → AreDistinctPids (stream_pids found) → assigned_pids found ≡ Some places → AreDistinctPids (all_pids places (stream_pids found))
+placed_apart : (found : FoundProgramsView) (places : List ProgramPids) → AreDistinctPids (stream_pids found) → assigned_pids found ≡ Some places →
+    AreDistinctPids (all_pids places (stream_pids found))
 unfolding assigned_pids
 placed_apart found places h is =
     let streams = stream_pids found in
@@ -139,7 +158,8 @@ placed_apart found places h is =
     (λ ms at rest.
     let first = maps_apart streams maps [] maps ms (subst (λ (ps : List ℕ). AreDistinctPids ps) (sym (append-nil streams)) h) at in
     let all = clocks_apart (streams ++ ms) (streams ++ ms) [] ms places (sym (append-nil (streams ++ ms))) first rest in
-    subst (λ (ks : List ℕ). AreDistinctPids (ks ++ map (λ (p : ProgramPids). p.pcr_pid) places ++ streams)) (sym (clocks_keep (streams ++ ms) [] ms places rest))
+    subst (λ (ks : List ℕ). AreDistinctPids (ks ++ map (λ (p : ProgramPids). p.pcr_pid) places ++ streams))
+    (sym (clocks_keep (streams ++ ms) [] ms places rest))
     (in_order streams ms (map (λ (p : ProgramPids). p.pcr_pid) places) all))
 
 -- 5. The streams that are kept
@@ -185,7 +205,11 @@ one_before xs ys pid h =
     let moved = IsPermutation-append_comm ys (pid ∷ []) in
     let same = IsPermutation-append_right xs (ys ++ pid ∷ []) (pid ∷ ys) moved in
     subst (λ (ps : List ℕ). AreDistinctPids ps) (sym (append_assoc xs (pid ∷ []) ys))
-    (record { range = All-permutation IsPid (xs ++ (ys ++ pid ∷ [])) (xs ++ (pid ∷ ys)) same last.range; apart = IsDistinct-IsPermutation nat_eq nat_eq_equiv.symm (xs ++ (ys ++ pid ∷ [])) (xs ++ (pid ∷ ys)) same last.apart })
+    (record {
+      range = All-permutation IsPid (xs ++ (ys ++ pid ∷ [])) (xs ++ (pid ∷ ys)) same last.range;
+      apart =
+          IsDistinct-IsPermutation nat_eq nat_eq_equiv.symm (xs ++ (ys ++ pid ∷ [])) (xs ++ (pid ∷ ys)) same last.apart;
+    })
 
 none_is : (o : Option ℕ) → is_none o ≡ true → o ≡ None
 none_is None h = refl
@@ -193,7 +217,8 @@ none_is (Some x) h = absurd (let no : ⊥ = cc in no)
 
 -- sections that are kept beside the streams, or not
 placed_if : (b : Bool) (found : FoundProgramsView) (s : FoundStreamView) → can_place found s.pid ≡ b → AreDistinctPids (stream_pids found) →
-    AreDistinctPids (map (λ (t : FoundStreamView). t.pid) found.streams ++ map (λ (t : FoundStreamView). t.pid) (if b then found.tables ++ s ∷ [] else found.tables))
+    AreDistinctPids
+    (map (λ (t : FoundStreamView). t.pid) found.streams ++ map (λ (t : FoundStreamView). t.pid) (if b then found.tables ++ s ∷ [] else found.tables))
 unfolding can_place
 placed_if false found s is h = h
 placed_if true found s is h =
@@ -223,7 +248,8 @@ taken_kept false found program pid holder s = refl
 left_kept : (found : FoundProgramsView) (pcr_pid : ℕ) (s : FoundStreamView) (why : TableOmission) → AreDistinctPids (stream_pids found) →
     AreDistinctPids (stream_pids (with_stream_if (Some why) found pcr_pid s))
 unfolding with_stream_if
-left_kept found pcr_pid s (Taken program pid holder) h = subst AreDistinctPids (sym (taken_kept (can_share found holder pcr_pid s) found program pid holder s)) h
+left_kept found pcr_pid s (Taken program pid holder) h =
+    subst AreDistinctPids (sym (taken_kept (can_share found holder pcr_pid s) found program pid holder s)) h
 left_kept found pcr_pid s (NoPes program pid type) h = table_kept found s h
 left_kept found pcr_pid s (NoMap program) h = h
 left_kept found pcr_pid s (ConditionalAccess program) h = h
@@ -244,7 +270,8 @@ one_kept found program pcr_pid s None is h =
     subst (λ (ps : List ℕ). AreDistinctPids (ps ++ tables)) (sym (map-append (λ (t : FoundStreamView). t.pid) found.streams (kept_stream program s ∷ [])))
     (one_before streams tables s.elementary_pid (one_more (stream_pids found) s.elementary_pid h free.0 free.1))
 
-all_kept : (found : FoundProgramsView) (program pcr_pid : ℕ) (ss : List StreamView) → AreDistinctPids (stream_pids found) → AreDistinctPids (stream_pids (with_streams found program pcr_pid ss))
+all_kept : (found : FoundProgramsView) (program pcr_pid : ℕ) (ss : List StreamView) → AreDistinctPids (stream_pids found) →
+    AreDistinctPids (stream_pids (with_streams found program pcr_pid ss))
 unfolding with_streams with_stream
 all_kept found program pcr_pid [] h = h
 all_kept found program pcr_pid (s ∷ ss) h =
@@ -272,7 +299,8 @@ program_same found p = elim (cases_Bool (list_any (is_stream_of p.number) found.
   | inr none ↦ rw none refl
 ]
 
-map_kept : (found : FoundProgramsView) (p : Program) (pmt : PmtView) → AreDistinctPids (stream_pids found) → AreDistinctPids (stream_pids (with_map found p pmt))
+map_kept : (found : FoundProgramsView) (p : Program) (pmt : PmtView) → AreDistinctPids (stream_pids found) →
+    AreDistinctPids (stream_pids (with_map found p pmt))
 unfolding with_map
 map_kept found p pmt h =
     let access = with_access found p.program_number pmt in
@@ -282,12 +310,14 @@ map_kept found p pmt h =
     subst (λ (ps : List ℕ). AreDistinctPids ps) (sym (program_same streams (kept_program p pmt)))
     (all_kept multiplex p.program_number pmt.pcr_pid pmt.streams (subst (λ (ps : List ℕ). AreDistinctPids ps) (sym same) h))
 
-program_kept : (found : FoundProgramsView) (p : Program) (pmt : Option PmtView) → AreDistinctPids (stream_pids found) → AreDistinctPids (stream_pids (with_program_by found p pmt))
+program_kept : (found : FoundProgramsView) (p : Program) (pmt : Option PmtView) → AreDistinctPids (stream_pids found) →
+    AreDistinctPids (stream_pids (with_program_by found p pmt))
 unfolding with_program_by
 program_kept found p None h = h
 program_kept found p (Some pmt) h = map_kept found p pmt h
 
-programs_kept : (found : FoundProgramsView) (ps : List Program) (fs : List FindingView) → AreDistinctPids (stream_pids found) → AreDistinctPids (stream_pids (with_programs found ps fs))
+programs_kept : (found : FoundProgramsView) (ps : List Program) (fs : List FindingView) → AreDistinctPids (stream_pids found) →
+    AreDistinctPids (stream_pids (with_programs found ps fs))
 unfolding with_programs
 programs_kept found [] fs h = h
 programs_kept found (p ∷ ps) fs h = programs_kept (with_program_by found p (program_map p fs)) ps fs (program_kept found p (program_map p fs) h)

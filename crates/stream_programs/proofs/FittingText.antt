@@ -1,5 +1,6 @@
 -- Characters that have room, one after another.
-use Rattle.std.proofs.Common.{◌≡◌, ◌≤◌, ◌<◌, ℕ, ◌+◌, true, false, List, [], ◌∷◌, ◌++◌, length, drop, get_or, encode_utf8, refl, sym, add-one, append-nil, inl, inr, arith}
+use Rattle.std.proofs.Common.{◌≡◌, ◌≤◌, ◌<◌, ℕ, ◌+◌, true, false, List, [], ◌∷◌, ◌++◌, length, drop, get_or, encode_utf8, refl, sym, add-one, append-nil, inl}
+use Rattle.std.proofs.Common.{inr, arith}
 use Rattle.std.proofs.Math.Seq.{drop-cons}
 use Rattle.std.proofs.lemmas.Bool.{cases_Bool, le-leb, leb-true}
 use Rattle.std.proofs.lemmas.List.{drop_all}
@@ -54,7 +55,8 @@ within max_bytes text is = leb-true (length (text_bytes text)) max_bytes is
 
 pub decoded_within : (max_bytes : ℕ) (bytes : List ℕ) → length (text_bytes (decode_text max_bytes bytes)) ≤ max_bytes
 unfolding decode_text
-decoded_within max_bytes bytes = within max_bytes (fitting max_bytes [] (printable (characters bytes))) (fitting_within max_bytes [] (printable (characters bytes)) (none_within max_bytes))
+decoded_within max_bytes bytes =
+    within max_bytes (fitting max_bytes [] (printable (characters bytes))) (fitting_within max_bytes [] (printable (characters bytes)) (none_within max_bytes))
 
 none_pass : (cs : List ℕ) → NonePass is_control (printable cs)
 none_pass [] = tt
@@ -70,7 +72,8 @@ filled_shown : (max_bytes : ℕ) (text cs : List ℕ) → NoCharPasses is_contro
 unfolding fitting
 filled_shown max_bytes text [] held none = held
 filled_shown max_bytes text (c ∷ cs) held none = elim (cases_Bool (fits max_bytes (text ++ encode_utf8 c))) [
-  | inl room ↦ rw room (filled_shown max_bytes (text ++ encode_utf8 c) cs (NoCharPasses-append is_control text (encode_utf8 c) held (one_passes_not c none.0)) none.1)
+  | inl room ↦ rw room
+      (filled_shown max_bytes (text ++ encode_utf8 c) cs (NoCharPasses-append is_control text (encode_utf8 c) held (one_passes_not c none.0)) none.1)
   | inr full ↦ rw full held
 ]
 

@@ -16,7 +16,8 @@ past taken from n held = rw held refl
 here : (taken : List ℕ) (from n : ℕ) → is_taken from taken ≡ false → first_free taken from (suc n) ≡ Some from
 here taken from n free = rw free refl
 
-found : (taken : List ℕ) (pid n from : ℕ) → from ≤ pid → pid < from + n → is_taken pid taken ≡ false → AreTaken from pid taken → first_free taken from n ≡ Some pid
+found : (taken : List ℕ) (pid n from : ℕ) → from ≤ pid → pid < from + n → is_taken pid taken ≡ false → AreTaken from pid taken →
+    first_free taken from n ≡ Some pid
 found taken pid zero from after below free least = absurd (let no : ⊥ = omega (arith, after, below) in no)
 found taken pid (suc n) from after below free least = elim (eq-or-lt_of_le after) [
   | inl same ↦ subst (λ (f : ℕ). first_free taken f (suc n) ≡ Some pid) (sym same) (here taken pid n free)
@@ -26,7 +27,8 @@ found taken pid (suc n) from after below free least = elim (eq-or-lt_of_le after
 
 none : (taken : List ℕ) (n from : ℕ) → AreTaken from (from + n) taken → first_free taken from n ≡ None
 none taken zero from all = refl
-none taken (suc n) from all = past taken from n (all from (omega arith) (omega arith)) ∙ none taken n (from + 1) (λ p a b. all p (omega (arith, a)) (omega (arith, b)))
+none taken (suc n) from all = past taken from n (all from (omega arith) (omega arith))
+    ∙ none taken n (from + 1) (λ p a b. all p (omega (arith, a)) (omega (arith, b)))
 
 -- the first of so many
 record IsFirst (taken : List ℕ) (from n pid : ℕ) : Type 0 where

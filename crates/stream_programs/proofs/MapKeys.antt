@@ -1,5 +1,6 @@
 -- Keys of programs, and what is kept by them.
-use Rattle.std.proofs.Common.{◌≡◌, ◌<◌, ℕ, ◌+◌, ◌*◌, ◌==◌, nat_eq, nat_lt, cond, Bool, true, false, List, [], ◌∷◌, Option, Some, None, refl, sym, ap, ap₂, subst, ◌∙◌, arith}
+use Rattle.std.proofs.Common.{◌≡◌, ◌<◌, ℕ, ◌+◌, ◌*◌, ◌==◌, nat_eq, nat_lt, cond, Bool, true, false, List, [], ◌∷◌, Option, Some, None, refl, sym, ap, ap₂}
+use Rattle.std.proofs.Common.{subst, ◌∙◌, arith}
 use Rattle.std.specs.Prelude.{is_some, option_and_then}
 use Rattle.std.specs.Map.{lookup}
 use Rattle.std.proofs.lemmas.Bool.Decides.{nat_tests}
@@ -31,8 +32,10 @@ pub inserted : (key k : ℕ) (x : ℕ) (es : List (ℕ × ℕ)) (t : Bool) → (
 inserted key k x [] t e = rw (turned_test key k ∙ e) refl
 inserted key k x (y ∷ es) t e = by t e (k == y.0) refl (inserted key k x es t e)
   where
-    by : (t : Bool) → (k == key) ≡ t → (u : Bool) → (k == y.0) ≡ u → lookup (nat_eq key) (insert_entry nat_eq es k x) ≡ cond t (Some x) (lookup (nat_eq key) es) →
-        lookup (nat_eq key) (cond u ((y.0, x) ∷ es) (y ∷ insert_entry nat_eq es k x)) ≡ cond t (Some x) (cond (nat_eq key y.0) (Some y.1) (lookup (nat_eq key) es))
+    by : (t : Bool) → (k == key) ≡ t → (u : Bool) → (k == y.0) ≡ u →
+        lookup (nat_eq key) (insert_entry nat_eq es k x) ≡ cond t (Some x) (lookup (nat_eq key) es) →
+        lookup (nat_eq key) (cond u ((y.0, x) ∷ es) (y ∷ insert_entry nat_eq es k x)) ≡ cond t (Some x)
+        (cond (nat_eq key y.0) (Some y.1) (lookup (nat_eq key) es))
     by true e true f h = let g : (key == y.0) ≡ true = subst (λ (n : ℕ). (n == y.0) ≡ true) (same_number k key e) f in rw g refl
     by false e true f h = let g : (key == y.0) ≡ false = subst (λ (n : ℕ). (key == n) ≡ false) (same_number k y.0 f) (turned_test key k ∙ e) in rw g refl
     by true e false f h = let g : (key == y.0) ≡ false = subst (λ (n : ℕ). (n == y.0) ≡ false) (same_number k key e) f in rw g h
@@ -61,7 +64,8 @@ is_key key (Some q) = map_key q == key
 apart : (m n : ℕ) → m ≡ n → (m == n) ≡ false → ⊥
 apart m n same differ = grind (arith, nat_tests)
 
-by_fields : (pid m b n : ℕ) (pmt : Option PmtView) (k u v : Bool) → m < 65_536 → n < 65_536 → ((pid * 65_536 + m) == (b * 65_536 + n)) ≡ k → (pid == b) ≡ u → (m == n) ≡ v →
+by_fields : (pid m b n : ℕ) (pmt : Option PmtView) (k u v : Bool) → m < 65_536 → n < 65_536 → ((pid * 65_536 + m) == (b * 65_536 + n)) ≡ k → (pid == b) ≡ u →
+    (m == n) ≡ v →
     cond u (cond v pmt None) None ≡ cond k pmt None
 by_fields pid m b n pmt true true true low below e f g = refl
 by_fields pid m b n pmt true true false low below e f g =
@@ -88,7 +92,8 @@ by_number : (p : Program) (pid : ℕ) (pmt : PmtView) (small : Bool) → p.progr
     ≡ cond (is_key (map_key p) (cond small (Some (record { program_number = pmt.header.table_id_extension; pid = pid })) None)) (Some pmt) None
 by_number p pid pmt true below is =
     let ext = pmt.header.table_id_extension in
-    by_fields pid ext p.pid p.program_number (Some pmt) ((pid * 65_536 + ext) == map_key p) (pid == p.pid) (ext == p.program_number) (small_number ext is) below refl refl refl
+    by_fields pid ext p.pid p.program_number (Some pmt) ((pid * 65_536 + ext) == map_key p) (pid == p.pid) (ext == p.program_number) (small_number ext is) below
+    refl refl refl
 by_number p pid pmt false below is = rw (large pmt.header.table_id_extension p.program_number is below) (both_none (pid == p.pid))
   where
     both_none : (t : Bool) → ◌≡◌ {A = Option PmtView} (cond t None None) None

@@ -1,5 +1,6 @@
 -- The last table of a program is at its place.
-use Rattle.std.proofs.Common.{◌≡◌, ◌<◌, ◌≤◌, ℕ, ◌+◌, zero, suc, ◌==◌, nat_eq, cond, Bool, true, false, List, [], ◌∷◌, length, map, drop, get_or, slice_get, Option, Some, None, refl, sym, ap, ◌∙◌, add-one}
+use Rattle.std.proofs.Common.{◌≡◌, ◌<◌, ◌≤◌, ℕ, ◌+◌, zero, suc, ◌==◌, nat_eq, cond, Bool, true, false, List, [], ◌∷◌, length, map, drop, get_or, slice_get}
+use Rattle.std.proofs.Common.{Option, Some, None, refl, sym, ap, ◌∙◌, add-one}
 use Rattle.std.specs.Prelude.{option_and_then}
 use Rattle.std.specs.Map.{lookup}
 use Rattle.std.specs.Option.{option_or}
@@ -53,7 +54,8 @@ step_by p all es at f None below here is =
 step_by p all es at f (Some q) below here is = by (map_key q == map_key p) refl
   where
     by : (t : Bool) → (map_key q == map_key p) ≡ t →
-        map_there p (lookup (nat_eq (map_key p)) (insert_entry nat_eq es (map_key q) at)) all ≡ option_or (pmt_found p f) (map_there p (lookup (nat_eq (map_key p)) es) all)
+        map_there p (lookup (nat_eq (map_key p)) (insert_entry nat_eq es (map_key q) at)) all ≡ option_or (pmt_found p f)
+        (map_there p (lookup (nat_eq (map_key p)) es) all)
     by true e =
         let one = has_map f.pid (any_map f) q is in
         let found : pmt_found p f ≡ Some one.pmt =

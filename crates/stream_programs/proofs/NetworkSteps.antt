@@ -19,12 +19,14 @@ first_end view s i fs over = rw (done view i fs over) refl
 
 -- the first table that says anything else
 
-pub surplus_later : {X : Type 0} (view : X → FindingView) (s : KnownStream) (n : Option FoundNetworkView) (i : ℕ) (fs : List X) (f : X) → i < length fs → f ≡ get_or fs i f →
+pub surplus_later : {X : Type 0} (view : X → FindingView) (s : KnownStream) (n : Option FoundNetworkView) (i : ℕ) (fs : List X) (f : X) → i < length fs →
+    f ≡ get_or fs i f →
     is_surplus s n (view f) ≡ false → surplus_from s n (map view (drop i fs)) ≡ surplus_from s n (map view (drop (i + 1) fs))
 unfolding surplus_from
 surplus_later view s n i fs f below at stays = rw (more view i fs f below at, stays) refl
 
-pub surplus_here : {X : Type 0} (view : X → FindingView) (s : KnownStream) (n : Option FoundNetworkView) (i : ℕ) (fs : List X) (f : X) → i < length fs → f ≡ get_or fs i f →
+pub surplus_here : {X : Type 0} (view : X → FindingView) (s : KnownStream) (n : Option FoundNetworkView) (i : ℕ) (fs : List X) (f : X) → i < length fs →
+    f ≡ get_or fs i f →
     is_surplus s n (view f) ≡ true → surplus_from s n (map view (drop i fs)) ≡ Some (view f).packet
 unfolding surplus_from
 surplus_here view s n i fs f below at differs = rw (more view i fs f below at, differs) refl

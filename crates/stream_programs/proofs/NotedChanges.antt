@@ -1,5 +1,6 @@
 -- The packets that are noted are those where maps change.
-use Rattle.std.proofs.Common.{◌≡◌, ◌<◌, ◌≤◌, ℕ, ◌+◌, ◌==◌, nat_eq, cond, Bool, true, false, List, [], ◌∷◌, length, map, drop, get_or, Option, Some, None, refl, sym, ap, ◌∙◌}
+use Rattle.std.proofs.Common.{◌≡◌, ◌<◌, ◌≤◌, ℕ, ◌+◌, ◌==◌, nat_eq, cond, Bool, true, false, List, [], ◌∷◌, length, map, drop, get_or, Option, Some, None, refl}
+use Rattle.std.proofs.Common.{sym, ap, ◌∙◌}
 use Rattle.std.specs.Prelude.{is_some, option_and_then}
 use Rattle.std.specs.Map.{lookup}
 use Rattle.std.specs.Option.{option_or}
@@ -59,7 +60,8 @@ noted_other es key k packet changes (Some n) is other = rw is refl
 noted_other es key k packet true None is other = rw is (inserted key k packet es false other)
 noted_other es key k packet false None is other = rw is refl
 
-step_by : (part : MapPart) (p : Program) (all : List FindingView) (es : List (ℕ × ℕ)) (f : FindingView) (q : Option Program) → p.program_number < 65_536 → program_found f ≡ q →
+step_by : (part : MapPart) (p : Program) (all : List FindingView) (es : List (ℕ × ℕ)) (f : FindingView) (q : Option Program) → p.program_number < 65_536 →
+    program_found f ≡ q →
     lookup (nat_eq (map_key p)) (changes_by part all es f q) ≡ option_or (lookup (nat_eq (map_key p)) es) (here part p all f)
 unfolding changes_by
 step_by part p all es f None below is =

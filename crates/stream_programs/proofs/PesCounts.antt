@@ -1,5 +1,6 @@
 -- Counts of PES packets by PID, from the last finding to the first.
-use Rattle.std.proofs.Common.{◌≡◌, ◌≢◌, ℕ, ◌+◌, ◌<◌, ◌≤◌, ◌==◌, ◌&&◌, zero, suc, cond, true, false, Bool, List, [], ◌∷◌, length, map, drop, get_or, Option, None, Some, refl, sym, ap, ◌∙◌, arith, inl, inr}
+use Rattle.std.proofs.Common.{◌≡◌, ◌≢◌, ℕ, ◌+◌, ◌<◌, ◌≤◌, ◌==◌, ◌&&◌, zero, suc, cond, true, false, Bool, List, [], ◌∷◌, length, map, drop, get_or, Option}
+use Rattle.std.proofs.Common.{None, Some, refl, sym, ap, ◌∙◌, arith, inl, inr}
 use Rattle.std.specs.Prelude.{slice_set, slice_index, replicate}
 use Rattle.std.proofs.lemmas.Bool.{eq-eqb, ne_eqb, cases_eq}
 use Rattle.std.proofs.lemmas.List.{drop_more, drop_all, length-set, get_or-set_same, get_or-set_other, get_or-replicate, length-replicate}
@@ -77,7 +78,8 @@ count_before : {X : Type 0} (view : X → FindingView) (i j : ℕ) (fs : List X)
 unfolding pes_count
 count_before view i j fs f pid next inside at = rw (before view i j fs f next inside at) refl
 
-counted_some : {X : Type 0} (view : X → FindingView) (counts : List ℕ) (i j : ℕ) (fs : List X) (f : X) (other : ℕ) → i ≡ j + 1 → j < length fs → f ≡ get_or fs j f →
+counted_some : {X : Type 0} (view : X → FindingView) (counts : List ℕ) (i j : ℕ) (fs : List X) (f : X) (other : ℕ) → i ≡ j + 1 → j < length fs →
+    f ≡ get_or fs j f →
     Some other ≡ pes_pid (view f) → other < 65_536 → CountsFrom view counts i fs → CountsFrom view (slice_set counts other (slice_index counts other + 1)) j fs
 counted_some view counts i j fs f other next inside at is fits c = record {
   size = length-set counts _ _ ∙ c.size;
@@ -112,7 +114,8 @@ uncounted view counts i j fs f next inside at is c = record {
       (omega (arith, known.0, parts, none), omega (arith, known.1, next));
 }
 
-counted_by : {X : Type 0} (view : X → FindingView) (counts : List ℕ) (i j : ℕ) (fs : List X) (f : X) (p : Option ℕ) → i ≡ j + 1 → j < length fs → f ≡ get_or fs j f →
+counted_by : {X : Type 0} (view : X → FindingView) (counts : List ℕ) (i j : ℕ) (fs : List X) (f : X) (p : Option ℕ) → i ≡ j + 1 → j < length fs →
+    f ≡ get_or fs j f →
     p ≡ pes_pid (view f) → ((pid : ℕ) → p ≡ Some pid → pid < 65_536) → CountsFrom view counts i fs → CountsFrom view (counted_on counts p) j fs
 unfolding counted_on
 counted_by view counts i j fs f None next inside at is fits c = uncounted view counts i j fs f next inside at is c
@@ -122,6 +125,7 @@ pub counted : {X : Type 0} (view : X → FindingView) (counts : List ℕ) (i j :
     ((pid : ℕ) → pes_pid (view f) ≡ Some pid → pid < 65_536) → CountsFrom view counts i fs → CountsFrom view (counted_with counts (view f)) j fs
 counted view counts i j fs f next inside at fits c = counted_by view counts i j fs f (pes_pid (view f)) next inside at refl fits c
 
-pub all_counted : {X : Type 0} (view : X → FindingView) (counts : List ℕ) (i : ℕ) (fs : List X) → i ≡ 0 → CountsFrom view counts i fs → AreCounts counts (map view fs)
+pub all_counted : {X : Type 0} (view : X → FindingView) (counts : List ℕ) (i : ℕ) (fs : List X) → i ≡ 0 → CountsFrom view counts i fs →
+    AreCounts counts (map view fs)
 all_counted view counts zero fs e c = record { size = c.size; each = λ pid below. (c.each pid below).0 }
 all_counted view counts (suc i) fs e c = absurd cc

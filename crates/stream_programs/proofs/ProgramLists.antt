@@ -1,5 +1,6 @@
 -- The table of the numbers of programs, program by program.
-use Rattle.std.proofs.Common.{◌≡◌, ◌≢◌, ◌∙◌, sym, ◌<◌, ℕ, ◌==◌, ◌||◌, Bool, true, false, List, [], ◌∷◌, ◌++◌, length, get_or, set, replicate, refl, arith, get_or-set_other}
+use Rattle.std.proofs.Common.{◌≡◌, ◌≢◌, ◌∙◌, sym, ◌<◌, ℕ, ◌==◌, ◌||◌, Bool, true, false, List, [], ◌∷◌, ◌++◌, length, get_or, set, replicate, refl, arith}
+use Rattle.std.proofs.Common.{get_or-set_other}
 use Rattle.std.proofs.Math.Bool.{or-false, or-true}
 use Rattle.std.proofs.lemmas.Bool.Decides.{nat_tests}
 use Rattle.std.proofs.lemmas.Grind.{get_or-set_at}
@@ -14,11 +15,13 @@ unfolding TellsNamed is_named
 tells_none = λ number below. get_or-replicate 65536 number false false below
 
 -- what a program more says of a number
-named_after : (number : ℕ) (programs : List Program) (p : Program) → is_named number (programs ++ p ∷ []) ≡ (is_named number programs || ((p.program_number == number) || false))
+named_after : (number : ℕ) (programs : List Program) (p : Program) →
+    is_named number (programs ++ p ∷ []) ≡ (is_named number programs || ((p.program_number == number) || false))
 unfolding is_named
 named_after number programs p = list_any-append (λ (program : Program). program.program_number == number) programs (p ∷ [])
 
-tells_at : (numbers : List Bool) (programs : List Program) (p : Program) (number : ℕ) (same : Bool) → (p.program_number == number) ≡ same → p.program_number < length numbers →
+tells_at : (numbers : List Bool) (programs : List Program) (p : Program) (number : ℕ) (same : Bool) → (p.program_number == number) ≡ same →
+    p.program_number < length numbers →
     get_or numbers number false ≡ is_named number programs →
     get_or (set numbers p.program_number true) number false ≡ is_named number (programs ++ p ∷ [])
 tells_at numbers programs p number true e below tells =

@@ -4,7 +4,8 @@ use Rattle.demux.specs.Views.{FindingView}
 use Rattle.stream_programs.specs.StrayPids.{stray_pid, stray_pids}
 use Rattle.stream_programs.proofs.Slices.{more, done}
 
-pub strays_more : {X : Type 0} (view : X → FindingView) (known : List ℕ) (i : ℕ) (fs : List X) (f : X) (found after : List ℕ) → i < length fs → f ≡ get_or fs i f →
+pub strays_more : {X : Type 0} (view : X → FindingView) (known : List ℕ) (i : ℕ) (fs : List X) (f : X) (found after : List ℕ) → i < length fs →
+    f ≡ get_or fs i f →
     after ≡ found ++ stray_pid known found (view f) →
     stray_pids known found (map view (drop i fs)) ≡ stray_pids known after (map view (drop (i + 1) fs))
 unfolding stray_pids

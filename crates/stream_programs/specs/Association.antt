@@ -1,5 +1,6 @@
 -- The programs that a stream's program association table names (ISO/IEC 13818-1, 2.4.4.3).
-use Rattle.std.specs.Prelude.{ℕ, ◌==◌, ◌&&◌, ◌||◌, not, Bool, false, if◌then◌else◌, List, [], ◌∷◌, ◌++◌, flat_map, Option, Some, None, option_map, option_and_then, Result, Ok, Err}
+use Rattle.std.specs.Prelude.{ℕ, ◌==◌, ◌&&◌, ◌||◌, not, Bool, false, if◌then◌else◌, List, [], ◌∷◌, ◌++◌, flat_map, Option, Some, None, option_map}
+use Rattle.std.specs.Prelude.{option_and_then, Result, Ok, Err}
 use Rattle.std.specs.List.{list_any, list_all}
 use Rattle.std.specs.Option.{option_or}
 use Rattle.psi_tables.specs.Views.{SectionView}
@@ -83,7 +84,8 @@ is_said named p = (p.program_number == 0) || is_entry named p
 -- a table of another version or of another transport stream, or with another PID of a program's map
 unfoldable pub differs : AssociationView → PatView → Bool
 differs a pat =
-    not (pat.header.version_number == a.version_number) || (not (pat.header.table_id_extension == a.transport_stream_id) || not (list_all (is_said a.programs) pat.programs))
+    not (pat.header.version_number == a.version_number) ||
+    (not (pat.header.table_id_extension == a.transport_stream_id) || not (list_all (is_said a.programs) pat.programs))
 
 unfoldable pub is_other : AssociationView → Option PatView → Bool
 is_other a None = false

@@ -1,6 +1,9 @@
 -- Bytes as characters by the tables of EN 300 468, annex A.
-use Rattle.std.specs.Prelude.{ℕ, ◌+◌, ◌*◌, ◌-◌, ◌==◌, ◌&&◌, nat_le, nat_lt, Bool, true, false, if◌then◌else◌, List, [], ◌∷◌, map, slice_index, unwrap_or, Option, Some, None}
-use Rattle.stream_programs.specs.declared.character_tables.TheConstants.{ISO_6937, ISO_6937_MARKED, ISO_8859_2, ISO_8859_3, ISO_8859_4, ISO_8859_5, ISO_8859_6, ISO_8859_7, ISO_8859_8, ISO_8859_9, ISO_8859_10, ISO_8859_11, ISO_8859_13, ISO_8859_14, ISO_8859_15}
+use Rattle.std.specs.Prelude.{ℕ, ◌+◌, ◌*◌, ◌-◌, ◌==◌, ◌&&◌, nat_le, nat_lt, Bool, true, false, if◌then◌else◌, List, [], ◌∷◌, map, slice_index, unwrap_or}
+use Rattle.std.specs.Prelude.{Option, Some, None}
+use Rattle.stream_programs.specs.declared.character_tables.TheConstants.{ISO_6937, ISO_6937_MARKED, ISO_8859_2, ISO_8859_3, ISO_8859_4, ISO_8859_5, ISO_8859_6}
+use Rattle.stream_programs.specs.declared.character_tables.TheConstants.{ISO_8859_7, ISO_8859_8, ISO_8859_9, ISO_8859_10, ISO_8859_11, ISO_8859_13, ISO_8859_14}
+use Rattle.stream_programs.specs.declared.character_tables.TheConstants.{ISO_8859_15}
 
 -- what stands for a character that can't be read: U+FFFD
 abbrev pub unread : ℕ

@@ -1,7 +1,8 @@
 -- What of the tables of a stream a receiver loses.
 use Rattle.std.specs.Prelude.{Bool, true, false}
 use Rattle.stream_programs.specs.declared.omission.TableOmission.{TableOmission}
-use Rattle.stream_programs.specs.declared.omission.TableOmission.TheVariants.{NoMap, ConditionalAccess, Multiplex, NoPes, Reserved, Taken, SharedOtherwise, NoStream}
+use Rattle.stream_programs.specs.declared.omission.TableOmission.TheVariants.{NoMap, ConditionalAccess, Multiplex, NoPes, Reserved, Taken, SharedOtherwise}
+use Rattle.stream_programs.specs.declared.omission.TableOmission.TheVariants.{NoStream}
 
 -- a stream: of sections, on a PID that none may have, or of a second program, or what the second says of one that it shares
 abbrev pub is_loss : TableOmission → Bool

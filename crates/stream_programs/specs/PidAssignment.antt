@@ -37,7 +37,8 @@ with_pcr_pids used given (place ∷ places) =
 -- 3. Both, for each program
 
 unfoldable pub assigned_pids : FoundProgramsView → Option (List ProgramPids)
-assigned_pids found = option_and_then (λ maps. with_pcr_pids (stream_pids found ++ maps) [] maps) (assigned_map_pids (stream_pids found) (map_pids found) [] (map_pids found))
+assigned_pids found =
+    option_and_then (λ maps. with_pcr_pids (stream_pids found ++ maps) [] maps) (assigned_map_pids (stream_pids found) (map_pids found) [] (map_pids found))
 
 -- 4. The PIDs of all
 

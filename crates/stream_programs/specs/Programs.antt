@@ -96,7 +96,8 @@ with_stream_if (Some (NoPes program pid stream_type)) found pcr_pid s = with_tab
 with_stream_if (Some why) found pcr_pid s = with_left_out found why
 
 unfoldable pub with_stream : FoundProgramsView → ℕ → ℕ → StreamView → FoundProgramsView
-with_stream found number pcr_pid s = with_stream_if (omission_of number s.stream_type s.elementary_pid (holder_in found s.elementary_pid)) found pcr_pid (kept_stream number s)
+with_stream found number pcr_pid s =
+    with_stream_if (omission_of number s.stream_type s.elementary_pid (holder_in found s.elementary_pid)) found pcr_pid (kept_stream number s)
 
 unfoldable pub with_streams : FoundProgramsView → ℕ → ℕ → List StreamView → FoundProgramsView
 with_streams found number pcr_pid [] = found
@@ -128,7 +129,8 @@ with_multiplex found number pmt = if is_multiplexed_map pmt then with_left_out f
 -- a program is kept if it has a stream, of its own or shared
 unfoldable pub with_program_if : FoundProgramsView → FoundProgramView → FoundProgramsView
 with_program_if found p =
-    if list_any (is_stream_of p.number) found.streams then record { programs = found.programs ++ p ∷ []; streams = found.streams; tables = found.tables; left_out = found.left_out }
+    if list_any (is_stream_of p.number) found.streams then record
+    { programs = found.programs ++ p ∷ []; streams = found.streams; tables = found.tables; left_out = found.left_out }
     else with_left_out found (NoStream p.number)
 
 abbrev pub kept_program : Program → PmtView → FoundProgramView
@@ -141,7 +143,8 @@ kept_program p pmt = record {
 
 unfoldable pub with_map : FoundProgramsView → Program → PmtView → FoundProgramsView
 with_map found p pmt =
-    with_program_if (with_streams (with_multiplex (with_access found p.program_number pmt) p.program_number pmt) p.program_number pmt.pcr_pid pmt.streams) (kept_program p pmt)
+    with_program_if (with_streams (with_multiplex (with_access found p.program_number pmt) p.program_number pmt) p.program_number pmt.pcr_pid pmt.streams)
+    (kept_program p pmt)
 
 unfoldable pub with_program_by : FoundProgramsView → Program → Option PmtView → FoundProgramsView
 with_program_by found p None = with_left_out found (NoMap p.program_number)

@@ -5,7 +5,8 @@ use Rattle.demux.specs.Laws.{has_pid}
 use Rattle.stream_programs.specs.FreePids.{is_taken}
 use Rattle.stream_programs.specs.Programs.{FoundProgramsView}
 use Rattle.stream_programs.specs.declared.omission.TableOmission.{TableOmission}
-use Rattle.stream_programs.specs.declared.omission.TableOmission.TheVariants.{NoMap, ConditionalAccess, Multiplex, NoPes, Reserved, Taken, SharedOtherwise, NoStream}
+use Rattle.stream_programs.specs.declared.omission.TableOmission.TheVariants.{NoMap, ConditionalAccess, Multiplex, NoPes, Reserved, Taken, SharedOtherwise}
+use Rattle.stream_programs.specs.declared.omission.TableOmission.TheVariants.{NoStream}
 
 -- 1. The PIDs that maps name
 

@@ -19,8 +19,8 @@ use std::marker::Model;
 /// By `map_key`: a packet.
 type ChangePackets<A> = IndexMap<u32, u64, BuildHasherDefault<FoldHasher>, A>;
 
-/// For each program the packet where the first program map section in force of it ends that differs in a part from the last
-/// section. The last section is used regardless.
+/// For each program the packet where the first program map section in force of it ends that differs in a part from the
+/// last section. The last section is used regardless.
 #[derive(Drop)]
 pub struct MapChanges<A: Allocator = Global> {
     packets: ChangePackets<A>,

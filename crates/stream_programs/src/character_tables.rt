@@ -1,4 +1,5 @@
-//! The character tables of EN 300 468, annex A: the characters of bytes 0xA0 to 0xFF, U+FFFD for a byte without a character.
+//! The character tables of EN 300 468, annex A: the characters of bytes 0xA0 to 0xFF, U+FFFD for a byte without a
+//! character.
 
 /// ISO/IEC 6937 with the euro sign (figure A.1), without the diacritical marks 0xC1 to 0xCF, which precede a letter.
 pub static ISO_6937: [char; 96] = [

@@ -18,8 +18,8 @@ pub fn maps_decide()
     ensures { MapsDecide }
 {}
 
-/// States that the PIDs of the found streams and the PIDs that are assigned to maps and PCRs are 32 to 8,190, and that no
-/// two are equal.
+/// States that the PIDs of the found streams and the PIDs that are assigned to maps and PCRs are 32 to 8,190, and that
+/// no two are equal.
 pub fn pids_are_distinct()
     ensures { PidsAreDistinct }
 {}

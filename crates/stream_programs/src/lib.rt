@@ -1,13 +1,12 @@
 //! The programs of a transport stream and their elementary streams, from what a demultiplexer finds of its tables.
 //!
 //! The program association table in force names the programs (`specs/Association`), and the last program map table of
-//! each its streams (`specs/ProgramMaps`, `specs/MapPlaces`, `specs/Streams`, `specs/Programs`); the service description has its name
-//! (`specs/Services`), as characters (`specs/Texts`, `specs/CharacterTables`), and its original network (`specs/Networks`);
-//! the network information table has its network (`specs/NetworkInformation`). Maps and
-//! PCRs are assigned PIDs that nothing else has (`specs/PidAssignment`); PES packets of no program are counted by PID
-//! (`specs/StrayPids`). The omissions of the tables are
-//! reported, and the packets where they change. The laws say that the findings of PID 0 and of the maps' PIDs alone decide, and that no
-//! two PIDs are equal.
+//! each its streams (`specs/ProgramMaps`, `specs/MapPlaces`, `specs/Streams`, `specs/Programs`); the service
+//! description has its name (`specs/Services`), as characters (`specs/Texts`, `specs/CharacterTables`), and its
+//! original network (`specs/Networks`); the network information table has its network (`specs/NetworkInformation`).
+//! Maps and PCRs are assigned PIDs that nothing else has (`specs/PidAssignment`); PES packets of no program are counted
+//! by PID (`specs/StrayPids`). The omissions of the tables are reported, and the packets where they change. The laws
+//! say that the findings of PID 0 and of the maps' PIDs alone decide, and that no two PIDs are equal.
 #![tactic(auto)]
 
 mod association;

@@ -9,7 +9,8 @@ use crate::program_map::is_same_stream;
 use descriptor_loops::{Descriptor, Descriptors};
 use psi_tables::{Pmt, Stream, Streams};
 
-// Whether a descriptor with this tag says what stands in the stream itself: of AC-3 and enhanced AC-3 (EN 300 468, annex D).
+// Whether a descriptor with this tag says what stands in the stream itself: of AC-3 and enhanced AC-3 (EN 300 468,
+// annex D).
 #[tactic(auto, unfolding(crate::specs::ProgramMaps::is_of_sound))]
 fn is_of_sound(tag: u8) -> bool
     ensures { result ≡ spec.is_of_sound tag }

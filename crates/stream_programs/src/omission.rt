@@ -35,8 +35,8 @@ pub enum TableOmission {
         pid: u16,
         holder: u16,
     },
-    /// The stream of this PID is one of the program `holder`, and shared; the program's map says of it another stream_type or other
-    /// descriptors.
+    /// The stream of this PID is one of the program `holder`, and shared; the program's map says of it another
+    /// stream_type or other descriptors.
     SharedOtherwise {
         program: u16,
         pid: u16,
@@ -49,8 +49,9 @@ pub enum TableOmission {
 }
 
 impl TableOmission {
-    /// Returns whether a receiver loses something by it: a stream of the input. A program without a map or without streams has
-    /// no stream, clear streams need no conditional access, and rates and buffers of the input's multiplex are not true of another.
+    /// Returns whether a receiver loses something by it: a stream of the input. A program without a map or without
+    /// streams has no stream, clear streams need no conditional access, and rates and buffers of the input's multiplex
+    /// are not true of another.
     pub fn is_loss(self) -> bool
         ensures { result ≡ is_loss self }
     {

@@ -120,8 +120,8 @@ fn with_pcr_pids<A: Allocator + Copy>(
 
 /// Returns for each program in order a PID for its map and a PID for its PCR, so that no two of these and the streams'
 /// PIDs are equal (`pids_are_distinct`). A map keeps its PID if that is 32 to 8,190 and neither a stream nor an earlier
-/// program's map has it; otherwise it gets the least PID from 32 on that no stream and no map has. Each PCR gets the least
-/// free PID from 256 on. `None` if no PID is free.
+/// program's map has it; otherwise it gets the least PID from 32 on that no stream and no map has. Each PCR gets the
+/// least free PID from 256 on. `None` if no PID is free.
 #[tactic(auto, unfolding(crate::specs::PidAssignment::assigned_pids))]
 pub fn assigned_pids<A: Allocator + Copy>(
     alloc: A,

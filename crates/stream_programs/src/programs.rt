@@ -54,8 +54,8 @@ impl<A: Allocator> Model for FoundProgram<A> {
 pub struct FoundPrograms<A: Allocator = Global> {
     /// In the order of the program association table.
     pub programs: Vec<FoundProgram<A>, A>,
-    /// By program, then in the order of its program map table. No two have the same PID: a stream that several programs have
-    /// belongs to the first.
+    /// By program, then in the order of its program map table. No two have the same PID: a stream that several programs
+    /// have belongs to the first.
     pub streams: Vec<FoundStream<A>, A>,
     /// Streams of sections, each on a PID that no stream and none of these has before it.
     pub tables: Vec<FoundStream<A>, A>,
@@ -126,7 +126,8 @@ fn shares<A: Allocator>(streams: &[FoundStream<A>], number: u16, pid: u16) -> bo
     streams.iter().any(|stream| stream.pid == pid && stream.is_shared_with(number))
 }
 
-// Whether a program can share the stream that another has, no sections: both have one clock, and it does not share it already.
+// Whether a program can share the stream that another has, no sections: both have one clock, and it does not share it
+// already.
 fn can_share<A: Allocator>(
     programs: &[FoundProgram<A>],
     streams: &[FoundStream<A>],
@@ -356,8 +357,9 @@ impl<A: Allocator + Copy> FoundPrograms<A> {
     }
 }
 
-/// Returns the programs of a stream, by its findings: the named programs with a program map table that has a stream, each
-/// as its last table says. The first of streams with one PID is kept, and programs with its program's clock share it.
+/// Returns the programs of a stream, by its findings: the named programs with a program map table that has a stream,
+/// each as its last table says. The first of streams with one PID is kept, and programs with its program's clock share
+/// it.
 #[tactic(auto, unfolding(crate::specs::Programs::programs_of))]
 pub fn found_programs<A: Allocator + Copy>(
     alloc: A,

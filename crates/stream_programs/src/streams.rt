@@ -10,8 +10,8 @@ use std::marker::Model;
 
 /// An elementary stream of a program.
 ///
-/// Several programs may have it (regional services with one picture): it belongs to the first program that names it, and later
-/// programs share it.
+/// Several programs may have it (regional services with one picture): it belongs to the first program that names it,
+/// and later programs share it.
 #[derive(Drop)]
 pub struct FoundStream<A: Allocator = Global> {
     /// program_number of its program.

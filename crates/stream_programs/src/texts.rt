@@ -11,7 +11,8 @@ use crate::character_sets::{UNREAD, by_part, in_doubles, unread_characters};
 use dvb_tables::{UTF_8, is_plain};
 use std::alloc::{AllocError, Allocator};
 
-// First bytes of a text (EN 300 468, table A.3): ISO/IEC 10646 in two bytes, and a part of ISO/IEC 8859 by two more bytes.
+// First bytes of a text (EN 300 468, table A.3): ISO/IEC 10646 in two bytes, and a part of ISO/IEC 8859 by two more
+// bytes.
 const UTF_16: u8 = 0x11;
 
 const NAMED_PART: u8 = 0x10;
@@ -198,9 +199,9 @@ fn fitting<A: Allocator>(
 /// Returns a text of service information as characters, without control characters, cut before the first character that
 /// would make it longer than `max_bytes` bytes as a descriptor writes it (`dvb_tables::Text`).
 ///
-/// The first byte names a table: parts of ISO/IEC 8859, ISO/IEC 10646, or UTF-8. A text without a table is UTF-8 if all of
-/// it is, and otherwise ISO/IEC 6937. A question mark replaces each character that can't be read: from any other table, or
-/// missing in its table.
+/// The first byte names a table: parts of ISO/IEC 8859, ISO/IEC 10646, or UTF-8. A text without a table is UTF-8 if all
+/// of it is, and otherwise ISO/IEC 6937. A question mark replaces each character that can't be read: from any other
+/// table, or missing in its table.
 #[tactic(auto, unfolding(crate::specs::Texts::decode_text), using(crate::proofs::FittingText::decoded_within))]
 pub fn decode_text<A: Allocator + Copy>(
     alloc: A,

@@ -1,7 +1,8 @@
 -- The buffers of the tables of programs (ISO/IEC 13818-1, 2.4.2.3): all bytes of the packets of the PIDs 0 to 3 (PAT, CAT, TSDT and IPMP control
 -- information) and of a program's PMT enter a transport buffer, which is drained at 1,000,000 bits a second, and from there a system buffer, which
 -- is drained at 80,000 bits a second, or at a constant rate R at R / 500, where that is more.
-use Rattle.std.specs.Prelude.{ℕ, ◌+◌, ◌-◌, ◌*◌, ◌^◌, ◌==◌, ◌&&◌, ◌||◌, min, nat_le, nat_lt, Bool, if◌then◌else◌, List, [], ◌++◌, length, map, flat_map, Option, Some, None}
+use Rattle.std.specs.Prelude.{ℕ, ◌+◌, ◌-◌, ◌*◌, ◌^◌, ◌==◌, ◌&&◌, ◌||◌, min, nat_le, nat_lt, Bool, if◌then◌else◌, List, [], ◌++◌, length, map, flat_map, Option}
+use Rattle.std.specs.Prelude.{Some, None}
 use Rattle.std.specs.Option.{option_map}
 use Rattle.tstd.specs.Queues.{bytes_within}
 use Rattle.tstd_rows.specs.declared.excess.Excess.{Excess}

@@ -18,10 +18,12 @@ const MOST_BYTES: u64 = 1 << 40;
 /// The rate in bits a second whose buffer gives the unit of time: the buffers count time in its units.
 pub const DRAIN: u32 = 2_000_000;
 
-// How many of these units a byte takes to leave a buffer that is drained at a 500th of the stream's constant rate, whatever that is.
+// How many of these units a byte takes to leave a buffer that is drained at a 500th of the stream's constant rate,
+// whatever that is.
 const STEP_AT_A_500TH: u64 = 500 * DRAIN as u64;
 
-// The last of the PIDs whose packets enter the buffers of each program: those of PAT, CAT, TSDT and IPMP control information.
+// The last of the PIDs whose packets enter the buffers of each program: those of PAT, CAT, TSDT and IPMP control
+// information.
 const LAST_SYSTEM_PID: u16 = 3;
 
 /// A program, the PID of its map, the buffers of its tables, and the number of excesses of each that have ended.
@@ -50,7 +52,8 @@ impl Model for ProgramTables {
     } };
 }
 
-// How long a byte takes to leave a system buffer: 25 steps at 80,000 bits a second, and at a constant rate no longer than at a 500th of it.
+// How long a byte takes to leave a system buffer: 25 steps at 80,000 bits a second, and at a constant rate no longer
+// than at a 500th of it.
 #[tactic(auto, unfolding(crate::specs::Programs::system_step))]
 fn system_step(arrival: &Arrival) -> u64
     ensures step { result ≡ spec.system_step arrival.now }

@@ -1,5 +1,6 @@
 -- From own slot to own slot the state gives what the table carries by its slots' numbers.
-use Rattle.std.proofs.Common.{◌≡◌, ℕ, suc, ◌+◌, ◌*◌, ◌/◌, ◌%◌, ◌<◌, ◌==◌, Bool, true, false, cond, nat_lt, List, [], ◌∷◌, length, take, map, sum_by, slice_index_or, Option, Some, None, is_some, refl, ap, sym, subst, ◌∙◌, arith, inl, inr, eq-eqb, lt-ltb, le-ltb}
+use Rattle.std.proofs.Common.{◌≡◌, ℕ, suc, ◌+◌, ◌*◌, ◌/◌, ◌%◌, ◌<◌, ◌==◌, Bool, true, false, cond, nat_lt, List, [], ◌∷◌, length, take, map, sum_by}
+use Rattle.std.proofs.Common.{slice_index_or, Option, Some, None, is_some, refl, ap, sym, subst, ◌∙◌, arith, inl, inr, eq-eqb, lt-ltb, le-ltb}
 use Rattle.std.proofs.lemmas.Bool.{cases_lt, ne_eqb}
 use Rattle.std.proofs.lemmas.List.{length-map}
 use Rattle.std.proofs.lemmas.Nat.{mod_below}
@@ -9,7 +10,8 @@ use Rattle.own_slots.specs.Slots.{own_before}
 use Rattle.own_slots.proofs.Counts.{own_before_own, own_before_other}
 use Rattle.slot_contents.specs.Contents.{packet_of, Piece}
 use Rattle.table_rounds.specs.Parts.{places_of, part_of, part_content}
-use Rattle.table_rounds.specs.Tables.{Table, SectionPlace, round_places, place_in, place_at, round_before, moment_of, moment_before, bytes_at, part_at, one_if_some, payloads_before}
+use Rattle.table_rounds.specs.Tables.{Table, SectionPlace, round_places, place_in, place_at, round_before, moment_of, moment_before, bytes_at, part_at}
+use Rattle.table_rounds.specs.Tables.{one_if_some, payloads_before}
 use Rattle.table_rounds.specs.Carousels.{Carousel, CarouselHolds, moment_now, begun, section_advanced, advanced, counted}
 use Rattle.table_rounds.specs.Laws.{HasPlaces, IsSourceOf, FirstCarouselLaw, TableSlotLaw, OtherTableSlotLaw}
 use Rattle.table_rounds.proofs.Places.{Stands, stands, place_first}
@@ -83,7 +85,8 @@ record Ready (table : Table) (s : ℕ) (b : Carousel) : Type 0 where
   counter : b.counter ≡ payloads_before table (suc s) % 256
 
 -- the state at the place that comes next
-placed : (table : Table) (s section part : ℕ) (b : Carousel) → Ready table s b → place_at table (suc s) ≡ record { section = section; part = part } → (0 < part → section ≡ b.section)
+placed : (table : Table) (s section part : ℕ) (b : Carousel) → Ready table s b → place_at table (suc s) ≡ record { section = section; part = part } →
+    (0 < part → section ≡ b.section)
     → CarouselHolds table (suc s) (record b { section = section; part = part })
 placed table s section part b r place same = record {
   pid = r.pid;
@@ -100,13 +103,16 @@ next_holds : (table : Table) (s : ℕ) (b : Carousel) → HasPlaces table → ta
 unfolding advanced section_advanced
 next_holds table s b some y r = elim (cases_lt (b.part + 1) (slice_index_or b.packets_per_section b.section 0)) [
   | inl m ↦
-      let e : nat_lt (b.part + 1) (slice_index_or b.packets_per_section b.section 0) ≡ true = lt-ltb (b.part + 1) (slice_index_or b.packets_per_section b.section 0) m in
+      let e : nat_lt (b.part + 1) (slice_index_or b.packets_per_section b.section 0) ≡ true =
+      lt-ltb (b.part + 1) (slice_index_or b.packets_per_section b.section 0) m in
       let n = st.more (omega (arith, m, size, part)) in
       let f : advanced b ≡ record b { section = b.section; part = b.part + 1 } = rw e refl in
       subst (CarouselHolds table (suc s)) (sym f) (placed table s b.section (b.part + 1) b r
-      (onward (st.q + 1) (0 + st.i) n.0 n.1 ∙ ap (λ (j : ℕ). record { section = j; part = st.q + 1 }) section ∙ ap (λ (q : ℕ). record { section = b.section; part = q + 1 }) part) (λ lt. refl))
+      (onward (st.q + 1) (0 + st.i) n.0 n.1 ∙ ap (λ (j : ℕ). record { section = j; part = st.q + 1 }) section
+      ∙ ap (λ (q : ℕ). record { section = b.section; part = q + 1 }) part) (λ lt. refl))
   | inr done ↦
-      let e : nat_lt (b.part + 1) (slice_index_or b.packets_per_section b.section 0) ≡ false = le-ltb (b.part + 1) (slice_index_or b.packets_per_section b.section 0) done in
+      let e : nat_lt (b.part + 1) (slice_index_or b.packets_per_section b.section 0) ≡ false =
+      le-ltb (b.part + 1) (slice_index_or b.packets_per_section b.section 0) done in
       elim (cases_lt (b.section + 1) (length b.packets_per_section)) [
         | inl m ↦
             let g : nat_lt (b.section + 1) (length b.packets_per_section) ≡ true = lt-ltb (b.section + 1) (length b.packets_per_section) m in
@@ -141,7 +147,8 @@ next_holds table s b some y r = elim (cases_lt (b.part + 1) (slice_index_or b.pa
     index = omega (arith, section)
 
     size : slice_index_or (map places_of table.lengths) st.i 0 ≡ slice_index_or b.packets_per_section b.section 0
-    size = ap (λ (j : ℕ). slice_index_or (map places_of table.lengths) j 0) index ∙ ap (λ (ps : List ℕ). slice_index_or ps b.section 0) (sym r.packets_per_section)
+    size = ap (λ (j : ℕ). slice_index_or (map places_of table.lengths) j 0) index
+        ∙ ap (λ (ps : List ℕ). slice_index_or ps b.section 0) (sym r.packets_per_section)
 
     sections : length b.packets_per_section ≡ length table.lengths
     sections = ap (length {A = ℕ}) r.packets_per_section ∙ length-map table.lengths places_of
@@ -149,18 +156,22 @@ next_holds table s b some y r = elim (cases_lt (b.part + 1) (slice_index_or b.pa
     count : own_before table.own (suc s) ≡ i + 1
     count = own_before_own table.own s y
 
-    onward : (q j : ℕ) → i % k + 1 < k → place_in 0 table.lengths (i % k + 1) ≡ record { section = j; part = q } → place_at table (suc s) ≡ record { section = j; part = q }
+    onward : (q j : ℕ) → i % k + 1 < k → place_in 0 table.lengths (i % k + 1) ≡ record { section = j; part = q } →
+        place_at table (suc s) ≡ record { section = j; part = q }
     onward q j lt e = ap (λ (n : ℕ). place_in 0 table.lengths (n % k)) count ∙ ap (place_in 0 table.lengths) (sym (mod-add-mod i k 1) ∙ mod-eq_of_lt lt) ∙ e
 
     around : i % k + 1 ≡ k → place_at table (suc s) ≡ record { section = 0; part = 0 }
-    around e = ap (λ (n : ℕ). place_in 0 table.lengths (n % k)) count ∙ ap (place_in 0 table.lengths) (sym (mod-add-mod i k 1) ∙ ap (λ (n : ℕ). n % k) e ∙ mod_self k) ∙ place_first 0 table.lengths (has_section table.lengths some)
+    around e = ap (λ (n : ℕ). place_in 0 table.lengths (n % k)) count
+        ∙ ap (place_in 0 table.lengths) (sym (mod-add-mod i k 1) ∙ ap (λ (n : ℕ). n % k) e ∙ mod_self k)
+        ∙ place_first 0 table.lengths (has_section table.lengths some)
 
 -- a state with this moment and bytes
 abbrev made : Carousel → ℕ → List ℕ → Carousel
 made carousel moment bytes = record carousel { moment = moment; bytes = bytes }
 
 -- at an own slot the round's moment and the section's bytes are as the table has them
-begun_is : (table : Table) (s : ℕ) (source : ℕ → ℕ → List ℕ) (carousel : Carousel) → HasPlaces table → IsSourceOf table source → table.own s ≡ true → CarouselHolds table s carousel
+begun_is : (table : Table) (s : ℕ) (source : ℕ → ℕ → List ℕ) (carousel : Carousel) → HasPlaces table → IsSourceOf table source → table.own s ≡ true →
+    CarouselHolds table s carousel
     → begun source s carousel ≡ made carousel (moment_before table (suc s)) (table.bytes carousel.section (moment_before table (suc s)))
 unfolding begun
 begun_is table s source carousel some is y h = elim (cases_lt 0 carousel.part) [
@@ -174,7 +185,8 @@ begun_is table s source carousel some is y h = elim (cases_lt 0 carousel.part) [
       let z : carousel.part ≡ 0 = omega (arith, first) in
       let e : (carousel.part == 0) ≡ true = eq-eqb carousel.part 0 z in
       let f : begun source s carousel ≡ made carousel (moment_now s carousel) (source carousel.section (moment_now s carousel)) = rw e refl in
-      f ∙ ap (λ (m : ℕ). made carousel m (source carousel.section m)) (moment z) ∙ ap (made carousel (moment_before table (suc s))) (is carousel.section (moment_before table (suc s)) within)
+      f ∙ ap (λ (m : ℕ). made carousel m (source carousel.section m)) (moment z)
+      ∙ ap (made carousel (moment_before table (suc s))) (is carousel.section (moment_before table (suc s)) within)
 ]
   where
     k : ℕ
@@ -216,8 +228,10 @@ begun_is table s source carousel some is y h = elim (cases_lt 0 carousel.part) [
     moment : carousel.part ≡ 0 → moment_now s carousel ≡ moment_before table (suc s)
     moment z = elim (cases_lt 0 (i % k)) [
       | inl n ↦
-          let e : (carousel.section == 0) ≡ false = not_zero carousel.section (elim (cases_lt 0 carousel.section) [ inl x ↦ x | inr x ↦ absurd (omega (arith, n, at_first (omega (arith, x)) z)) ]) in
-          ap (λ (b : Bool). cond b (carousel.start + s * slot_seconds_at_1bps / carousel.rate) carousel.moment) e ∙ h.moment n ∙ ap (moment_of table) (sym (round_stays table.own k s y n))
+          let e : (carousel.section == 0) ≡ false =
+          not_zero carousel.section (elim (cases_lt 0 carousel.section) [ inl x ↦ x | inr x ↦ absurd (omega (arith, n, at_first (omega (arith, x)) z)) ]) in
+          ap (λ (b : Bool). cond b (carousel.start + s * slot_seconds_at_1bps / carousel.rate) carousel.moment) e ∙ h.moment n
+          ∙ ap (moment_of table) (sym (round_stays table.own k s y n))
       | inr n ↦
           let zero_place : i % k ≡ 0 = omega (arith, n) in
           let e : (carousel.section == 0) ≡ true = eq-eqb carousel.section 0 (first_place_zero zero_place).0 in
@@ -232,26 +246,51 @@ ready : (table : Table) (s : ℕ) (carousel : Carousel) (o : Option Piece) → t
 unfolding payloads_before
 ready table s carousel None y h e =
     let more : payloads_before table (suc s) ≡ payloads_before table s + 0 =
-    ap (λ (b : Bool). payloads_before table s + cond b (one_if_some (part_at table s)) 0) y ∙ ap (λ (p : Option Piece). payloads_before table s + one_if_some p) e in
-    record { pid = h.pid; rate = h.rate; start = h.start; packets_per_section = h.packets_per_section; place = h.place; moment = refl; bytes = refl; counter = omega (arith, h.counter, more) }
+    ap (λ (b : Bool). payloads_before table s + cond b (one_if_some (part_at table s)) 0) y
+    ∙ ap (λ (p : Option Piece). payloads_before table s + one_if_some p) e in
+    record {
+      pid = h.pid;
+      rate = h.rate;
+      start = h.start;
+      packets_per_section = h.packets_per_section;
+      place = h.place;
+      moment = refl;
+      bytes = refl;
+      counter =
+          omega (arith, h.counter, more);
+    }
 ready table s carousel (Some p) y h e =
     let more : payloads_before table (suc s) ≡ payloads_before table s + 1 =
-    ap (λ (b : Bool). payloads_before table s + cond b (one_if_some (part_at table s)) 0) y ∙ ap (λ (p : Option Piece). payloads_before table s + one_if_some p) e in
-    record { pid = h.pid; rate = h.rate; start = h.start; packets_per_section = h.packets_per_section; place = h.place; moment = refl; bytes = refl; counter = omega (arith, h.counter, more) }
+    ap (λ (b : Bool). payloads_before table s + cond b (one_if_some (part_at table s)) 0) y
+    ∙ ap (λ (p : Option Piece). payloads_before table s + one_if_some p) e in
+    record {
+      pid = h.pid;
+      rate = h.rate;
+      start = h.start;
+      packets_per_section = h.packets_per_section;
+      place = h.place;
+      moment = refl;
+      bytes = refl;
+      counter =
+          omega (arith, h.counter, more);
+    }
 
 -- a number and its counter modulo 256 make one packet
-same_packet : (pid number counter : ℕ) (o : Option Piece) → counter ≡ number % 256 → packet_of (part_content pid counter o) ≡ packet_of (part_content pid number o)
+same_packet : (pid number counter : ℕ) (o : Option Piece) → counter ≡ number % 256 →
+    packet_of (part_content pid counter o) ≡ packet_of (part_content pid number o)
 unfolding part_content packet_of
 same_packet pid number counter None e = refl
 same_packet pid number counter (Some p) e = let f : counter % 16 ≡ number % 16 = omega arith in rw f refl
 
 pub own_slot : TableSlotLaw
 own_slot table s source carousel some is y h =
-    let b : begun source s carousel ≡ made carousel (moment_before table (suc s)) (table.bytes carousel.section (moment_before table (suc s))) = begun_is table s source carousel some is y h in
+    let b : begun source s carousel ≡ made carousel (moment_before table (suc s)) (table.bytes carousel.section (moment_before table (suc s))) =
+    begun_is table s source carousel some is y h in
     let bytes : bytes_at table s ≡ table.bytes carousel.section (moment_before table (suc s)) =
     ap (λ (p : SectionPlace). table.bytes p.section (moment_before table (suc s))) h.place in
     let part : part_at table s ≡ part_of (table.bytes carousel.section (moment_before table (suc s))) carousel.part =
-    ap (λ (l : List ℕ). part_of l (place_at table s).part) bytes ∙ ap (λ (p : SectionPlace). part_of (table.bytes carousel.section (moment_before table (suc s))) p.part) h.place in
+    ap (λ (l : List ℕ). part_of l (place_at table s).part) bytes
+    ∙ ap (λ (p : SectionPlace). part_of (table.bytes carousel.section (moment_before table (suc s))) p.part) h.place in
     record {
       packet = ap (λ (t : Carousel). packet_of (part_content t.pid t.counter (part_of t.bytes t.part))) b
           ∙ ap (λ (o : Option Piece). packet_of (part_content carousel.pid carousel.counter o)) (sym part)

@@ -1,5 +1,6 @@
 -- The places of a round, one after another.
-use Rattle.std.proofs.Common.{◌≡◌, ℕ, zero, suc, ◌+◌, ◌-◌, ◌<◌, ◌≤◌, true, false, nat_lt, List, [], ◌∷◌, length, take, map, sum_by, slice_index_or, refl, ap, ◌∙◌, arith, inl, inr, lt-ltb, le-ltb}
+use Rattle.std.proofs.Common.{◌≡◌, ℕ, zero, suc, ◌+◌, ◌-◌, ◌<◌, ◌≤◌, true, false, nat_lt, List, [], ◌∷◌, length, take, map, sum_by, slice_index_or, refl, ap}
+use Rattle.std.proofs.Common.{◌∙◌, arith, inl, inr, lt-ltb, le-ltb}
 use Rattle.std.proofs.lemmas.Bool.{cases_lt}
 use Rattle.std.proofs.lemmas.List.Sums.{sum_by-cons}
 use Rattle.table_rounds.specs.Parts.{places_of}
@@ -32,7 +33,8 @@ pub record Stands (j : ℕ) (ls : List ℕ) (n : ℕ) : Type 0 where
   pub part : q < slice_index_or (map places_of ls) i 0
   pub number : n ≡ sum_by places_of (take i ls) + q
   pub more : q + 1 < slice_index_or (map places_of ls) i 0 → (n + 1 < round_places ls) × (place_in j ls (n + 1) ≡ record { section = j + i; part = q + 1 })
-  pub next : slice_index_or (map places_of ls) i 0 ≤ q + 1 → i + 1 < length ls → (n + 1 < round_places ls) × (place_in j ls (n + 1) ≡ record { section = j + i + 1; part = 0 })
+  pub next : slice_index_or (map places_of ls) i 0 ≤ q + 1 → i + 1 < length ls →
+      (n + 1 < round_places ls) × (place_in j ls (n + 1) ≡ record { section = j + i + 1; part = 0 })
   pub last : slice_index_or (map places_of ls) i 0 ≤ q + 1 → length ls ≤ i + 1 → n + 1 ≡ round_places ls
 
 round_more : (l : ℕ) (ls : List ℕ) → round_places (l ∷ ls) ≡ places_of l + round_places ls
@@ -79,9 +81,17 @@ further j l ls n m e s = record {
   section = omega (arith, s.section);
   part = s.part;
   number = omega (arith, e, s.number, before);
-  more = λ x. let r = s.more x in (omega (arith, e, r.0, round_more l ls), place_after j l ls (n + 1) (m + 1) (omega (arith, e)) ∙ r.1 ∙ ap (λ (k : ℕ). record { section = k; part = s.q + 1 }) same);
-  next = λ x some. let r = s.next x (omega (arith, some)) in
-      (omega (arith, e, r.0, round_more l ls), place_after j l ls (n + 1) (m + 1) (omega (arith, e)) ∙ r.1 ∙ ap (λ (k : ℕ). record { section = k; part = 0 }) (ap (λ (k : ℕ). k + 1) same));
+  more = λ x. let r =
+      s.more x in (
+        omega (arith, e, r.0, round_more l ls),
+        place_after j l ls (n + 1) (m + 1) (omega (arith, e)) ∙ r.1
+            ∙ ap (λ (k : ℕ). record { section = k; part = s.q + 1 }) same,
+      );
+  next = λ x some. let r = s.next x (omega (arith, some)) in (
+    omega (arith, e, r.0, round_more l ls),
+    place_after j l ls (n + 1) (m + 1) (omega (arith, e)) ∙ r.1
+        ∙ ap (λ (k : ℕ). record { section = k; part = 0 }) (ap (λ (k : ℕ). k + 1) same),
+  );
   last = λ x none. let r = s.last x (omega (arith, none)) in omega (arith, e, r, round_more l ls);
 }
   where
@@ -104,7 +114,8 @@ places_listed [] i lt = absurd (omega (arith, lt))
 places_listed (l ∷ ls) zero lt = refl
 places_listed (l ∷ ls) (suc i) lt = places_listed ls i (omega (arith, lt))
 
-place_from : (k : ℕ) (ls : List ℕ) (j q : ℕ) → j < length ls → q < places_of (slice_index_or ls j 0) → place_in k ls (first_place ls j + q) ≡ record { section = k + j; part = q }
+place_from : (k : ℕ) (ls : List ℕ) (j q : ℕ) → j < length ls → q < places_of (slice_index_or ls j 0) →
+    place_in k ls (first_place ls j + q) ≡ record { section = k + j; part = q }
 place_from k [] j q lt part = absurd (omega (arith, lt))
 place_from k (l ∷ ls) zero q lt part =
     let e : sum_by places_of (take 0 (l ∷ ls)) + q ≡ q = omega arith in

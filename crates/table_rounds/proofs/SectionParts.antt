@@ -6,14 +6,16 @@ use Rattle.std.proofs.lemmas.Bool.{cases_lt}
 use Rattle.table_rounds.specs.Parts.{filled}
 
 -- as much of these bytes as there is room for, and bytes 0xFF to the end of the room
-pub filled_up : (room : ℕ) (bytes : List ℕ) → room ≤ 184 → take (min (length bytes) room) bytes ++ replicate (room - min (length bytes) room) 0xFF ≡ take room (bytes ++ replicate 184 0xFF)
+pub filled_up : (room : ℕ) (bytes : List ℕ) → room ≤ 184 →
+    take (min (length bytes) room) bytes ++ replicate (room - min (length bytes) room) 0xFF ≡ take room (bytes ++ replicate 184 0xFF)
 filled_up room bytes most = elim (cases_lt (length bytes) room) [
   | inl few ↦
       let e : min (length bytes) room ≡ length bytes = omega arith in
       let f : room ≡ length bytes + (room - length bytes) = omega arith in
       let g : take (length bytes + (room - length bytes)) (bytes ++ replicate 184 0xFF) ≡ bytes ++ take (room - length bytes) (replicate 184 0xFF) =
       take-append-add bytes (replicate 184 0xFF) (room - length bytes) in
-      let h : take (room - length bytes) (replicate {A = ℕ} 184 0xFF) ≡ replicate (room - length bytes) 0xFF = take-replicate (room - length bytes) 184 0xFF (omega arith) in
+      let h : take (room - length bytes) (replicate {A = ℕ} 184 0xFF) ≡ replicate (room - length bytes) 0xFF =
+      take-replicate (room - length bytes) 184 0xFF (omega arith) in
       rw (e, take-length bytes) (sym (ap (λ (n : ℕ). take n (bytes ++ replicate 184 0xFF)) f ∙ g ∙ ap (λ (l : List ℕ). bytes ++ l) h))
   | inr many ↦
       let e : min (length bytes) room ≡ room = omega arith in
@@ -34,7 +36,8 @@ pub filled_parts : (bytes front fill : List ℕ) (n : ℕ) → n ≡ min (length
 filled_parts bytes front fill n size is rest =
     rw (is, rest) (ap (λ (m : ℕ). take m bytes ++ replicate (184 - m) 0xFF) size ∙ filled_up 184 bytes (omega arith))
 
-front_filled : (section : List ℕ) (n : ℕ) → n ≡ min (length section) 183 → take 183 (take n section ++ replicate 184 0xFF) ≡ take 183 (section ++ replicate 184 0xFF)
+front_filled : (section : List ℕ) (n : ℕ) → n ≡ min (length section) 183 →
+    take 183 (take n section ++ replicate 184 0xFF) ≡ take 183 (section ++ replicate 184 0xFF)
 front_filled section n size =
     let short : length (take n section) ≡ n = omega (arith, length-take n section, size) in
     let same : min (length (take n section)) 183 ≡ n = omega (arith, short, size) in

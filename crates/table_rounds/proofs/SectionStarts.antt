@@ -1,5 +1,6 @@
 -- The packets in which sections begin.
-use Rattle.std.proofs.Common.{◌≡◌, ℕ, zero, suc, ◌+◌, ◌*◌, ◌%◌, ◌<◌, ◌≤◌, nat_lt, nat_eq, Bool, true, false, cond, List, [], ◌∷◌, ◌++◌, length, map, take, drop, slice_get, Option, Some, None, refl, ap, sym, ◌∙◌, arith, inl, inr, lt-ltb}
+use Rattle.std.proofs.Common.{◌≡◌, ℕ, zero, suc, ◌+◌, ◌*◌, ◌%◌, ◌<◌, ◌≤◌, nat_lt, nat_eq, Bool, true, false, cond, List, [], ◌∷◌, ◌++◌, length, map, take, drop}
+use Rattle.std.proofs.Common.{slice_get, Option, Some, None, refl, ap, sym, ◌∙◌, arith, inl, inr, lt-ltb}
 use Rattle.std.proofs.lemmas.Bool.{cases_Bool, cases_eq, eqb-true, false≢true}
 use Rattle.std.specs.List.{flat_map}
 use Rattle.own_slots.specs.Slots.{own_before, own_slots}
@@ -50,7 +51,8 @@ found table from (suc n) s p le lt y e = elim (cases_eq from s) [
   | inr other ↦
       let rest = found table (suc from) n s p (further other) (omega (arith, lt)) y e in
       elim (cases_Bool (table.own from)) [
-        | inl own ↦ let k = after from (part_at table from) (flat_map (λ t. put t (part_at table t)) (own_slots table.own (suc from) n)) rest.0 (payload s p) rest.1 in (k.0, rw own k.1)
+        | inl own ↦ let k = after from (part_at table from) (flat_map (λ t. put t (part_at table t)) (own_slots table.own (suc from) n)) rest.0 (payload s p)
+            rest.1 in (k.0, rw own k.1)
         | inr idle ↦ (rest.0, rw idle rest.1)
       ]
 ]
@@ -82,7 +84,8 @@ begins table n j s content alone lt within e =
     let first : part_of bytes 0 ≡ Some (record { start = start_by true false; bytes = take 184 (drop (184 * 0) (filled bytes)) }) = rw some refl in
     let part : part_at table s ≡ Some (record { start = start_by true false; bytes = take 184 (drop (184 * 0) (filled bytes)) }) =
     ap (λ (p : SectionPlace). part_of (table.bytes p.section (moment_before table (suc s))) p.part) place ∙ first in
-    let at = found table 0 n s (record { start = start_by true false; bytes = take 184 (drop (184 * 0) (filled bytes)) }) (omega arith) (omega (arith, within)) own.0 part in
+    let at = found table 0 n s (record { start = start_by true false; bytes = take 184 (drop (184 * 0) (filled bytes)) }) (omega arith) (omega (arith, within))
+    own.0 part in
     let carried = table_carried table n content alone in
     let entry = of_map (pid_list table.pid (run_bytes content 0 n)) at.0 _ (ap (λ (l : List Payload). slice_get l at.0) carried.payloads ∙ at.1) in
     record {

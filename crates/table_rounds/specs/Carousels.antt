@@ -31,7 +31,8 @@ pub record CarouselHolds (table : Table) (slots : ℕ) (carousel : Carousel) : T
 
 -- a table's state before slot 0
 abbrev pub first_carousel : ℕ → ℕ → ℕ → List ℕ → Carousel
-first_carousel pid rate start lengths = record { pid = pid; rate = rate; start = start; packets_per_section = map places_of lengths; section = 0; part = 0; moment = 0; counter = 0; bytes = [] }
+first_carousel pid rate start lengths =
+    record { pid = pid; rate = rate; start = start; packets_per_section = map places_of lengths; section = 0; part = 0; moment = 0; counter = 0; bytes = [] }
 
 -- in slot s a round takes its moment where it begins
 abbrev pub moment_now : ℕ → Carousel → ℕ
@@ -39,15 +40,19 @@ moment_now s carousel = cond (carousel.section == 0) (carousel.start + s * slot_
 
 -- at the first place of a section its bytes are made, and at that of section 0 the round's moment taken
 unfoldable pub begun : (ℕ → ℕ → List ℕ) → ℕ → Carousel → Carousel
-begun source s carousel = cond (carousel.part == 0) (record carousel { moment = moment_now s carousel; bytes = source carousel.section (moment_now s carousel) }) carousel
+begun source s carousel =
+    cond (carousel.part == 0) (record carousel { moment = moment_now s carousel; bytes = source carousel.section (moment_now s carousel) }) carousel
 
 -- the next section, after the last one the first
 unfoldable pub section_advanced : Carousel → Carousel
-section_advanced carousel = record carousel { section = cond (nat_lt (carousel.section + 1) (length carousel.packets_per_section)) (carousel.section + 1) 0; part = 0 }
+section_advanced carousel =
+    record carousel { section = cond (nat_lt (carousel.section + 1) (length carousel.packets_per_section)) (carousel.section + 1) 0; part = 0 }
 
 -- the next place of the section, after the last one the first of the next section
 unfoldable pub advanced : Carousel → Carousel
-advanced carousel = cond (nat_lt (carousel.part + 1) (slice_index_or carousel.packets_per_section carousel.section 0)) (record carousel { part = carousel.part + 1 }) (section_advanced carousel)
+advanced carousel =
+    cond (nat_lt (carousel.part + 1) (slice_index_or carousel.packets_per_section carousel.section 0)) (record carousel { part = carousel.part + 1 })
+    (section_advanced carousel)
 
 -- a payload is counted
 abbrev pub counted : Bool → Carousel → Carousel

@@ -13,7 +13,8 @@ filled section = 0 ∷ (section ++ replicate 184 0xFF)
 
 -- part number q of a section: 184 bytes, none after the section's end; the section begins with part 0
 unfoldable pub part_of : List ℕ → ℕ → Option Piece
-part_of section q = cond (nat_lt (184 * q) (1 + length section)) (Some (record { start = start_by (q == 0) false; bytes = take 184 (drop (184 * q) (filled section)) })) None
+part_of section q =
+    cond (nat_lt (184 * q) (1 + length section)) (Some (record { start = start_by (q == 0) false; bytes = take 184 (drop (184 * q) (filled section)) })) None
 
 -- a part in a slot, where it is the payload of this number on its PID
 unfoldable pub part_content : ℕ → ℕ → Option Piece → Content

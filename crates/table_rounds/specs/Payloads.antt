@@ -34,7 +34,8 @@ TableCarriedLaw = (table : Table) (n : ℕ) (content : ℕ → Content) → Tabl
 
 -- the first part of a section is there, whatever its length: pointer_field, and the section's bytes
 abbrev pub FirstPartLaw : Type 0
-FirstPartLaw = (table : Table) (s j : ℕ) → place_at table s ≡ record { section = j; part = 0 } → (piece : Piece) × (part_at table s ≡ Some piece) × (is_start piece.start ≡ true)
+FirstPartLaw = (table : Table) (s j : ℕ) → place_at table s ≡ record { section = j; part = 0 } →
+    (piece : Piece) × (part_at table s ≡ Some piece) × (is_start piece.start ≡ true)
 
 -- what an own slot carries can be a packet
 abbrev pub PartFitsLaw : Type 0

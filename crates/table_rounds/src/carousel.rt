@@ -95,8 +95,8 @@ impl TableCarousel {
         }
     }
 
-    /// Returns the packet of an own slot: a part of the current section, or the null packet if the section is shorter than
-    /// its places.
+    /// Returns the packet of an own slot: a part of the current section, or the null packet if the section is shorter
+    /// than its places.
     pub fn next<T: SectionSource>(&mut self, source: &T, slot: u64) -> [u8; 188]
         requires { slot < 2 ^ 40 }
         ensures packet { result ≡ packet_of (spec.carousel_content (T.bytes source.now) slot self.old) }

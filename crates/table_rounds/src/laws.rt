@@ -7,7 +7,8 @@ pub fn first_carousel()
     ensures { FirstCarouselLaw }
 {}
 
-/// States that the state gives, at an own slot, what the table carries there, and represents the table in the next slot.
+/// States that the state gives, at an own slot, what the table carries there, and represents the table in the next
+/// slot.
 pub fn own_slot()
     ensures { TableSlotLaw }
 {}

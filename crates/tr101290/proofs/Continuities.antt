@@ -1,5 +1,6 @@
 -- The continuity errors of a PID are those of its own packets.
-use Rattle.std.proofs.Common.{◌≡◌, ◌∙◌, ℕ, ◌==◌, Bool, true, false, cond, nat_eq, List, [], ◌∷◌, filter, Option, Some, None, true≢false, refl, sym, ap, subst, arith}
+use Rattle.std.proofs.Common.{◌≡◌, ◌∙◌, ℕ, ◌==◌, Bool, true, false, cond, nat_eq, List, [], ◌∷◌, filter, Option, Some, None, true≢false, refl, sym, ap, subst}
+use Rattle.std.proofs.Common.{arith}
 use Rattle.std.specs.Prelude.{option_map, unwrap_or}
 use Rattle.std.specs.Map.{lookup}
 use Rattle.std.proofs.lemmas.Bool.Decides.{nat_tests}
@@ -34,8 +35,10 @@ found : (pid q : ℕ) (x : Option LastView) (es : Lasts) (t : Bool) → (q == pi
 found pid q x [] t e = rw (turned_test pid q ∙ e) refl
 found pid q x (y ∷ es) t e = by t e (q == y.0) refl (found pid q x es t e)
   where
-    by : (t : Bool) → (q == pid) ≡ t → (u : Bool) → (q == y.0) ≡ u → lookup (nat_eq pid) (insert_entry nat_eq es q x) ≡ cond t (Some x) (lookup (nat_eq pid) es) →
-        lookup (nat_eq pid) (cond u ((y.0, x) ∷ es) (y ∷ insert_entry nat_eq es q x)) ≡ cond t (Some x) (cond (nat_eq pid y.0) (Some y.1) (lookup (nat_eq pid) es))
+    by : (t : Bool) → (q == pid) ≡ t → (u : Bool) → (q == y.0) ≡ u →
+        lookup (nat_eq pid) (insert_entry nat_eq es q x) ≡ cond t (Some x) (lookup (nat_eq pid) es) →
+        lookup (nat_eq pid) (cond u ((y.0, x) ∷ es) (y ∷ insert_entry nat_eq es q x)) ≡ cond t (Some x)
+        (cond (nat_eq pid y.0) (Some y.1) (lookup (nat_eq pid) es))
     by true e true f h = let g : (pid == y.0) ≡ true = subst (λ (n : ℕ). (n == y.0) ≡ true) (same_number q pid e) f in rw g refl
     by false e true f h = let g : (pid == y.0) ≡ false = subst (λ (n : ℕ). (pid == n) ≡ false) (same_number q y.0 f) (turned_test pid q ∙ e) in rw g refl
     by true e false f h = let g : (pid == y.0) ≡ false = subst (λ (n : ℕ). (n == y.0) ≡ false) (same_number q pid e) f in rw g h
@@ -122,7 +125,8 @@ general pid real (entry ∷ entries) lasts = by (general pid real entries) (entr
 
     by : ((l : Lasts) → filter (of_pid pid) (errors_from l entries) ≡ breaks pid (marked (last_of pid l) (filter (from_pid pid) entries))) →
         (n : Bool) → (q == 8191) ≡ n → (t : Bool) → (q == pid) ≡ t →
-        filter (of_pid pid) (before_if (error_at lasts entry) (errors_from (after lasts entry) entries)) ≡ breaks pid (marked (last_of pid lasts) (cond t (entry ∷ rest) rest))
+        filter (of_pid pid) (before_if (error_at lasts entry) (errors_from (after lasts entry) entries)) ≡ breaks pid
+        (marked (last_of pid lasts) (cond t (entry ∷ rest) rest))
     by ih true n true t = absurd (true≢false (sym (subst (λ (k : ℕ). (k == 8191) ≡ true) (same_number q pid t) n) ∙ real))
     by ih true n false t =
         ap (λ (o : Option ContinuityError). filter (of_pid pid) (before_if o (errors_from (after lasts entry) entries))) (null_error lasts entry n)
@@ -131,7 +135,9 @@ general pid real (entry ∷ entries) lasts = by (general pid real entries) (entr
         ∙ ih lasts
     by ih false n true t =
         ap (λ (o : Option ContinuityError). filter (of_pid pid) (before_if o (errors_from (after lasts entry) entries))) (real_error lasts entry n)
-        ∙ ap (λ (k : ℕ). filter (of_pid pid) (before_if (option_map (error_of k entry.index) (break_at (last_of k lasts) entry)) (errors_from (after lasts entry) entries))) (same_number q pid t)
+        ∙ ap (λ (k : ℕ). filter (of_pid pid)
+        (before_if (option_map (error_of k entry.index) (break_at (last_of k lasts) entry)) (errors_from (after lasts entry) entries)))
+        (same_number q pid t)
         ∙ stays pid entry.index (break_at (last_of pid lasts) entry) (errors_from (after lasts entry) entries)
         ∙ ap (before_if (option_map (error_of pid entry.index) (break_at (last_of pid lasts) entry))) (ih (after lasts entry)
         ∙ ap (λ (last : Option LastView). breaks pid (marked last rest)) (own pid lasts entry n t))
@@ -140,7 +146,8 @@ general pid real (entry ∷ entries) lasts = by (general pid real entries) (entr
         ap (λ (o : Option ContinuityError). filter (of_pid pid) (before_if o (errors_from (after lasts entry) entries))) (real_error lasts entry n)
         ∙ goes pid q entry.index (break_at (last_of q lasts) entry) (errors_from (after lasts entry) entries) t
         ∙ ih (after lasts entry)
-        ∙ ap (λ (last : Option LastView). breaks pid (marked last rest)) (ap (last_of pid) (real_after lasts entry n) ∙ last_kept pid q (Some (seen (mark (last_of q lasts) entry))) lasts false t)
+        ∙ ap (λ (last : Option LastView). breaks pid (marked last rest))
+        (ap (last_of pid) (real_after lasts entry n) ∙ last_kept pid q (Some (seen (mark (last_of q lasts) entry))) lasts false t)
 
 pub continuity_law : ContinuityLaw
 continuity_law pid entries real = general pid real entries []

@@ -1,5 +1,6 @@
 -- The entry of a key is that of its own sections.
-use Rattle.std.proofs.Common.{◌≡◌, ◌∙◌, ℕ, ◌-◌, ◌*◌, ◌==◌, Bool, true, false, cond, nat_eq, nat_lt, List, [], ◌∷◌, filter, Option, Some, None, refl, ap, subst, arith}
+use Rattle.std.proofs.Common.{◌≡◌, ◌∙◌, ℕ, ◌-◌, ◌*◌, ◌==◌, Bool, true, false, cond, nat_eq, nat_lt, List, [], ◌∷◌, filter, Option, Some, None, refl, ap, subst}
+use Rattle.std.proofs.Common.{arith}
 use Rattle.std.specs.Prelude.{max}
 use Rattle.std.specs.Map.{lookup}
 use Rattle.std.proofs.lemmas.Bool.Decides.{nat_tests}
@@ -29,8 +30,10 @@ found : (key k : ℕ) (x : SectionPlaces) (es : List (ℕ × SectionPlaces)) (t 
 found key k x [] t e = rw (turned_test key k ∙ e) refl
 found key k x (y ∷ es) t e = by t e (k == y.0) refl (found key k x es t e)
   where
-    by : (t : Bool) → (k == key) ≡ t → (u : Bool) → (k == y.0) ≡ u → lookup (nat_eq key) (insert_entry nat_eq es k x) ≡ cond t (Some x) (lookup (nat_eq key) es) →
-        lookup (nat_eq key) (cond u ((y.0, x) ∷ es) (y ∷ insert_entry nat_eq es k x)) ≡ cond t (Some x) (cond (nat_eq key y.0) (Some y.1) (lookup (nat_eq key) es))
+    by : (t : Bool) → (k == key) ≡ t → (u : Bool) → (k == y.0) ≡ u →
+        lookup (nat_eq key) (insert_entry nat_eq es k x) ≡ cond t (Some x) (lookup (nat_eq key) es) →
+        lookup (nat_eq key) (cond u ((y.0, x) ∷ es) (y ∷ insert_entry nat_eq es k x)) ≡ cond t (Some x)
+        (cond (nat_eq key y.0) (Some y.1) (lookup (nat_eq key) es))
     by true e true f h = let g : (key == y.0) ≡ true = subst (λ (n : ℕ). (n == y.0) ≡ true) (same_number k key e) f in rw g refl
     by false e true f h = let g : (key == y.0) ≡ false = subst (λ (n : ℕ). (key == n) ≡ false) (same_number k y.0 f) (turned_test key k ∙ e) in rw g refl
     by true e false f h = let g : (key == y.0) ≡ false = subst (λ (n : ℕ). (n == y.0) ≡ false) (same_number k key e) f in rw g h
@@ -40,7 +43,8 @@ pub entry_law : EntryLaw
 unfolding state_of places_of
 entry_law timing key [] = refl
 entry_law timing key (s ∷ earlier) =
-    found key (section_key s) (places_after (places_at (state_of timing earlier) (section_key s)) s) (state_of timing earlier).entries (section_key s == key) refl
+    found key (section_key s) (places_after (places_at (state_of timing earlier) (section_key s)) s) (state_of timing earlier).entries (section_key s == key)
+    refl
     ∙ by (section_key s == key) refl (entry_law timing key earlier)
   where
     by : (t : Bool) → (section_key s == key) ≡ t → places_at (state_of timing earlier) key ≡ places_of (sections_of key earlier) →
@@ -65,10 +69,12 @@ part_law timing key (s ∷ earlier) = by s.part (part_law timing key earlier)
     test p false e rest = rest
 
     by : (part : Option ℕ) → part_places_at (state_of timing earlier) key ≡ places_of (sections_of_part key earlier) →
-        lookup (nat_eq key) (parts_after (state_of timing earlier) s part) ≡ places_of (cond (is_part key s part) (s ∷ sections_of_part key earlier) (sections_of_part key earlier))
+        lookup (nat_eq key) (parts_after (state_of timing earlier) s part) ≡ places_of
+        (cond (is_part key s part) (s ∷ sections_of_part key earlier) (sections_of_part key earlier))
     by None rest = rest
     by (Some p) rest =
-        found key (part_key s p) (places_after (part_places_at (state_of timing earlier) (part_key s p)) s) (state_of timing earlier).parts (part_key s p == key) refl
+        found key (part_key s p) (places_after (part_places_at (state_of timing earlier) (part_key s p)) s) (state_of timing earlier).parts
+        (part_key s p == key) refl
         ∙ test p (part_key s p == key) refl rest
 
 -- the greater of two
@@ -79,7 +85,8 @@ greater a b = by (nat_lt a b) refl
     by true e = grind (arith, nat_tests)
     by false e = grind (arith, nat_tests)
 
-step : (p : SectionPlaces) (section : SectionBegin) (before gap : ℕ) → p.greatest ≡ gap → p.last ≡ before → (places_after (Some p) section).greatest ≡ max (section.place - before) gap
+step : (p : SectionPlaces) (section : SectionBegin) (before gap : ℕ) → p.greatest ≡ gap → p.last ≡ before →
+    (places_after (Some p) section).greatest ≡ max (section.place - before) gap
 unfolding places_after
 step p section before gap g l = rw (g, l) (greater gap (section.place - before))
 

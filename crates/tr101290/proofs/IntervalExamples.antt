@@ -17,7 +17,8 @@ rounded : time_of_packets 1504001 500 ≡ 13499992
 rounded = refl
 
 -- so the second of these sections of a PAT is late
-error : error_at (taken (no_section (ConstantRate 1504000)) (record { pid = 0; table_id = 0; part = None; packet = 7; place = 7 })) (record { pid = 0; table_id = 0; part = None; packet = 508; place = 508 })
+error : error_at (taken (no_section (ConstantRate 1504000)) (record { pid = 0; table_id = 0; part = None; packet = 7; place = 7 }))
+    (record { pid = 0; table_id = 0; part = None; packet = 508; place = 508 })
     ≡ Some (record { section = record { pid = 0; table_id = 0; part = None; packet = 508; place = 508 }; value = 13527000; limit = 13500000 })
 unfolding milliseconds error_if places_after time_between
 error = refl
@@ -26,6 +27,7 @@ error = refl
 eit : ℕ → ℕ → SectionBegin
 eit part packet = record { pid = 18; table_id = 78; part = Some part; packet = packet; place = packet }
 
-part_error : error_at (taken (taken (no_section (ConstantRate 1504000)) (eit 1 7)) (eit 0 1500)) (eit 1 2008) ≡ Some (record { section = eit 1 2008; value = 54027000; limit = 54000000 })
+part_error : error_at (taken (taken (no_section (ConstantRate 1504000)) (eit 1 7)) (eit 0 1500)) (eit 1 2008) ≡ Some
+    (record { section = eit 1 2008; value = 54027000; limit = 54000000 })
 unfolding eit milliseconds error_if part_before parts_after places_after time_between
 part_error = refl

@@ -3,7 +3,8 @@ use Rattle.std.proofs.Common.{◌≡◌, ◌∙◌, sym, ℕ, Bool, true, false,
 use Rattle.tr101290.specs.declared.rate_judge.PidError.{PidError}
 use Rattle.tr101290.specs.declared.report.PcrReport.{PcrReport}
 use Rattle.tr101290.specs.Errors.{accuracy_error}
-use Rattle.tr101290.specs.RateJudges.{JudgeState, after_all, all_errors, error_list, errors_all, errors_at, if_constant, is_decided, last_errors, no_rate, settled, taken, varies, with_report}
+use Rattle.tr101290.specs.RateJudges.{JudgeState, after_all, all_errors, error_list, errors_all, errors_at, if_constant, is_decided, last_errors, no_rate}
+use Rattle.tr101290.specs.RateJudges.{settled, taken, varies, with_report}
 use Rattle.tr101290.specs.PcrLaws.{JudgedFrom, JudgeLaw}
 
 -- errors that count, one list after another
@@ -63,7 +64,8 @@ undecided s (r ∷ rs) d = by (is_decided (with_report s r.0 r.1)) refl (λ q. u
     t : JudgeState
     t = with_report s r.0 r.1
 
-    by : (b : Bool) → is_decided (with_report s r.0 r.1) ≡ b → (is_decided (with_report s r.0 r.1) ≡ false → JudgedFrom (with_report s r.0 r.1) rs) → JudgedFrom s (r ∷ rs)
+    by : (b : Bool) → is_decided (with_report s r.0 r.1) ≡ b → (is_decided (with_report s r.0 r.1) ≡ false → JudgedFrom (with_report s r.0 r.1) rs) →
+        JudgedFrom s (r ∷ rs)
     by false q later =
         ap₂ (λ (a : List PidError) (u : JudgeState). (a ++ errors_all u rs) ++ last_errors (after_all u rs)) (none_yet s r d q) (waits s r d q)
         ∙ later q

@@ -42,7 +42,9 @@ told referenced k q m = by (k == q) refl
 
     by : (e : Bool) → (k == q) ≡ e → (e && (not (is_reserved k) && not (is_among k referenced))) || (m && (not (is_reserved q) && not (is_among q referenced)))
         ≡ (e || m) && (not (is_reserved q) && not (is_among q referenced))
-    by true e = subst (λ (p : ℕ). (not (is_reserved p) && not (is_among p referenced)) || (m && (not (is_reserved q) && not (is_among q referenced))) ≡ (not (is_reserved q) && not (is_among q referenced)))
+    by true e = subst
+        (λ (p : ℕ). (not (is_reserved p) && not (is_among p referenced)) || (m && (not (is_reserved q) && not (is_among q referenced))) ≡
+        (not (is_reserved q) && not (is_among q referenced)))
         (sym (same_number k q e)) (by_test (not (is_reserved q) && not (is_among q referenced)) m)
     by false e = refl
 
@@ -57,7 +59,8 @@ unreferenced_law referenced (entry ∷ entries) q =
 -- 2. PIDs without
 
 -- with one more
-one_more : (entries : List (ℕ × PidCounts)) (found : List ℕ) (p q : ℕ) → is_among q (with_missing entries found p) ≡ is_among q found || ((p == q) && not (has_packets entries q))
+one_more : (entries : List (ℕ × PidCounts)) (found : List ℕ) (p q : ℕ) →
+    is_among q (with_missing entries found p) ≡ is_among q found || ((p == q) && not (has_packets entries q))
 one_more entries found p q = by (p == q) refl
   where
     other : (t : Bool) → (p == q) ≡ false → is_among q (cond t (found ++ p ∷ []) found) ≡ is_among q found || false
@@ -90,7 +93,8 @@ joined false true false true = refl
 joined false true false false = refl
 joined false false m n = refl
 
-members : (entries : List (ℕ × PidCounts)) (found pids : List ℕ) (q : ℕ) → is_among q (missing_pids entries found pids) ≡ is_among q found || (is_among q pids && not (has_packets entries q))
+members : (entries : List (ℕ × PidCounts)) (found pids : List ℕ) (q : ℕ) →
+    is_among q (missing_pids entries found pids) ≡ is_among q found || (is_among q pids && not (has_packets entries q))
 unfolding missing_pids
 members entries found [] q = sym (or_false (is_among q found))
 members entries found (p ∷ pids) q =

@@ -1,6 +1,7 @@
 -- How soon sections follow each other: from the end of a section of service information to the beginning of the next one of the same PID, table_id
 -- and table_id_extension 25 ms have to pass (ETSI EN 300 468, 5.1.4.1; ETSI TR 101 211, 4.4; ETSI TR 101 290, 5.2.3, 3.1.a, 3.5.a, 3.6.a, 3.7 and 3.8).
-use Rattle.std.specs.Prelude.{ℕ, ◌*◌, ◌-◌, ◌/◌, ◌==◌, ◌&&◌, ◌||◌, not, nat_eq, nat_le, nat_lt, is_some, Bool, if◌then◌else◌, List, [], length, Option, Some, None}
+use Rattle.std.specs.Prelude.{ℕ, ◌*◌, ◌-◌, ◌/◌, ◌==◌, ◌&&◌, ◌||◌, not, nat_eq, nat_le, nat_lt, is_some, Bool, if◌then◌else◌, List, [], length, Option, Some}
+use Rattle.std.specs.Prelude.{None}
 use Rattle.std.specs.Map.{lookup}
 use Rattle.indexmap.specs.IndexMap.{insert_entry}
 use Rattle.tr101290.specs.Intervals.{key_with, section_key}

@@ -38,11 +38,13 @@ EntryLaw = (timing : TableTiming) (key : ℕ) (sections : List SectionBegin) →
 
 -- and that of a key with a part is that of the sections of this part, whatever parts come between
 abbrev pub PartLaw : Type 0
-PartLaw = (timing : TableTiming) (key : ℕ) (sections : List SectionBegin) → part_places_at (state_of timing sections) key ≡ places_of (sections_of_part key sections)
+PartLaw = (timing : TableTiming) (key : ℕ) (sections : List SectionBegin) →
+    part_places_at (state_of timing sections) key ≡ places_of (sections_of_part key sections)
 
 -- its greatest is the greatest from one section to the next, and its last one the last
 abbrev pub GreatestLaw : Type 0
-GreatestLaw = (section : SectionBegin) (earlier : List SectionBegin) → IfSome (places_of (section ∷ earlier)) (λ places. (places.greatest ≡ greatest_gap (section ∷ earlier)) × (places.last ≡ section.place))
+GreatestLaw = (section : SectionBegin) (earlier : List SectionBegin) →
+    IfSome (places_of (section ∷ earlier)) (λ places. (places.greatest ≡ greatest_gap (section ∷ earlier)) × (places.last ≡ section.place))
 
 -- a time is beyond a limit exactly where the exact one is
 abbrev pub TimeLaw : Type 0

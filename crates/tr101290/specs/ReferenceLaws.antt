@@ -6,7 +6,8 @@ use Rattle.tr101290.specs.Packets.{is_among, is_reserved, has_packets, unreferen
 -- those with packets that have to be named and are not
 abbrev pub UnreferencedLaw : Type 0
 UnreferencedLaw = (referenced : List ℕ) (entries : List (ℕ × PidCounts)) (pid : ℕ) →
-    is_among pid (unreferenced_pids referenced entries) ≡ is_among pid (map (λ entry. entry.0) entries) && (not (is_reserved pid) && not (is_among pid referenced))
+    is_among pid (unreferenced_pids referenced entries) ≡ is_among pid (map (λ entry. entry.0) entries)
+    && (not (is_reserved pid) && not (is_among pid referenced))
 
 -- those that are named and have no packets
 abbrev pub MissingLaw : Type 0

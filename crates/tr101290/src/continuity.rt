@@ -13,7 +13,8 @@ use std::alloc::{AllocError, Allocator};
 use std::marker::Model;
 use ts_packet::Packet;
 
-/// A packet whose continuity_counter does not follow: the packet's index, the counter that had to come, and the one that came.
+/// A packet whose continuity_counter does not follow: the packet's index, the counter that had to come, and the one
+/// that came.
 #[derive(Clone, Copy, PartialEq, Eq)]
 pub struct ContinuityError {
     pub pid: u16,
@@ -102,7 +103,8 @@ impl<A: Allocator + Copy> ContinuityWatch<A> {
         }
     }
 
-    /// Takes the packet at an index, which is not known to be wrong, and returns the error of its counter, if there is one.
+    /// Takes the packet at an index, which is not known to be wrong, and returns the error of its counter, if there is
+    /// one.
     ///
     /// After an `AllocError` nothing is known of the PID: drop the watch.
     #[tactic(auto, unfolding(crate::specs::Continuity::after, crate::specs::Continuity::error_at, demux::specs::Marks::break_at), using(crate::proofs::LastPackets::last_there, crate::proofs::LastPackets::kept_there))]

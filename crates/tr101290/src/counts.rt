@@ -102,7 +102,8 @@ impl PcrCounts {
         }
     }
 
-    /// Returns the rate that all references give, in bits a second, rounded down: the rate of the lines on which the clock continues.
+    /// Returns the rate that all references give, in bits a second, rounded down: the rate of the lines on which the
+    /// clock continues.
     pub fn rate(self) -> Option<u128>
         ensures { result ≡ spec.rate_of self }
     {

@@ -19,7 +19,8 @@ pub const LEAST_DISTANCE: u64 = 675_000;
 // The most tables and extensions whose sections are watched.
 const MOST_ENDS: usize = 65_536;
 
-/// A whole section: where it begins, its table_id_extension, which is 0 if it has none, and the place of the packet that ends it.
+/// A whole section: where it begins, its table_id_extension, which is 0 if it has none, and the place of the packet
+/// that ends it.
 #[derive(Clone, Copy)]
 pub struct WholeSection {
     pub begin: SectionBegin,

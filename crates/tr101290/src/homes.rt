@@ -2,8 +2,8 @@
 ghost use Rattle.std.specs.Prelude.{◌≡◌};
 ghost use Rattle.tr101290.specs.Homes as spec;
 
-/// Returns whether sections of a table_id may be on a PID: on the PIDs of PAT, CAT, NIT, SDT, EIT, RST and TDT these tables alone, and
-/// stuffing tables (0x72) on all of them but the first two.
+/// Returns whether sections of a table_id may be on a PID: on the PIDs of PAT, CAT, NIT, SDT, EIT, RST and TDT these
+/// tables alone, and stuffing tables (0x72) on all of them but the first two.
 pub fn belongs(pid: u16, table_id: u8) -> bool
     ensures { result ≡ spec.belongs pid table_id }
 {

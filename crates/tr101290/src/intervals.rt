@@ -23,7 +23,8 @@ pub enum TableTiming {
     Ticks,
 }
 
-/// A section of a table_id, and of a part of its table if it has parts, begins in a packet of a PID, at a place in time.
+/// A section of a table_id, and of a part of its table if it has parts, begins in a packet of a PID, at a place in
+/// time.
 #[derive(Clone, Copy)]
 pub struct SectionBegin {
     pub pid: u16,
@@ -43,7 +44,8 @@ pub struct SectionPlaces {
     pub at: u64,
 }
 
-/// A section begins too long after the one before it of its table_id, or of its part: the time between in ticks, and the limit.
+/// A section begins too long after the one before it of its table_id, or of its part: the time between in ticks, and
+/// the limit.
 #[derive(Clone, Copy)]
 pub struct TableError {
     pub section: SectionBegin,

@@ -9,8 +9,8 @@
 //! - [`RateJudge`]: whether the references say that the rate is constant; without it their accuracy says nothing.
 //! - [`pcr_laws`]: there is an error exactly where the exact value is beyond its limit.
 //!
-//! Tables (also ETSI TR 101 211, 4.4): the greatest time from one section of a table_id on a PID to the next, and which of these
-//! times are too long:
+//! Tables (also ETSI TR 101 211, 4.4): the greatest time from one section of a table_id on a PID to the next, and which
+//! of these times are too long:
 //!
 //! - [`TableIntervals`]: takes where sections begin ([`section_begin`]); keeps one entry for each PID and table_id, and one for each
 //!   part of a table whose parts have to come again by themselves ([`has_parts`]), whatever the length of the stream.
@@ -30,8 +30,9 @@
 //!
 //! Presentation time stamps (2.5): [`PtsWatch`] finds those that come more than 700 ms after the one before.
 //!
-//! Times are ticks of 27 MHz, of tables also packets (a packet lasts 40,608,000,000 / R ticks at R bits a second), inaccuracies
-//! nanoseconds. They are rounded up, so that a value is beyond a whole limit exactly where the exact one is; a rate is rounded down.
+//! Times are ticks of 27 MHz, of tables also packets (a packet lasts 40,608,000,000 / R ticks at R bits a second),
+//! inaccuracies nanoseconds. They are rounded up, so that a value is beyond a whole limit exactly where the exact one
+//! is; a rate is rounded down.
 #![tactic(auto)]
 
 mod continuity;

@@ -31,8 +31,8 @@ fn milliseconds(pid: u16, table_id: u8) -> Option<u16>
     }
 }
 
-/// Returns the greatest time from one section of a table_id on a PID to the next, in ticks of 27 MHz, for PAT, PMT, NIT,
-/// SDT, BAT, EIT of present and following events, TDT and TOT on their own PIDs; `None` for other tables.
+/// Returns the greatest time from one section of a table_id on a PID to the next, in ticks of 27 MHz, for PAT, PMT,
+/// NIT, SDT, BAT, EIT of present and following events, TDT and TOT on their own PIDs; `None` for other tables.
 pub fn limit_of(pid: u16, table_id: u8) -> Option<u64>
     ensures { result ≡ spec.limit_of pid table_id }
 {

@@ -12,8 +12,8 @@ fn is_map(table_id: u8) -> bool
     table_id == 0x02
 }
 
-/// Returns whether each part of a table has to come again by itself: the map of each program, and each section of an EIT of
-/// present and following events.
+/// Returns whether each part of a table has to come again by itself: the map of each program, and each section of an
+/// EIT of present and following events.
 pub fn has_parts(pid: u16, table_id: u8) -> bool
     ensures { result ≡ spec.has_parts pid table_id }
 {

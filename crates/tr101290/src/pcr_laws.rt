@@ -1,5 +1,5 @@
-//! Laws of the measured values. Each is a function that does nothing: its contract is the law, over the definitions of `specs/`
-//! alone, and a caller may cite it.
+//! Laws of the measured values. Each is a function that does nothing: its contract is the law, over the definitions of
+//! `specs/` alone, and a caller may cite it.
 ghost use Rattle.tr101290.specs.PcrLaws.{RoundedUpLaw, IntervalLaw, InaccuracyLaw, PlaceLaw, WholeTicksLaw, ClockLaw, JudgeLaw};
 
 /// States that a value is beyond its limit exactly where the exact one is.
@@ -9,7 +9,8 @@ pub fn rounding()
     ensures inaccuracies { InaccuracyLaw }
 {}
 
-/// States that an inaccuracy is a distance from an arrival on a line, and that a clock rounded down to whole ticks is accurate.
+/// States that an inaccuracy is a distance from an arrival on a line, and that a clock rounded down to whole ticks is
+/// accurate.
 pub fn places()
     ensures place { PlaceLaw }
     ensures accurate { WholeTicksLaw }

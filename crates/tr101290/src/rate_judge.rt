@@ -16,8 +16,8 @@ pub struct PidError {
     pub error: PcrError,
 }
 
-/// The rates that references give, one after another, until 32 pairs are compared; and the accuracy errors so far, which say nothing
-/// if the rate varies.
+/// The rates that references give, one after another, until 32 pairs are compared; and the accuracy errors so far,
+/// which say nothing if the rate varies.
 #[derive(Drop)]
 pub struct RateJudge {
     alloc: Global,
@@ -183,7 +183,8 @@ impl RateJudge {
         }
     }
 
-    /// Takes the report on the next reference, and appends the accuracy errors that count now: all so far if it is decided with it that the rate is constant.
+    /// Takes the report on the next reference, and appends the accuracy errors that count now: all so far if it is
+    /// decided with it that the rate is constant.
     ///
     /// After an `AllocError` the judge describes no stream: drop it.
     pub fn take(

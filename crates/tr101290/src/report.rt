@@ -36,7 +36,8 @@ pub struct PcrReport {
     pub rate: Option<u128>,
     /// The time since the one before it, in ticks.
     pub interval: Option<u128>,
-    /// The inaccuracy that it makes known: at a constant rate its own, otherwise the inaccuracy of the reference before it.
+    /// The inaccuracy that it makes known: at a constant rate its own, otherwise the inaccuracy of the reference before
+    /// it.
     pub inaccuracy: Option<Inaccuracy>,
 }
 

@@ -30,7 +30,8 @@ fn begin_of<A: Allocator>(
     }
 }
 
-/// Returns where the section of a finding begins, whether or not it became whole; `None` for a finding without a section. Its place is its packet.
+/// Returns where the section of a finding begins, whether or not it became whole; `None` for a finding without a
+/// section. Its place is its packet.
 #[tactic(auto, unfolding(crate::specs::Sections::section_by))]
 pub fn section_begin<A: Allocator>(finding: &Finding<'_, A>) -> Option<SectionBegin>
     ensures { result ≡ spec.section_begin (finding_view finding.now) }

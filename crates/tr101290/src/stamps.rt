@@ -127,7 +127,8 @@ impl<A: Allocator + Copy> PtsWatch<A> {
         }
     }
 
-    /// Takes the packet at an index, which comes at a place, and returns the error of its PTS, if it has one that comes too late.
+    /// Takes the packet at an index, which comes at a place, and returns the error of its PTS, if it has one that comes
+    /// too late.
     ///
     /// After an `AllocError` the watch describes no stream: drop it.
     pub fn take(

@@ -1,5 +1,6 @@
 -- What the bytes say is read.
-use Rattle.std.proofs.Common.{◌≡◌, ℕ, suc, ◌+◌, ◌*◌, ◌/◌, ◌%◌, ◌<◌, ◌≤◌, ◌==◌, Bool, true, false, List, [], ◌∷◌, ◌++◌, length, take, drop, Option, Some, None, is_some, Ok, refl, ap, ◌∙◌, subst, arith, ℤ, nat_lt, drop_at, le-ltb, lit<, eq-eqb}
+use Rattle.std.proofs.Common.{◌≡◌, ℕ, suc, ◌+◌, ◌*◌, ◌/◌, ◌%◌, ◌<◌, ◌≤◌, ◌==◌, Bool, true, false, List, [], ◌∷◌, ◌++◌, length, take, drop, Option, Some, None}
+use Rattle.std.proofs.Common.{is_some, Ok, refl, ap, ◌∙◌, subst, arith, ℤ, nat_lt, drop_at, le-ltb, lit<, eq-eqb}
 use Rattle.std.proofs.lemmas.List.{length-append}
 use lib.Seq.{take-append_seam}
 use Rattle.bit_fields.specs.Fields.{fields, bit, flag}
@@ -10,7 +11,8 @@ use Rattle.ts_packet.specs.declared.header.Header.{Header}
 use Rattle.ts_packet.specs.declared.packet.PacketError.TheVariants.{FieldTooLong, PartTooLong}
 use Rattle.ts_packet.specs.Views.{FieldView, AdaptationView, NoFlags, WithFlags, PacketView}
 use Rattle.ts_packet.specs.Syntax.{control_of, IsHeader, IsReference, IsCountdown, IsLengthPrefixed, IsAnnounced, IsParts, IsAdaptation, IsPayload, IsPacket}
-use Rattle.ts_packet.specs.Reading.{reference_of, reference_at, countdown_at, length_prefixed_at, parts_at, adaptation_at, field_at, body_at, header_of, packet_at}
+use Rattle.ts_packet.specs.Reading.{reference_of, reference_at, countdown_at, length_prefixed_at, parts_at, adaptation_at, field_at, body_at, header_of}
+use Rattle.ts_packet.specs.Reading.{packet_at}
 
 -- six bytes of a clock reference are read as it
 reference_again : (wire : List ℕ) (reference : Reference) → IsReference wire reference → reference_of wire ≡ reference
@@ -93,7 +95,8 @@ flags_read flags p q r s t u v w a b c d e f g h is = record {
 parts_read : (body : List ℕ) (parts : FieldView) → IsParts body parts → adaptation_at body ≡ Ok (WithFlags parts)
 unfolding adaptation_at parts_at
 parts_read body parts is =
-    let bits = flags_read is.flags _ _ _ _ _ _ _ _ (bit_below parts.discontinuity_indicator) (bit_below parts.random_access_indicator) (bit_below parts.elementary_stream_priority_indicator)
+    let bits = flags_read is.flags _ _ _ _ _ _ _ _ (bit_below parts.discontinuity_indicator) (bit_below parts.random_access_indicator)
+    (bit_below parts.elementary_stream_priority_indicator)
     (bit_below (is_some parts.pcr)) (bit_below (is_some parts.opcr)) (bit_below (is_some parts.splice_countdown))
     (bit_below (is_some parts.private_data)) (bit_below (is_some parts.extension)) is.flagged in
     let discontinuity_indicator : flag is.flags 128 ≡ parts.discontinuity_indicator = test_bit parts.discontinuity_indicator _ bits.first in
@@ -106,9 +109,12 @@ parts_read body parts is =
     let rest-pcr = is.opcr ++ rest-opcr in
     let pcr = reference_read (flag is.flags 16) parts.pcr is.pcr rest-pcr (test_bit (is_some parts.pcr) _ bits.fourth) is.is_pcr in
     let opcr = reference_read (flag is.flags 8) parts.opcr is.opcr rest-opcr (test_bit (is_some parts.opcr) _ bits.fifth) is.is_opcr in
-    let splice = countdown_read (flag is.flags 4) parts.splice_countdown is.splice rest-splice (test_bit (is_some parts.splice_countdown) _ bits.sixth) is.is_splice in
-    let private = length_prefixed_read (flag is.flags 2) parts.private_data is.private rest-private (test_bit (is_some parts.private_data) _ bits.seventh) is.is_private in
-    let extension = length_prefixed_read (flag is.flags 1) parts.extension is.extension rest-extension (test_bit (is_some parts.extension) _ bits.eighth) is.is_extension in
+    let splice = countdown_read (flag is.flags 4) parts.splice_countdown is.splice rest-splice (test_bit (is_some parts.splice_countdown) _ bits.sixth)
+    is.is_splice in
+    let private = length_prefixed_read (flag is.flags 2) parts.private_data is.private rest-private (test_bit (is_some parts.private_data) _ bits.seventh)
+    is.is_private in
+    let extension = length_prefixed_read (flag is.flags 1) parts.extension is.extension rest-extension (test_bit (is_some parts.extension) _ bits.eighth)
+    is.is_extension in
     let read : parts_at is.flags (is.pcr ++ rest-pcr) ≡ Ok parts =
     bind_at _ _ (parts.pcr, rest-pcr) pcr
     ∙ bind_at _ _ (parts.opcr, rest-opcr) opcr
@@ -140,7 +146,8 @@ field_read most field rest (WithFlags parts) is short =
     rw is.is (guarded _ FieldTooLong _ fits ∙ bind_at _ _ (WithFlags parts) read ∙ ap (λ (l : List ℕ). Ok (WithFlags parts, l)) after)
 
 -- what follows the header
-body_read : (header : Header) (adaptation : Option AdaptationView) (payload : Option (List ℕ)) (field rest : List ℕ) → IsAdaptation field adaptation → IsPayload rest payload
+body_read : (header : Header) (adaptation : Option AdaptationView) (payload : Option (List ℕ)) (field rest : List ℕ) → IsAdaptation field adaptation →
+    IsPayload rest payload
     → 0 < control_of adaptation payload → length (field ++ rest) ≡ 184
     → body_at header (control_of adaptation payload) (field ++ rest) ≡ Ok (record { header = header; adaptation = adaptation; payload = payload })
 unfolding body_at
@@ -168,7 +175,8 @@ record HeaderRead (a b c d : ℕ) (rest : List ℕ) (header : Header) (control :
   controlled : d / 16 % 4 ≡ control
   read : header_of (a ∷ b ∷ c ∷ d ∷ rest) ≡ header
 
-header_read : (a b c d : ℕ) (rest : List ℕ) (header : Header) (control : ℕ) → IsHeader (a ∷ b ∷ c ∷ d ∷ []) header control → control < 4 → HeaderRead a b c d rest header control
+header_read : (a b c d : ℕ) (rest : List ℕ) (header : Header) (control : ℕ) → IsHeader (a ∷ b ∷ c ∷ d ∷ []) header control → control < 4 →
+    HeaderRead a b c d rest header control
 unfolding header_of
 header_read a b c d rest header control is below =
     let p : a < 256 = is.bytes 0 in
@@ -190,8 +198,10 @@ header_read a b c d rest header control is below =
     let counter : d % 16 ≡ header.continuity_counter = omega arith in
     record { sync = omega arith; controlled = omega arith; read = rw (error, start, priority, pid, scrambling, counter) refl }
 
-front_read : (front field rest : List ℕ) (packet : PacketView) → IsHeader front packet.header (control_of packet.adaptation packet.payload) → IsAdaptation field packet.adaptation
-    → IsPayload rest packet.payload → 0 < control_of packet.adaptation packet.payload → length (front ++ (field ++ rest)) ≡ 188 → packet_at (front ++ (field ++ rest)) ≡ Ok packet
+front_read : (front field rest : List ℕ) (packet : PacketView) → IsHeader front packet.header (control_of packet.adaptation packet.payload) →
+    IsAdaptation field packet.adaptation
+    → IsPayload rest packet.payload → 0 < control_of packet.adaptation packet.payload → length (front ++ (field ++ rest)) ≡ 188 →
+    packet_at (front ++ (field ++ rest)) ≡ Ok packet
 unfolding packet_at
 front_read (a ∷ b ∷ c ∷ d ∷ []) field rest packet is adaptation payload some size =
     let control = control_of packet.adaptation packet.payload in

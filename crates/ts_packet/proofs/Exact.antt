@@ -1,5 +1,6 @@
 -- What is read is what the bytes say.
-use Rattle.std.proofs.Common.{◌≡◌, ◌⊎◌, ℕ, zero, suc, ◌+◌, ◌/◌, ◌%◌, ◌<◌, ◌≤◌, ◌==◌, Bool, true, false, List, [], ◌∷◌, ◌++◌, length, take, drop, Option, Some, None, is_some, Result, Ok, Err, refl, sym, ap, ◌∙◌, subst, arith, inl, inr, eqb-true, ltb-false, ℤ, nat_lt, take-append-drop}
+use Rattle.std.proofs.Common.{◌≡◌, ◌⊎◌, ℕ, zero, suc, ◌+◌, ◌/◌, ◌%◌, ◌<◌, ◌≤◌, ◌==◌, Bool, true, false, List, [], ◌∷◌, ◌++◌, length, take, drop, Option, Some}
+use Rattle.std.proofs.Common.{None, is_some, Result, Ok, Err, refl, sym, ap, ◌∙◌, subst, arith, inl, inr, eqb-true, ltb-false, ℤ, nat_lt, take-append-drop}
 use Rattle.std.proofs.lemmas.List.{length-take, length-append}
 use Rattle.std.specs.Int.{cast_signed, w8}
 use Rattle.bit_fields.specs.Fields.{fields, bit, flag, IsBytes}
@@ -13,7 +14,8 @@ use Rattle.ts_packet.specs.declared.packet.PacketError.{PacketError}
 use Rattle.ts_packet.specs.declared.packet.PacketError.TheVariants.{Sync, FieldTooLong, PartTooLong}
 use Rattle.ts_packet.specs.Views.{FieldView, AdaptationView, NoFlags, WithFlags, PacketView}
 use Rattle.ts_packet.specs.Syntax.{control_of, IsHeader, IsReference, IsCountdown, IsLengthPrefixed, IsAnnounced, IsParts, IsAdaptation, IsPayload, IsPacket}
-use Rattle.ts_packet.specs.Reading.{reference_of, reference_at, countdown_at, length_prefixed_at, parts_at, adaptation_at, field_at, body_at, header_of, packet_at}
+use Rattle.ts_packet.specs.Reading.{reference_of, reference_at, countdown_at, length_prefixed_at, parts_at, adaptation_at, field_at, body_at, header_of}
+use Rattle.ts_packet.specs.Reading.{packet_at}
 
 -- six bytes are a clock reference
 reference_is : (wire : List ℕ) → length wire ≡ 6 → IsBytes wire → IsReference wire (reference_of wire)
@@ -132,7 +134,8 @@ parts_is flags bytes parts h e =
       is_extension = extension.says;
     })
   where
-    five : (p q r s t bytes a b c d e : List ℕ) → bytes ≡ p ++ a → a ≡ q ++ b → b ≡ r ++ c → c ≡ s ++ d → d ≡ t ++ e → bytes ≡ p ++ (q ++ (r ++ (s ++ (t ++ e))))
+    five : (p q r s t bytes a b c d e : List ℕ) → bytes ≡ p ++ a → a ≡ q ++ b → b ≡ r ++ c → c ≡ s ++ d → d ≡ t ++ e →
+        bytes ≡ p ++ (q ++ (r ++ (s ++ (t ++ e))))
     five p q r s t bytes a b c d e u v w x y =
         u ∙ ap (λ (l : List ℕ). p ++ l) (v ∙ ap (λ (l : List ℕ). q ++ l) (w ∙ ap (λ (l : List ℕ). r ++ l) (x ∙ ap (λ (l : List ℕ). s ++ l) y)))
 
@@ -145,7 +148,8 @@ parts_is flags bytes parts h e =
         omega arith
 
 -- a length, and an adaptation field of that length
-adaptation_is : (body : List ℕ) (adaptation : AdaptationView) → IsBytes body → adaptation_at body ≡ Ok adaptation → IsAdaptation (length body ∷ body) (Some adaptation)
+adaptation_is : (body : List ℕ) (adaptation : AdaptationView) → IsBytes body → adaptation_at body ≡ Ok adaptation →
+    IsAdaptation (length body ∷ body) (Some adaptation)
 unfolding adaptation_at
 adaptation_is [] adaptation h e = subst (λ (a : AdaptationView). IsAdaptation (0 ∷ []) (Some a)) (ok_is NoFlags adaptation e) refl
 adaptation_is (flags ∷ bytes) adaptation h e =
@@ -160,7 +164,8 @@ record FieldReads (most : ℕ) (bytes : List ℕ) (read : AdaptationView × List
   says : IsAdaptation wire (Some read.0)
   short : length wire ≤ most + 1
 
-field_reads : (most : ℕ) (bytes : List ℕ) (read : AdaptationView × List ℕ) → IsBytes bytes → most < length bytes → field_at most bytes ≡ Ok read → FieldReads most bytes read
+field_reads : (most : ℕ) (bytes : List ℕ) (read : AdaptationView × List ℕ) → IsBytes bytes → most < length bytes → field_at most bytes ≡ Ok read →
+    FieldReads most bytes read
 unfolding field_at
 field_reads most [] read h room e = absurd (omega arith)
 field_reads most (n ∷ bytes) read h room e =
@@ -171,7 +176,8 @@ field_reads most (n ∷ bytes) read h room e =
     subst (FieldReads most (n ∷ bytes)) (ok_is (a.0, drop n bytes) read a.2) (record {
       wire = n ∷ take n bytes;
       is = ap (λ (l : List ℕ). n ∷ l) (sym (take-append-drop n bytes));
-      says = subst (λ (m : ℕ). IsAdaptation (m ∷ take n bytes) (Some a.0)) size (adaptation_is (take n bytes) a.0 (IsBytes-take n bytes (IsBytes-tail n bytes h)) a.1);
+      says = subst (λ (m : ℕ). IsAdaptation (m ∷ take n bytes) (Some a.0)) size
+          (adaptation_is (take n bytes) a.0 (IsBytes-take n bytes (IsBytes-tail n bytes h)) a.1);
       short = omega arith;
     })
 
@@ -254,12 +260,14 @@ pub packet_is : (bytes : List ℕ) (packet : PacketView) → IsBytes bytes → l
 unfolding packet_at
 packet_is (a ∷ b ∷ c ∷ d ∷ rest) packet h size e = is_of (chosen (a == 0x47) _ _ _ e)
   where
-    is_of : ((a == 0x47) ≡ true) × (body_at (header_of (a ∷ b ∷ c ∷ d ∷ rest)) (d / 16 % 4) rest ≡ Ok packet) ⊎ ((a == 0x47) ≡ false) × (◌≡◌ {A = Result PacketView PacketError} (Err Sync) (Ok packet))
+    is_of : ((a == 0x47) ≡ true) × (body_at (header_of (a ∷ b ∷ c ∷ d ∷ rest)) (d / 16 % 4) rest ≡ Ok packet) ⊎ ((a == 0x47) ≡ false) ×
+        (◌≡◌ {A = Result PacketView PacketError} (Err Sync) (Ok packet))
         → IsPacket (a ∷ b ∷ c ∷ d ∷ rest) packet
     is_of (inr none) = absurd cc
     is_of (inl read) =
         let sync : a ≡ 0x47 = eqb-true a 0x47 read.0 in
-        let body = body_reads (header_of (a ∷ b ∷ c ∷ d ∷ rest)) (d / 16 % 4) rest packet (IsBytes-drop 4 (a ∷ b ∷ c ∷ d ∷ rest) h) (omega arith) (omega arith) read.1 in
+        let body = body_reads (header_of (a ∷ b ∷ c ∷ d ∷ rest)) (d / 16 % 4) rest packet (IsBytes-drop 4 (a ∷ b ∷ c ∷ d ∷ rest) h) (omega arith) (omega arith)
+        read.1 in
         let front = header_is a b c d rest h sync in
         record {
           front = a ∷ b ∷ c ∷ d ∷ [];

@@ -80,7 +80,8 @@ pub ruleset filling = (stuffing_none, stuffing_one, stuffing_long, field_none, f
 pub ruleset fields = (field_continues, field_begins, access_bytes)
 
 -- the adaptation field of a clock reference and stuffing
-pub pcr_field_bytes : (pcr : Reference) → optional_bytes adaptation_bytes (Some (WithFlags (plain_parts (Some pcr) 176))) ≡ 183 ∷ 16 ∷ (reference_bytes pcr ++ replicate 176 0xFF)
+pub pcr_field_bytes : (pcr : Reference) →
+    optional_bytes adaptation_bytes (Some (WithFlags (plain_parts (Some pcr) 176))) ≡ 183 ∷ 16 ∷ (reference_bytes pcr ++ replicate 176 0xFF)
 unfolding adaptation_bytes parts_bytes flags_of reference_bytes
 pcr_field_bytes pcr = refl
 

@@ -1,5 +1,6 @@
 -- The packets of pieces are read back from their bytes as the list of their PID.
-use Rattle.std.proofs.Common.{◌≡◌, ℕ, suc, ◌+◌, ◌/◌, ◌%◌, ◌^◌, ◌<◌, ◌==◌, true, List, [], ◌∷◌, ◌++◌, length, take, drop, map, All, filter, refl, ap, ◌∙◌, arith, take_at, drop_at, eq-eqb, Ok}
+use Rattle.std.proofs.Common.{◌≡◌, ℕ, suc, ◌+◌, ◌/◌, ◌%◌, ◌^◌, ◌<◌, ◌==◌, true, List, [], ◌∷◌, ◌++◌, length, take, drop, map, All, filter, refl, ap, ◌∙◌, arith}
+use Rattle.std.proofs.Common.{take_at, drop_at, eq-eqb, Ok}
 use Rattle.std.proofs.lemmas.List.{length-append}
 use Rattle.std.proofs.lemmas.List.Elements.{All-head, All-tail}
 use Rattle.std.specs.List.{enumerate_from, filter_map}
@@ -51,7 +52,9 @@ pieces_from index pid start number (piece ∷ pieces) below fit room =
     let cut = first_cut (payload_packet pid start (number % 16) piece) (packets pid Continues (number + 1) pieces) again.size in
     ap (λ (chunks : List (List ℕ)). map (λ (entry : Entry). entry.packet) (listed_from pid index chunks)) cut
     ∙ ap (map (λ (entry : Entry). entry.packet)) (listed_first pid index _ _ _ again.read (of_pid pid start (number % 16) piece))
-    ∙ ap (λ (views : List PacketView). payload_view pid start (number % 16) piece ∷ views) (pieces_from (index + 1) pid Continues (number + 1) pieces below (All-tail IsPiece piece pieces fit) (goes_on pieces (All-tail IsPiece piece pieces fit)))
+    ∙ ap (λ (views : List PacketView). payload_view pid start (number % 16) piece ∷ views)
+    (pieces_from (index + 1) pid Continues (number + 1) pieces below (All-tail IsPiece piece pieces fit)
+    (goes_on pieces (All-tail IsPiece piece pieces fit)))
 
 pub pieces_listed : PiecesListed
 unfolding listed_from

@@ -1,5 +1,6 @@
 -- Comparing packets with and without the bytes of a program clock reference, and where these stand.
-use Rattle.std.proofs.Common.{◌≡◌, ℕ, Bool, true, false, List, [], ◌∷◌, ◌++◌, length, take, drop, nat_eq, ◌+◌, Some, refl, sym, ap, ◌∙◌, subst, drop_at, take_at, append_assoc, arith, length-append, length-drop}
+use Rattle.std.proofs.Common.{◌≡◌, ℕ, Bool, true, false, List, [], ◌∷◌, ◌++◌, length, take, drop, nat_eq, ◌+◌, Some, refl, sym, ap, ◌∙◌, subst, drop_at}
+use Rattle.std.proofs.Common.{take_at, append_assoc, arith, length-append, length-drop}
 use Rattle.std.proofs.lemmas.List.{length-take}
 use Rattle.std.specs.Prelude.{◌&&◌}
 use Rattle.std.specs.Str.{bytes_eq}
@@ -37,8 +38,10 @@ pub forms_differ : (p q : Bool) (xs ys : List ℕ) → length xs ≡ 188 → len
 unfolding without_pcr
 forms_differ true true xs ys h k d = absurd (d refl)
 forms_differ false false xs ys h k d = absurd (d refl)
-forms_differ true false xs ys h k d = eq_sizes (take 6 xs ++ drop 12 xs) ys (λ e. absurd (grind (arith, length-append (take 6 xs) (drop 12 xs), length-take, length-drop 12 xs)))
-forms_differ false true xs ys h k d = eq_sizes xs (take 6 ys ++ drop 12 ys) (λ e. absurd (grind (arith, length-append (take 6 ys) (drop 12 ys), length-take, length-drop 12 ys)))
+forms_differ true false xs ys h k d =
+    eq_sizes (take 6 xs ++ drop 12 xs) ys (λ e. absurd (grind (arith, length-append (take 6 xs) (drop 12 xs), length-take, length-drop 12 xs)))
+forms_differ false true xs ys h k d =
+    eq_sizes xs (take 6 ys ++ drop 12 ys) (λ e. absurd (grind (arith, length-append (take 6 ys) (drop 12 ys), length-take, length-drop 12 ys)))
 
 -- bytes whose first six are a front, and the next six these
 middle : (front pcr tail : List ℕ) → length front ≡ 6 → length pcr ≡ 6 → pcr_bytes (front ++ (pcr ++ tail)) ≡ pcr

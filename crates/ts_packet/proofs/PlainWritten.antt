@@ -9,7 +9,8 @@ use Rattle.ts_packet.specs.Views.{WithFlags}
 use Rattle.ts_packet.specs.Beginnings.{is_start, has_access, room_of, start_by}
 use Rattle.ts_packet.specs.Syntax.{HeaderFits}
 use Rattle.ts_packet.specs.Writing.{optional_bytes, adaptation_bytes, reference_bytes, AdaptationFits}
-use Rattle.ts_packet.specs.Packets.{plain_header, plain_parts, stuffing_field, field_of, payload_view, payload_packet, pcr_view, pcr_packet, null_view, null_packet}
+use Rattle.ts_packet.specs.Packets.{plain_header, plain_parts, stuffing_field, field_of, payload_view, payload_packet, pcr_view, pcr_packet, null_view}
+use Rattle.ts_packet.specs.Packets.{null_packet}
 use Rattle.ts_packet.specs.Laws.{PayloadsAgain, StartAgain, WithoutAccess, PcrsAgain, NullAgain}
 use Rattle.ts_packet.proofs.Filling.{stuffing_none, stuffing_one, stuffing_long, access_bytes, pcr_field_bytes}
 use Rattle.ts_packet.proofs.Written.{packets_again}

@@ -9,8 +9,10 @@ use Rattle.bit_fields.proofs.ByteLists.{IsBytes-cons, IsBytes-nil}
 use Rattle.clock27.specs.Reference.{Reference}
 use Rattle.ts_packet.specs.declared.header.Header.{Header}
 use Rattle.ts_packet.specs.Views.{FieldView, AdaptationView, NoFlags, WithFlags, PacketView}
-use Rattle.ts_packet.specs.Syntax.{control_of, HeaderFits, IsHeader, ReferenceFits, IsReference, IsCountdown, IsLengthPrefixed, IsAnnounced, IsParts, IsAdaptation, IsPayload, IsPacket}
-use Rattle.ts_packet.specs.Writing.{header_bytes, reference_bytes, optional_bytes, countdown_bytes, length_prefixed_bytes, flags_of, parts_bytes, adaptation_bytes, payload_bytes, packet_bytes, PartsFit, AdaptationFits, PayloadFits, PacketFits}
+use Rattle.ts_packet.specs.Syntax.{control_of, HeaderFits, IsHeader, ReferenceFits, IsReference, IsCountdown, IsLengthPrefixed, IsAnnounced, IsParts}
+use Rattle.ts_packet.specs.Syntax.{IsAdaptation, IsPayload, IsPacket}
+use Rattle.ts_packet.specs.Writing.{header_bytes, reference_bytes, optional_bytes, countdown_bytes, length_prefixed_bytes, flags_of, parts_bytes}
+use Rattle.ts_packet.specs.Writing.{adaptation_bytes, payload_bytes, packet_bytes, PartsFit, AdaptationFits, PayloadFits, PacketFits}
 use Rattle.ts_packet.specs.Laws.{PacketsAgain}
 use Rattle.ts_packet.proofs.Again.{bit_below, control_below, packet_read}
 
@@ -95,7 +97,8 @@ header_written header control fits below =
     let v : bit header.transport_priority < 2 = bit_below header.transport_priority in
     record {
       bytes = bytes_four 0x47
-          (fields ((1, bit header.transport_error_indicator) ∷ (1, bit header.payload_unit_start_indicator) ∷ (1, bit header.transport_priority) ∷ (5, header.pid / 256) ∷ []))
+          (fields ((1, bit header.transport_error_indicator) ∷ (1, bit header.payload_unit_start_indicator) ∷ (1, bit header.transport_priority) ∷
+          (5, header.pid / 256) ∷ []))
           (header.pid % 256) (fields ((2, header.transport_scrambling_control) ∷ (2, control) ∷ (4, header.continuity_counter) ∷ []))
           (lit< tt) (omega arith) (omega arith) (omega arith);
       size = refl;
@@ -108,7 +111,8 @@ unfolding header_bytes
 length-header_bytes header control = refl
 
 -- a packet has a payload or an adaptation field
-not_reserved : (adaptation : Option AdaptationView) (payload : Option (List ℕ)) → 4 + length (optional_bytes adaptation_bytes adaptation) + length (payload_bytes payload) ≡ 188
+not_reserved : (adaptation : Option AdaptationView) (payload : Option (List ℕ)) → 4 + length (optional_bytes adaptation_bytes adaptation)
+    + length (payload_bytes payload) ≡ 188
     → 0 < control_of adaptation payload
 not_reserved None None size = absurd (omega arith)
 not_reserved None (Some payload) size = lit< tt

@@ -7,7 +7,8 @@ use Rattle.ts_packet.specs.Beginnings.{is_access, room_of, start_in}
 use Rattle.ts_packet.specs.Syntax.{IsPacket, ReferenceFits}
 use Rattle.ts_packet.specs.Reading.{packet_at}
 use Rattle.ts_packet.specs.Writing.{packet_bytes, PacketFits}
-use Rattle.ts_packet.specs.Packets.{stuffing_field, field_of, payload_view, payload_packet, pcr_view, pcr_packet, null_view, null_packet, packets, payload_views}
+use Rattle.ts_packet.specs.Packets.{stuffing_field, field_of, payload_view, payload_packet, pcr_view, pcr_packet, null_view, null_packet, packets}
+use Rattle.ts_packet.specs.Packets.{payload_views}
 use Rattle.ts_packet.specs.PidList.{cut_packets, pid_list}
 
 -- the bytes of a packet say one thing, and it is read
@@ -24,7 +25,8 @@ abbrev pub PacketsAgain : Type 0
 PacketsAgain = (packet : PacketView) → PacketFits packet → ReadAgain (packet_bytes packet) packet
 
 abbrev pub PayloadsAgain : Type 0
-PayloadsAgain = (pid : ℕ) (start : Start) (counter : ℕ) (payload : List ℕ) → pid < 2 ^ 13 → counter < 2 ^ 4 → 0 < length payload → length payload ≤ room_of start
+PayloadsAgain = (pid : ℕ) (start : Start) (counter : ℕ) (payload : List ℕ) → pid < 2 ^ 13 → counter < 2 ^ 4 → 0 < length payload →
+    length payload ≤ room_of start
     → ReadAgain (payload_packet pid start counter payload) (payload_view pid start counter payload)
 
 -- what begins with a payload is read again from its packet

@@ -1,5 +1,6 @@
 -- Reading a transport packet from its first byte on, with the first refusal (ISO/IEC 13818-1, 2.4.3.2 to 2.4.3.5).
-use Rattle.std.specs.Prelude.{ℕ, ℤ, ◌+◌, ◌*◌, ◌/◌, ◌%◌, ◌==◌, nat_lt, List, [], ◌∷◌, length, take, drop, slice_index, Bool, true, false, Option, Some, None, Result, Ok, Err, if◌then◌else◌}
+use Rattle.std.specs.Prelude.{ℕ, ℤ, ◌+◌, ◌*◌, ◌/◌, ◌%◌, ◌==◌, nat_lt, List, [], ◌∷◌, length, take, drop, slice_index, Bool, true, false, Option, Some, None}
+use Rattle.std.specs.Prelude.{Result, Ok, Err, if◌then◌else◌}
 use Rattle.std.specs.Int.{cast_signed, w8}
 use Rattle.bit_fields.specs.Fields.{flag}
 use Rattle.bit_fields.specs.Reading.{◌>>=◌}

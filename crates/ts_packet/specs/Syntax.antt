@@ -23,7 +23,8 @@ pub record HeaderFits (header : Header) : Type 0 where
 pub record IsHeader (wire : List ℕ) (header : Header) (control : ℕ) : Type 0 where
   pub bytes : IsBytes wire
   pub size : length wire ≡ 4
-  pub spelled : number wire ≡ fields ((8, 0x47) ∷ (1, bit header.transport_error_indicator) ∷ (1, bit header.payload_unit_start_indicator) ∷ (1, bit header.transport_priority)
+  pub spelled : number wire ≡ fields
+      ((8, 0x47) ∷ (1, bit header.transport_error_indicator) ∷ (1, bit header.payload_unit_start_indicator) ∷ (1, bit header.transport_priority)
       ∷ (13, header.pid) ∷ (2, header.transport_scrambling_control) ∷ (2, control) ∷ (4, header.continuity_counter) ∷ [])
   pub fits : HeaderFits header
 
@@ -65,7 +66,8 @@ pub record IsParts (wire : List ℕ) (parts : FieldView) : Type 0 where
   pub private : List ℕ
   pub extension : List ℕ
   pub is : wire ≡ flags ∷ (pcr ++ (opcr ++ (splice ++ (private ++ (extension ++ parts.stuffing)))))
-  pub flagged : flags ≡ fields ((1, bit parts.discontinuity_indicator) ∷ (1, bit parts.random_access_indicator) ∷ (1, bit parts.elementary_stream_priority_indicator)
+  pub flagged : flags ≡ fields
+      ((1, bit parts.discontinuity_indicator) ∷ (1, bit parts.random_access_indicator) ∷ (1, bit parts.elementary_stream_priority_indicator)
       ∷ (1, bit (is_some parts.pcr)) ∷ (1, bit (is_some parts.opcr)) ∷ (1, bit (is_some parts.splice_countdown))
       ∷ (1, bit (is_some parts.private_data)) ∷ (1, bit (is_some parts.extension)) ∷ [])
   pub is_pcr : IsAnnounced IsReference pcr parts.pcr

@@ -14,7 +14,8 @@ use Rattle.ts_packet.specs.Syntax.{control_of, HeaderFits, ReferenceFits}
 unfoldable pub header_bytes : Header → ℕ → List ℕ
 header_bytes header control =
     0x47
-    ∷ fields ((1, bit header.transport_error_indicator) ∷ (1, bit header.payload_unit_start_indicator) ∷ (1, bit header.transport_priority) ∷ (5, header.pid / 256) ∷ [])
+    ∷ fields ((1, bit header.transport_error_indicator) ∷ (1, bit header.payload_unit_start_indicator) ∷ (1, bit header.transport_priority) ∷
+    (5, header.pid / 256) ∷ [])
     ∷ header.pid % 256
     ∷ fields ((2, header.transport_scrambling_control) ∷ (2, control) ∷ (4, header.continuity_counter) ∷ [])
     ∷ []

@@ -13,7 +13,8 @@ pub fn packets_again()
     ensures { PacketsAgain }
 {}
 
-/// States that the packet of a payload is read again as that payload, with a plain header and the adaptation field before it.
+/// States that the packet of a payload is read again as that payload, with a plain header and the adaptation field
+/// before it.
 pub fn payloads_again()
     ensures { PayloadsAgain }
 {}
@@ -28,7 +29,8 @@ pub fn without_access()
     ensures { WithoutAccess }
 {}
 
-/// States that the packet of a program clock reference is read again as that reference, without a payload and with counter 15.
+/// States that the packet of a program clock reference is read again as that reference, without a payload and with
+/// counter 15.
 pub fn pcrs_again()
     ensures { PcrsAgain }
 {}

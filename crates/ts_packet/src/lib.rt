@@ -7,8 +7,8 @@
 //!
 //! The definitions stand in `specs/`: `Syntax` has the standard's tables of fields as a relation, `Reading` the
 //! function on lists that names the refusals, `Writing` and `Packets` what is written, `PidList` the packets of one PID
-//! in a byte stream, `Beginnings` what begins with a payload, and `PcrBytes` which bytes of a packet are its program clock reference. The functions of `laws`
-//! say how these are related.
+//! in a byte stream, `Beginnings` what begins with a payload, and `PcrBytes` which bytes of a packet are its program
+//! clock reference. The functions of `laws` say how these are related.
 #![tactic(auto)]
 
 // What a packet is.

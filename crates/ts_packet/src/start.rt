@@ -16,7 +16,8 @@ pub enum Start {
 }
 
 impl Start {
-    /// Returns what begins with a payload of a unit: nothing if it is not the first; `access` says that a decoder may begin with the unit.
+    /// Returns what begins with a payload of a unit: nothing if it is not the first; `access` says that a decoder may
+    /// begin with the unit.
     pub fn of_unit(first: bool, access: bool) -> Start
         ensures { result ≡ start_by first access }
     {

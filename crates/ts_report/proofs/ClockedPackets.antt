@@ -11,8 +11,10 @@ pub record Settled (view : ClockedView) (packets : List (List ℕ)) (events : Li
   pub kept : after_all now packets ≡ last
   pub rest : events ++ events_all now packets ≡ whole
 
-pub one_taken : (view view' : ClockedView) (packet : List ℕ) (packets : List (List ℕ)) (events events' : List Event) (last : ClockedState) (whole : List Event) →
-    ((s : ClockedState) → IsClocked view s → IsClocked view' (after_packet s packet)) → ((s : ClockedState) → IsClocked view s → events' ≡ events ++ events_at s packet) →
+pub one_taken : (view view' : ClockedView) (packet : List ℕ) (packets : List (List ℕ)) (events events' : List Event) (last : ClockedState) (whole : List Event)
+    →
+    ((s : ClockedState) → IsClocked view s → IsClocked view' (after_packet s packet)) →
+    ((s : ClockedState) → IsClocked view s → events' ≡ events ++ events_at s packet) →
     Settled view (packet ∷ packets) events last whole → Settled view' packets events' last whole
 unfolding after_all events_all
 one_taken view view' packet packets events events' last whole takes writes s = record {

@@ -1,5 +1,6 @@
 -- Streams one by one.
-use Rattle.std.proofs.Common.{◌≡◌, ◌∙◌, sym, ℕ, zero, suc, Bool, true, false, ◌&&◌, List, [], ◌∷◌, ◌++◌, length, Some, None, ◌≤◌, drop, refl, ap, subst, append_assoc, append-nil, arith}
+use Rattle.std.proofs.Common.{◌≡◌, ◌∙◌, sym, ℕ, zero, suc, Bool, true, false, ◌&&◌, List, [], ◌∷◌, ◌++◌, length, Some, None, ◌≤◌, drop, refl, ap, subst}
+use Rattle.std.proofs.Common.{append_assoc, append-nil, arith}
 use Rattle.std.specs.Prelude.{flat_map, set, slice_get}
 use Rattle.std.specs.List.{list_all}
 use Rattle.events.specs.declared.event.Event.{Event}
@@ -15,7 +16,8 @@ same_length (b ∷ bs) [] a = absurd a
 same_length (b ∷ bs) (e ∷ es) a = ap suc (same_length bs es a.1)
 
 -- one more
-pub one_more : (bs : List StreamEntry) (es : List EntryState) (b : StreamEntry) (e : EntryState) → AreEntries bs es → IsEntry b e → AreEntries (bs ++ b ∷ []) (es ++ e ∷ [])
+pub one_more : (bs : List StreamEntry) (es : List EntryState) (b : StreamEntry) (e : EntryState) → AreEntries bs es → IsEntry b e →
+    AreEntries (bs ++ b ∷ []) (es ++ e ∷ [])
 unfolding AreEntries
 one_more [] [] b e a i = (i, tt)
 one_more [] (f ∷ es) b e a i = absurd a
@@ -43,7 +45,8 @@ some_at (c ∷ bs) [] n b a is = absurd a
 some_at (c ∷ bs) (e ∷ es) zero b a is = let same : c ≡ b = cc in record { entry = e; at = refl; is = subst (λ (x : StreamEntry). IsEntry x e) same a.0 }
 some_at (c ∷ bs) (e ∷ es) (suc n) b a is = let s = some_at bs es n b a.1 is in record { entry = s.entry; at = s.at; is = s.is }
 
-pub set_at : (bs : List StreamEntry) (es : List EntryState) (n : ℕ) (b : StreamEntry) (e : EntryState) → AreEntries bs es → IsEntry b e → AreEntries (set bs n b) (set es n e)
+pub set_at : (bs : List StreamEntry) (es : List EntryState) (n : ℕ) (b : StreamEntry) (e : EntryState) → AreEntries bs es → IsEntry b e →
+    AreEntries (set bs n b) (set es n e)
 unfolding AreEntries
 set_at [] [] n b e a i = tt
 set_at [] (f ∷ es) n b e a i = absurd a
@@ -57,7 +60,8 @@ pub record Ahead (bs : List StreamEntry) (f : EntryState → List Event) (events
   pub are : AreEntries bs left
   pub same : events ++ flat_map f left ≡ whole
 
-written_by : (f : EntryState → List Event) (b : StreamEntry) (bs : List StreamEntry) (events events' whole : List Event) → ((e : EntryState) → IsEntry b e → events' ≡ events ++ f e) →
+written_by : (f : EntryState → List Event) (b : StreamEntry) (bs : List StreamEntry) (events events' whole : List Event) →
+    ((e : EntryState) → IsEntry b e → events' ≡ events ++ f e) →
     (left : List EntryState) → AreEntries (b ∷ bs) left → events ++ flat_map f left ≡ whole → Ahead bs f events' whole
 unfolding AreEntries
 written_by f b bs events events' whole writes [] are same = absurd are
@@ -67,11 +71,13 @@ written_by f b bs events events' whole writes (e ∷ es) are same = record {
   same = ap (λ (t : List Event). t ++ flat_map f es) (writes e are.0) ∙ append_assoc events (f e) (flat_map f es) ∙ same;
 }
 
-pub one_written : (f : EntryState → List Event) (b : StreamEntry) (bs : List StreamEntry) (events events' whole : List Event) → ((e : EntryState) → IsEntry b e → events' ≡ events ++ f e) →
+pub one_written : (f : EntryState → List Event) (b : StreamEntry) (bs : List StreamEntry) (events events' whole : List Event) →
+    ((e : EntryState) → IsEntry b e → events' ≡ events ++ f e) →
     Ahead (b ∷ bs) f events whole → Ahead bs f events' whole
 one_written f b bs events events' whole writes a = written_by f b bs events events' whole writes a.left a.are a.same
 
-none_ahead : (f : EntryState → List Event) (events whole : List Event) (left : List EntryState) → AreEntries [] left → events ++ flat_map f left ≡ whole → events ≡ whole
+none_ahead : (f : EntryState → List Event) (events whole : List Event) (left : List EntryState) → AreEntries [] left → events ++ flat_map f left ≡ whole →
+    events ≡ whole
 unfolding AreEntries
 none_ahead f events whole [] are same = sym (append-nil events) ∙ same
 none_ahead f events whole (e ∷ es) are same = absurd are
@@ -95,7 +101,8 @@ good_by f b bs whole good judged is (e ∷ es) are same = record {
   same = ap (λ (g : Bool). g && list_all f es) (sym is ∙ judged e are.0) ∙ same;
 }
 
-pub one_good : (f : EntryState → Bool) (b : StreamEntry) (bs : List StreamEntry) (whole good : Bool) → ((e : EntryState) → IsEntry b e → good ≡ f e) → good ≡ true →
+pub one_good : (f : EntryState → Bool) (b : StreamEntry) (bs : List StreamEntry) (whole good : Bool) → ((e : EntryState) → IsEntry b e → good ≡ f e) →
+    good ≡ true →
     Unjudged (b ∷ bs) f whole → Unjudged bs f whole
 one_good f b bs whole good judged is a = good_by f b bs whole good judged is a.left a.are a.same
 
@@ -105,7 +112,8 @@ unfolding AreEntries
 bad_by f b bs whole good judged is [] are same = absurd are
 bad_by f b bs whole good judged is (e ∷ es) are same = ap (λ (g : Bool). g && list_all f es) (sym is ∙ judged e are.0) ∙ same
 
-pub one_bad : (f : EntryState → Bool) (b : StreamEntry) (bs : List StreamEntry) (whole good : Bool) → ((e : EntryState) → IsEntry b e → good ≡ f e) → good ≡ false →
+pub one_bad : (f : EntryState → Bool) (b : StreamEntry) (bs : List StreamEntry) (whole good : Bool) → ((e : EntryState) → IsEntry b e → good ≡ f e) →
+    good ≡ false →
     Unjudged (b ∷ bs) f whole → false ≡ whole
 one_bad f b bs whole good judged is a = bad_by f b bs whole good judged is a.left a.are a.same
 

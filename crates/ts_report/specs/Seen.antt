@@ -41,9 +41,9 @@ use Rattle.ts_watch.specs.TableEvents.{TablesState, has_table, no_tables, table_
 use Rattle.ts_watch.specs.TableEvents as tables
 use Rattle.ts_watch.specs.WindowEvents.{pid_events, window_of}
 
--- the number of packets, and of those that are refused or have transport_error_indicator; the window of the last packet that is
--- not; the packets of each PID; the last clock reference of each, and what all of them came to, by the rate, with the number of
--- their errors; time stamps, scrambled packets and the judge of the rate; the sections of tables; the buffers of programs' tables; the streams that are named; and the names of their services
+-- the number of packets, and of those that are refused or have transport_error_indicator; the window of the last packet that is not; the packets of each PID;
+-- the last clock reference of each, and what all of them came to, by the rate, with the number of their errors; time stamps, scrambled packets and the judge of
+-- the rate; the sections of tables; the buffers of programs' tables; the streams that are named; and the names of their services
 pub record SeenState : Type 0 where
   pub options : ViewOptions
   pub packets : ℕ
@@ -136,7 +136,8 @@ without s = record s { packets = one_more s.packets; refused = one_more s.refuse
 abbrev pub refused_events : SeenState → RefusalCause → List Event
 refused_events s cause = found.Refused (record { packet = s.packets; cause = cause }) ∷ []
 
--- one that can: its clock reference, with its errors, its time stamp and whether it is scrambled, and then it enters the buffers of programs' tables and its PID is counted
+-- one that can: its clock reference, with its errors, its time stamp and whether it is scrambled, and then it enters the buffers of programs' tables and its
+-- PID is counted
 abbrev pub report_on : SeenState → PacketView → Option PcrReport
 report_on s packet = report_at s.watches s.packets packet
 
@@ -206,7 +207,8 @@ with_counter_read s bytes (Ok packet) = if packet.header.transport_error_indicat
 
 unfoldable pub counter_events : SeenState → List ℕ → Result PacketView PacketError → List Event
 counter_events s bytes (Err error) = []
-counter_events s bytes (Ok packet) = if packet.header.transport_error_indicator then [] else counter_events_by (error_at s.counters (counted_entry s bytes packet))
+counter_events s bytes (Ok packet) =
+    if packet.header.transport_error_indicator then [] else counter_events_by (error_at s.counters (counted_entry s bytes packet))
 
 -- what 188 bytes name counts from the next packet on
 abbrev pub with_named : SeenState → List ℕ → SeenState

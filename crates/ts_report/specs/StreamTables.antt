@@ -1,5 +1,6 @@
 -- The streams whose buffers have begun.
-use Rattle.std.specs.Prelude.{◌≡◌, ℕ, ◌+◌, ◌*◌, ◌&&◌, not, nat_eq, is_some, unwrap_or, Bool, if◌then◌else◌, List, [], ◌∷◌, ◌++◌, drop, length, set, slice_get, flat_map, Option, Some, None}
+use Rattle.std.specs.Prelude.{◌≡◌, ℕ, ◌+◌, ◌*◌, ◌&&◌, not, nat_eq, is_some, unwrap_or, Bool, if◌then◌else◌, List, [], ◌∷◌, ◌++◌, drop, length, set, slice_get}
+use Rattle.std.specs.Prelude.{flat_map, Option, Some, None}
 use Rattle.std.specs.List.{list_all}
 use Rattle.std.specs.Map.{lookup}
 use Rattle.indexmap.specs.IndexMap.{insert_entry}
@@ -69,7 +70,8 @@ stream_rates t stream packet = rates_for t.choice packet.header.pid (coding_by s
 -- the stream whose buffers begin with a packet: the first that begins a PES packet of it once it is named, of a program that is viewed
 abbrev pub beginning : NamedView → TableState → PacketView → Option FoundStreamView
 beginning named t packet =
-    if packet.header.payload_unit_start_indicator && not (is_some (lookup (nat_eq packet.header.pid) t.places)) then chosen t.choice (stream_of named packet.header.pid) else None
+    if packet.header.payload_unit_start_indicator && not (is_some (lookup (nat_eq packet.header.pid) t.places)) then chosen t.choice
+    (stream_of named packet.header.pid) else None
 
 -- of sound its frames, if its main buffer is viewed by access units
 abbrev pub stream_frames : TableState → FoundStreamView → PacketView → Option FrameKind
@@ -104,7 +106,8 @@ with_entry t pid e = record t { places = insert_entry nat_eq t.places pid (lengt
 unfoldable pub begun_if : ViewOptions → NamedView → TableState → PacketView → Option FoundStreamView → TableState
 begun_if options named t packet None = t
 begun_if options named t packet (Some stream) =
-    with_entry t packet.header.pid (new_entry options packet.header.pid (naming.clock_of named stream.program) (stream_buffers t stream packet) (stream_rates t stream packet)
+    with_entry t packet.header.pid
+    (new_entry options packet.header.pid (naming.clock_of named stream.program) (stream_buffers t stream packet) (stream_rates t stream packet)
     (stream_frames t stream packet) (stream_limit stream))
 
 abbrev pub begun : ViewOptions → NamedView → TableState → PacketView → TableState

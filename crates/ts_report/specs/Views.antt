@@ -9,7 +9,8 @@ use Rattle.ts_report.specs.declared.view.View.{View}
 use Rattle.arrival.specs.declared.arrival.Arrival.{Arrival}
 use Rattle.ts_watch.specs.Choices.{RequestView}
 use Rattle.events.specs.declared.packet_fault.RefusalCause.TheVariants as causes
-use Rattle.ts_report.specs.Seen.{SeenState, cause_of, clock_errors, counted, counter_events, section_events, end_event, next_window, nothing_seen, pid_ends, refused_events, system_excesses, with_clock, with_counter_read}
+use Rattle.ts_report.specs.Seen.{SeenState, cause_of, clock_errors, counted, counter_events, section_events, end_event, next_window, nothing_seen, pid_ends}
+use Rattle.ts_report.specs.Seen.{refused_events, system_excesses, with_clock, with_counter_read}
 use Rattle.ts_watch.specs.RuleEvents.{holds_none}
 use Rattle.ts_report.specs.Seen as seeing
 use Rattle.ts_report.specs.StreamTables.{IsTable, TableState, begin_events, begun, has_stream, events_of, no_streams, table_end, table_units, taken}
@@ -113,7 +114,8 @@ abbrev pub after_packet : ViewState → List ℕ → ViewState
 after_packet s bytes = with_named (with_sections (after_read s (packet_at bytes)) bytes) bytes
 
 abbrev pub events_at : ViewState → List ℕ → List Event
-events_at s bytes = events_read s (packet_at bytes) ++ (table_events_at (after_read s (packet_at bytes)) bytes ++ counter_events_at (after_read s (packet_at bytes)) bytes)
+events_at s bytes =
+    events_read s (packet_at bytes) ++ (table_events_at (after_read s (packet_at bytes)) bytes ++ counter_events_at (after_read s (packet_at bytes)) bytes)
 
 -- after packets
 unfoldable pub after_all : ViewState → List (List ℕ) → ViewState
@@ -132,4 +134,10 @@ end_events s left = window_events s.seen.options s.seen.named s.seen.services.na
 
 -- nothing is wrong
 abbrev pub is_good : ViewState → ℕ → Bool
-is_good s left = if s.seen.refused == 0 then (if s.seen.errors == 0 then (if holds_none s.seen.rules then (if s.seen.tables.times.errors == 0 then (if left == 0 then (if all_fit s.table.choice (known s.seen.systems) then tables.is_good s.table else false) else false) else false) else false) else false) else false
+is_good s left =
+    if s.seen.refused ==
+    0 then (if s.seen.errors ==
+    0 then (if holds_none
+    s.seen.rules then (if s.seen.tables.times.errors ==
+    0 then (if left == 0 then (if all_fit s.table.choice (known s.seen.systems) then tables.is_good s.table else false) else false) else false) else false)
+    else false) else false

@@ -161,7 +161,8 @@ impl ClockedView {
         }
     }
 
-    /// Returns the moment of the first byte of the packet at an index, in ticks from the stream's first byte on, as packets arrive now.
+    /// Returns the moment of the first byte of the packet at an index, in ticks from the stream's first byte on, as
+    /// packets arrive now.
     pub fn moment(&self, index: u64) -> Option<u128>
         ensures { (s : ClockedState) → IsClocked self.now s → result ≡ spec.moment_in s index }
     {
@@ -182,8 +183,8 @@ impl ClockedView {
         self.view.is_crowded()
     }
 
-    /// Ends the stream, `left` bytes after its last whole packet, and appends the last events. Returns whether nothing is wrong
-    /// in it.
+    /// Ends the stream, `left` bytes after its last whole packet, and appends the last events. Returns whether nothing
+    /// is wrong in it.
     pub fn end(&mut self, left: usize, events: &mut Vec<Event>) -> Result<bool, AllocError>
         ensures clocked { (s : ClockedState) → IsClocked self.old s → OnOk result (IsClocked self.new (spec.ended s)) }
         ensures found { (s : ClockedState) → IsClocked self.old s →

@@ -6,12 +6,12 @@
 //! - [`ViewRequest`]: the request of a view, in two parts: [`ViewOptions`], how the packets arrive and the length of a window;
 //!   and [`ViewChoice`], the programs whose streams are viewed, and buffers that are given.
 //!
-//! The main buffer of sound whose frames have headers is viewed by access units (`specs/EntryFrames`), unless its buffers are given; all other
-//! main buffers by PES packets.
+//! The main buffer of sound whose frames have headers is viewed by access units (`specs/EntryFrames`), unless its
+//! buffers are given; all other main buffers by PES packets.
 //!
 //! Memory does not grow with the stream: the counts and the last clock reference of each PID, what the first packets
-//! name, and for each named stream its buffers, with the units that wait in the main buffer. These have no bound of their own:
-//! the caller stops when a view is crowded, with 4,096 waiting units or more in a stream (`is_crowded`).
+//! name, and for each named stream its buffers, with the units that wait in the main buffer. These have no bound of
+//! their own: the caller stops when a view is crowded, with 4,096 waiting units or more in a stream (`is_crowded`).
 #![tactic(auto)]
 
 mod clocked_view;

@@ -15,7 +15,8 @@ fn ticks_at(rate: Rate, byte: u64) -> u128
     u128::from(byte) * BYTE_TICKS_AT_1BPS / u128::from(rate.bits_per_second())
 }
 
-/// Returns the moment of the first byte of the packet at an index, in ticks from the stream's first byte on, as packets arrive.
+/// Returns the moment of the first byte of the packet at an index, in ticks from the stream's first byte on, as packets
+/// arrive.
 #[tactic(auto, unfolding(crate::specs::Moments::moment_by))]
 pub(crate) fn moment_at(options: &ViewOptions, index: u64) -> Option<u128>
     ensures { result ≡ spec.moment_at options.now index }

@@ -30,9 +30,10 @@ use ts_watch::table_watch::TableWatch;
 use ts_watch::view_choice::ViewChoice;
 use ts_watch::window_events::{push_pids, push_window, window_of};
 
-/// The state of a stream beside its buffers: the number of packets, and of refused packets; the last packet of each PID; the window of the last packet; the
-/// packets of each PID; the last clock reference of each, and the counts of all of them, with the number of their errors; the
-/// sections of tables; time stamps and scrambled packets; the buffers of programs' tables; the streams that are named; and the names of their services.
+/// The state of a stream beside its buffers: the number of packets, and of refused packets; the last packet of each
+/// PID; the window of the last packet; the packets of each PID; the last clock reference of each, and the counts of all
+/// of them, with the number of their errors; the sections of tables; time stamps and scrambled packets; the buffers of
+/// programs' tables; the streams that are named; and the names of their services.
 #[derive(Drop)]
 pub struct Seen {
     alloc: Global,
@@ -269,7 +270,8 @@ impl Seen {
         }
     }
 
-    /// Takes the clock reference of a packet, if the packet has one, its time stamp, and whether it is scrambled, and appends their errors.
+    /// Takes the clock reference of a packet, if the packet has one, its time stamp, and whether it is scrambled, and
+    /// appends their errors.
     pub fn take_clock(
         &mut self,
         packet: &Packet<'_>,
@@ -319,8 +321,8 @@ impl Seen {
         window_of(&self.options, self.packets)
     }
 
-    /// Counts a packet that is not known to be wrong, in this window, takes it into the buffers of programs' tables, and appends the excesses
-    /// that end with it, of programs that are viewed.
+    /// Counts a packet that is not known to be wrong, in this window, takes it into the buffers of programs' tables,
+    /// and appends the excesses that end with it, of programs that are viewed.
     pub fn count(
         &mut self,
         window: u64,
@@ -396,7 +398,8 @@ impl Seen {
         )
     }
 
-    /// Appends the last events of clock references by PID, of tables, of all packets by PID, and of PIDs that are not named or have no packet.
+    /// Appends the last events of clock references by PID, of tables, of all packets by PID, and of PIDs that are not
+    /// named or have no packet.
     pub fn push_pid_ends(&self, events: &mut Vec<Event>) -> Result<(), AllocError>
         ensures { OnOk result (events.new.items ≡ events.old.items ++ spec.pid_ends self.now) }
     {

@@ -207,8 +207,8 @@ impl StreamTable {
         Ok(())
     }
 
-    /// Begins the buffers of a packet's stream with the packet, if the packet is the first that begins a PES packet of a stream that
-    /// is named, of a program that is viewed.
+    /// Begins the buffers of a packet's stream with the packet, if the packet is the first that begins a PES packet of
+    /// a stream that is named, of a program that is viewed.
     #[tactic(auto, unfolding(crate::specs::StreamTables::begun_if, crate::specs::StreamTables::begin_events_if))]
     pub fn begin(
         &mut self,

@@ -1,5 +1,6 @@
 -- The streams that are known are those that the first packets name.
-use Rattle.std.proofs.Common.{◌≡◌, ◌∙◌, sym, ℕ, ◌+◌, suc, min, is_some, Bool, true, false, List, [], ◌∷◌, ◌++◌, length, Option, Some, None, true≢false, refl, ap, arith}
+use Rattle.std.proofs.Common.{◌≡◌, ◌∙◌, sym, ℕ, ◌+◌, suc, min, is_some, Bool, true, false, List, [], ◌∷◌, ◌++◌, length, Option, Some, None, true≢false, refl}
+use Rattle.std.proofs.Common.{ap, arith}
 use Rattle.std.proofs.lemmas.Bool.Decides.{nat_tests}
 use Rattle.demux.specs.Stream.{StreamState, start, pushed}
 use Rattle.demux.proofs.PushedBytes.{pushed_append}
@@ -26,7 +27,8 @@ last_same n = by (is_last (min (min n 4294967295 + 1) 4294967295)) (is_last (suc
 is_some_none : (streams : FoundProgramsView) (o : Option FoundProgramsView) → o ≡ Some streams → o ≡ None → true ≡ false
 is_some_none streams o some none = ap (λ (x : Option FoundProgramsView). is_some x) (sym some ∙ none)
 
-after_one : (packet : List ℕ) (earlier : List (List ℕ)) (s : NamedView) (o : Option FoundProgramsView) → s.streams ≡ o → IsAfter earlier s → IsAfter (packet ∷ earlier) (taken_if s o packet)
+after_one : (packet : List ℕ) (earlier : List (List ℕ)) (s : NamedView) (o : Option FoundProgramsView) → s.streams ≡ o → IsAfter earlier s →
+    IsAfter (packet ∷ earlier) (taken_if s o packet)
 unfolding taken_if first_streams bytes_of
 after_one packet earlier s (Some streams) e is = record {
   streams = let f : first_streams earlier ≡ Some streams = sym is.streams ∙ e in rw f e;

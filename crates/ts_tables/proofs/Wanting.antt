@@ -1,5 +1,6 @@
 -- What is wanting while streams are not known.
-use Rattle.std.proofs.Common.{◌≡◌, ◌∙◌, sym, ◌<◌, ◌≤◌, ℕ, zero, suc, true≢false, ◌+◌, ◌-◌, ◌&&◌, Bool, true, false, is_some, List, [], ◌∷◌, ◌++◌, map, take, drop, length, get_or, Option, Some, None, option_map, slice_get, refl, ap, arith, subst, length-append}
+use Rattle.std.proofs.Common.{◌≡◌, ◌∙◌, sym, ◌<◌, ◌≤◌, ℕ, zero, suc, true≢false, ◌+◌, ◌-◌, ◌&&◌, Bool, true, false, is_some, List, [], ◌∷◌, ◌++◌, map, take}
+use Rattle.std.proofs.Common.{drop, length, get_or, Option, Some, None, option_map, slice_get, refl, ap, arith, subst, length-append}
 use Rattle.std.specs.Option.{option_or}
 use Rattle.std.proofs.lemmas.List.{take-append-le, take-append-drop, take_all, drop-map, length-drop, length-map}
 use Rattle.std.proofs.Math.Seq.{take-append_seam}
@@ -80,7 +81,8 @@ maps_before found more ps zs first is =
     let below : first.place ≤ length ps = omega (arith, slice_get_within ps first.place first.program is.there) in
     rw (take-append-le first.place ps zs below) (more_maps found more (take first.place ps) is.before)
 
-still_unmapped : (found more : List FindingView) (ps zs : List Program) (first : Unmapped) → IsUnmapped found ps first → is_some (program_map first.program more) ≡ false →
+still_unmapped : (found more : List FindingView) (ps zs : List Program) (first : Unmapped) → IsUnmapped found ps first →
+    is_some (program_map first.program more) ≡ false →
     IsUnmapped (found ++ more) (ps ++ zs) first
 still_unmapped found more ps zs first is none = record {
   there = there_after ps zs first.place first.program is.there;
@@ -125,15 +127,18 @@ before_it found more first lacks = by (association found) first refl lacks
 pub lacks_all : (found : List FindingView) (before : ℕ) (first : Option Unmapped) → Lacks (take before found) (association (take before found)) first →
     has_wanting first (drop before found) ≡ false → Lacks found (association found) first
 lacks_all found before first lacks none =
-    subst (λ (fs : List FindingView). Lacks fs (association fs) first) (take-append-drop before found) (still_lacks (take before found) (drop before found) first lacks none)
+    subst (λ (fs : List FindingView). Lacks fs (association fs) first) (take-append-drop before found)
+    (still_lacks (take before found) (drop before found) first lacks none)
 
 pub before_all : (found : List FindingView) (before : ℕ) (first : Option Unmapped) → Lacks (take before found) (association (take before found)) first →
     HaveMapsBefore (place_of first) found (association found)
 before_all found before first lacks =
-    subst (λ (fs : List FindingView). HaveMapsBefore (place_of first) fs (association fs)) (take-append-drop before found) (before_it (take before found) (drop before found) first lacks)
+    subst (λ (fs : List FindingView). HaveMapsBefore (place_of first) fs (association fs)) (take-append-drop before found)
+    (before_it (take before found) (drop before found) first lacks)
 
 -- the second part as a slice
-pub later_part : {X : Type 0} (view : X → FindingView) (before : ℕ) (fs : List X) → map view (take (length fs - before) (drop before fs)) ≡ drop before (map view fs)
+pub later_part : {X : Type 0} (view : X → FindingView) (before : ℕ) (fs : List X) →
+    map view (take (length fs - before) (drop before fs)) ≡ drop before (map view fs)
 later_part view before fs =
     ap (λ l. map view l) (take_all (length fs - before) (drop before fs) (omega (arith, length-drop before fs))) ∙ sym (drop-map view before fs)
 
@@ -142,7 +147,8 @@ pub record FirstPart {X : Type 0} (view : X → FindingView) (before after : Lis
   pub within : length before ≤ length after
   pub lacks : Lacks (take (length before) (map view after)) (association (take (length before) (map view after))) first
 
-pub first_part : {X : Type 0} (view : X → FindingView) (s t : StreamState) (bytes : List ℕ) (before after : List X) (first : Option Unmapped) → t ≡ pushed s bytes →
+pub first_part : {X : Type 0} (view : X → FindingView) (s t : StreamState) (bytes : List ℕ) (before after : List X) (first : Option Unmapped) →
+    t ≡ pushed s bytes →
     map view before ≡ s.found → map view after ≡ t.found → Lacks s.found (association s.found) first → FirstPart view before after first
 first_part view s t bytes before after first e b a lacks =
     let more = grows s bytes in
@@ -158,7 +164,8 @@ first_part view s t bytes before after first e b a lacks =
 -- 3. Streams that are not known
 
 -- such streams are not named
-not_named : (found : List FindingView) (table : Option AssociationView) (first : Option Unmapped) → Lacks found table first → streams_by false found table ≡ None
+not_named : (found : List FindingView) (table : Option AssociationView) (first : Option Unmapped) → Lacks found table first →
+    streams_by false found table ≡ None
 unfolding Lacks streams_by
 not_named found None None lacks = refl
 not_named found None (Some first) lacks = absurd lacks
@@ -171,10 +178,12 @@ unfolding AreUnknown
 when_none None found table first unknown none = unknown
 when_none (Some s) found table first unknown none = absurd (true≢false (ap (λ (o : Option FoundProgramsView). is_some o) none))
 
-pub none_named : (last : Bool) (found : List FindingView) (first : Option Unmapped) → last ≡ false → Lacks found (association found) first → None ≡ streams_at last found
+pub none_named : (last : Bool) (found : List FindingView) (first : Option Unmapped) → last ≡ false → Lacks found (association found) first →
+    None ≡ streams_at last found
 none_named last found first e lacks = rw e (sym (not_named found (association found) first lacks))
 
-pub unknown_still : (found : List FindingView) (table : Option AssociationView) (first : Option Unmapped) → Lacks found table first → AreUnknown None found table first
+pub unknown_still : (found : List FindingView) (table : Option AssociationView) (first : Option Unmapped) → Lacks found table first →
+    AreUnknown None found table first
 unfolding AreUnknown
 unknown_still found table first lacks = lacks
 

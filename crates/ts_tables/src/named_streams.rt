@@ -19,8 +19,8 @@ use stream_programs::{
 /// The number of packets that are looked at at most.
 pub const FIRST_PACKETS: u32 = 32_768;
 
-/// The streams of the programs that the first packets of a stream name: the first packets after which each program of the
-/// association table has a map, or the first 32,768.
+/// The streams of the programs that the first packets of a stream name: the first packets after which each program of
+/// the association table has a map, or the first 32,768.
 ///
 /// After an `AllocError` no packet was taken.
 #[derive(Drop)]
@@ -82,8 +82,8 @@ fn streams_of(
     }
 }
 
-// The streams, if they are known by what is found and this table, or it is the last packet that is looked at; else what is
-// wanting. The programs before a place have maps.
+// The streams, if they are known by what is found and this table, or it is the last packet that is looked at; else what
+// is wanting. The programs before a place have maps.
 #[tactic(auto, unfolding(crate::specs::NamedStreams::streams_by, crate::specs::Wanting::AreUnknown, crate::specs::Wanting::Lacks))]
 fn streams_by(
     alloc: Global,

@@ -4,7 +4,8 @@ use Rattle.std.specs.Prelude.{min, if◌then◌else◌, option_and_then, unwrap_
 use Rattle.psi_tables.specs.declared.error.SectionError.TheVariants as refusals
 use Rattle.demux.specs.declared.finding.Kind.{Kind}
 use Rattle.demux.specs.declared.finding.Kind.TheVariants.{Table, Pes}
-use Rattle.demux.specs.Views.{WhatView, IsDuplicate, BreaksCounter, IsScrambled, IsTruncated, IsSection, IsBadSection, IsPes, IsBadPes, IsBadPacket, IsErrored, FindingView}
+use Rattle.demux.specs.Views.{WhatView, IsDuplicate, BreaksCounter, IsScrambled, IsTruncated, IsSection, IsBadSection, IsPes, IsBadPes, IsBadPacket, IsErrored}
+use Rattle.demux.specs.Views.{FindingView}
 use Rattle.demux.specs.Bodies.{all_without_body, finding_without_body, without_body}
 use Rattle.events.specs.declared.event.Event.{Event}
 use Rattle.events.specs.declared.event.Event.TheVariants as found
@@ -13,7 +14,8 @@ use Rattle.tr101290.specs.Sections.{begin_of, extension_of, section_begin, secti
 use Rattle.tr101290.specs.declared.distances.WholeSection.{WholeSection}
 use Rattle.tr101290.specs.declared.intervals.SectionBegin.{SectionBegin}
 use Rattle.es_view.specs.declared.view_options.ViewOptions.{ViewOptions}
-use Rattle.ts_watch.specs.TableEvents.{TimesState, begin_events, distance_events, finding_events, findings_events, is_wrong, other_events, placed, placed_if, with_begin, with_finding, with_findings, with_whole}
+use Rattle.ts_watch.specs.TableEvents.{TimesState, begin_events, distance_events, finding_events, findings_events, is_wrong, other_events, placed, placed_if}
+use Rattle.ts_watch.specs.TableEvents.{with_begin, with_finding, with_findings, with_whole}
 
 -- 1. A finding
 
@@ -55,7 +57,8 @@ extension_besides (IsBadPacket error) = refl
 extension_besides IsErrored = refl
 
 whole_besides : (f : FindingView) → whole_section (finding_without_body f) ≡ whole_section f
-whole_besides f = ap₂ (λ (section : Option SectionBegin) (extension : Option ℕ). whole_by section extension f.packet) (section_besides f.pid f.begun f.what) (extension_besides f.what)
+whole_besides f = ap₂ (λ (section : Option SectionBegin) (extension : Option ℕ). whole_by section extension f.packet) (section_besides f.pid f.begun f.what)
+    (extension_besides f.what)
 
 wrong_besides : (w : WhatView) → is_wrong (without_body w) ≡ is_wrong w
 unfolding is_wrong
@@ -74,23 +77,27 @@ wrong_besides IsErrored = refl
 
 abbrev with_by : ViewOptions → TimesState → Bool → Option WholeSection → Option SectionBegin → TimesState
 with_by options s wrong whole section =
-    with_begin (with_whole (record { intervals = s.intervals; distances = s.distances; errors = min (s.errors + (if wrong then 1 else 0)) (2 ^ 64 - 1) }) (placed_if options.arrival whole))
+    with_begin (with_whole (record { intervals = s.intervals; distances = s.distances; errors = min (s.errors + (if wrong then 1 else 0)) (2 ^ 64 - 1) })
+    (placed_if options.arrival whole))
     (option_and_then (placed options.arrival) section)
 
 finding_besides : (options : ViewOptions) (s : TimesState) (f : FindingView) → with_finding options s (finding_without_body f) ≡ with_finding options s f
 finding_besides options s f =
     ap (λ (b : Bool). with_by options s b (whole_section (finding_without_body f)) (section_begin (finding_without_body f))) (wrong_besides f.what)
-    ∙ ap₂ (λ (x : Option WholeSection) (y : Option SectionBegin). with_by options s (is_wrong f.what) x y) (whole_besides f) (section_besides f.pid f.begun f.what)
+    ∙ ap₂ (λ (x : Option WholeSection) (y : Option SectionBegin). with_by options s (is_wrong f.what) x y) (whole_besides f)
+    (section_besides f.pid f.begun f.what)
 
 abbrev events_by : ViewOptions → TimesState → FindingView → Bool → Option WholeSection → Option SectionBegin → List Event
 events_by options s f wrong whole section =
     (if wrong then found.CheckWord (record { pid = unwrap_or f.pid 0; packet = f.packet }) ∷ [] else [])
-    ++ (other_events whole ++ (distance_events s.distances (placed_if options.arrival whole) ++ begin_events s (option_and_then (placed options.arrival) section)))
+    ++ (other_events whole
+    ++ (distance_events s.distances (placed_if options.arrival whole) ++ begin_events s (option_and_then (placed options.arrival) section)))
 
 event_besides : (options : ViewOptions) (s : TimesState) (f : FindingView) → finding_events options s (finding_without_body f) ≡ finding_events options s f
 event_besides options s f =
     ap (λ (b : Bool). events_by options s f b (whole_section (finding_without_body f)) (section_begin (finding_without_body f))) (wrong_besides f.what)
-    ∙ ap₂ (λ (x : Option WholeSection) (y : Option SectionBegin). events_by options s f (is_wrong f.what) x y) (whole_besides f) (section_besides f.pid f.begun f.what)
+    ∙ ap₂ (λ (x : Option WholeSection) (y : Option SectionBegin). events_by options s f (is_wrong f.what) x y) (whole_besides f)
+    (section_besides f.pid f.begun f.what)
 
 -- 3. Findings
 
@@ -100,15 +107,18 @@ all_besides options s [] = refl
 all_besides options s (f ∷ fs) =
     ap (λ (t : TimesState). with_findings options t (all_without_body fs)) (finding_besides options s f) ∙ all_besides options (with_finding options s f) fs
 
-events_besides : (options : ViewOptions) (s : TimesState) (fs : List FindingView) → findings_events options s (all_without_body fs) ≡ findings_events options s fs
+events_besides : (options : ViewOptions) (s : TimesState) (fs : List FindingView) →
+    findings_events options s (all_without_body fs) ≡ findings_events options s fs
 unfolding findings_events
 events_besides options s [] = refl
 events_besides options s (f ∷ fs) =
     ap₂ (λ (xs : List Event) (t : TimesState). xs ++ findings_events options t (all_without_body fs)) (event_besides options s f) (finding_besides options s f)
     ∙ ap (λ (xs : List Event). finding_events options s f ++ xs) (events_besides options (with_finding options s f) fs)
 
-pub times_alike : (options : ViewOptions) (s : TimesState) (x y : List FindingView) → all_without_body x ≡ all_without_body y → with_findings options s x ≡ with_findings options s y
+pub times_alike : (options : ViewOptions) (s : TimesState) (x y : List FindingView) → all_without_body x ≡ all_without_body y →
+    with_findings options s x ≡ with_findings options s y
 times_alike options s x y e = sym (all_besides options s x) ∙ ap (with_findings options s) e ∙ all_besides options s y
 
-pub events_alike : (options : ViewOptions) (s : TimesState) (x y : List FindingView) → all_without_body x ≡ all_without_body y → findings_events options s x ≡ findings_events options s y
+pub events_alike : (options : ViewOptions) (s : TimesState) (x y : List FindingView) → all_without_body x ≡ all_without_body y →
+    findings_events options s x ≡ findings_events options s y
 events_alike options s x y e = sym (events_besides options s x) ∙ ap (findings_events options s) e ∙ events_besides options s y

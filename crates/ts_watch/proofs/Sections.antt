@@ -7,24 +7,31 @@ use Rattle.events.specs.declared.event.Event.{Event}
 use Rattle.es_view.specs.declared.view_options.ViewOptions.{ViewOptions}
 use Rattle.ts_watch.specs.TableEvents.{TimesState, finding_events, findings_events, with_finding, with_findings}
 
-all_step : {X : Type 0} (view : X → FindingView) (i : ℕ) (fs : List X) (f : X) → i < length fs → f ≡ get_or fs i f → map view (drop i fs) ≡ view f ∷ map view (drop (i + 1) fs)
+all_step : {X : Type 0} (view : X → FindingView) (i : ℕ) (fs : List X) (f : X) → i < length fs → f ≡ get_or fs i f →
+    map view (drop i fs) ≡ view f ∷ map view (drop (i + 1) fs)
 all_step view i fs f below at = rw (drop-cons fs i f below, add-one i, sym at) refl
 
 -- the sections of those that are left
-pub times_step : {X : Type 0} (view : X → FindingView) (options : ViewOptions) (whole s next : TimesState) (i : ℕ) (fs : List X) (f : X) → i < length fs → f ≡ get_or fs i f →
-    whole ≡ with_findings options s (map view (drop i fs)) → next ≡ with_finding options s (view f) → whole ≡ with_findings options next (map view (drop (i + 1) fs))
+pub times_step : {X : Type 0} (view : X → FindingView) (options : ViewOptions) (whole s next : TimesState) (i : ℕ) (fs : List X) (f : X) → i < length fs →
+    f ≡ get_or fs i f →
+    whole ≡ with_findings options s (map view (drop i fs)) → next ≡ with_finding options s (view f) →
+    whole ≡ with_findings options next (map view (drop (i + 1) fs))
 unfolding with_findings
 times_step view options whole s next i fs f below at is goes =
-    is ∙ ap (λ (l : List FindingView). with_findings options s l) (all_step view i fs f below at) ∙ ap (λ (t : TimesState). with_findings options t (map view (drop (i + 1) fs))) (sym goes)
+    is ∙ ap (λ (l : List FindingView). with_findings options s l) (all_step view i fs f below at)
+    ∙ ap (λ (t : TimesState). with_findings options t (map view (drop (i + 1) fs))) (sym goes)
 
-pub times_end : {X : Type 0} (view : X → FindingView) (options : ViewOptions) (whole s : TimesState) (i : ℕ) (fs : List X) → length fs ≤ i → whole ≡ with_findings options s (map view (drop i fs)) → s ≡ whole
+pub times_end : {X : Type 0} (view : X → FindingView) (options : ViewOptions) (whole s : TimesState) (i : ℕ) (fs : List X) → length fs ≤ i →
+    whole ≡ with_findings options s (map view (drop i fs)) → s ≡ whole
 unfolding with_findings
 times_end view options whole s i fs over is =
     let none : map view (drop i fs) ≡ [] = rw (drop_all i fs over) refl in sym (is ∙ ap (λ (l : List FindingView). with_findings options s l) none)
 
 -- and what is wrong with them
-pub events_step : {X : Type 0} (view : X → FindingView) (options : ViewOptions) (s next : TimesState) (i : ℕ) (fs : List X) (f : X) (whole before after : List Event) → i < length fs → f ≡ get_or fs i f →
-    whole ≡ before ++ findings_events options s (map view (drop i fs)) → next ≡ with_finding options s (view f) → after ≡ before ++ finding_events options s (view f) →
+pub events_step : {X : Type 0} (view : X → FindingView) (options : ViewOptions) (s next : TimesState) (i : ℕ) (fs : List X) (f : X)
+    (whole before after : List Event) → i < length fs → f ≡ get_or fs i f →
+    whole ≡ before ++ findings_events options s (map view (drop i fs)) → next ≡ with_finding options s (view f) →
+    after ≡ before ++ finding_events options s (view f) →
     whole ≡ after ++ findings_events options next (map view (drop (i + 1) fs))
 unfolding findings_events
 events_step view options s next i fs f whole before after below at is goes grown =
@@ -34,7 +41,8 @@ events_step view options s next i fs f whole before after below at is goes grown
     ∙ ap (λ (xs : List Event). xs ++ rest) (sym grown)
     ∙ ap (λ (t : TimesState). after ++ findings_events options t (map view (drop (i + 1) fs))) (sym goes)
 
-pub events_end : {X : Type 0} (view : X → FindingView) (options : ViewOptions) (s : TimesState) (i : ℕ) (fs : List X) (whole events : List Event) → length fs ≤ i →
+pub events_end : {X : Type 0} (view : X → FindingView) (options : ViewOptions) (s : TimesState) (i : ℕ) (fs : List X) (whole events : List Event) →
+    length fs ≤ i →
     whole ≡ events ++ findings_events options s (map view (drop i fs)) → events ≡ whole
 unfolding findings_events
 events_end view options s i fs whole events over is =

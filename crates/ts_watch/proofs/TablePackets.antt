@@ -13,11 +13,13 @@ use Rattle.ts_watch.specs.TableEvents.{TablesState, TakesPackets, TimesState, fi
 use Rattle.ts_watch.proofs.HeaderTables.{events_alike, times_alike}
 
 -- its bytes, pushed, leave what it leaves that is taken, and find what is found in it
-pushed_state : (s : StreamState) (bytes : List ℕ) → TakesPackets s → length bytes ≡ 188 → pushed s bytes ≡ record (taken s bytes) { found = s.found ++ found_in s bytes }
+pushed_state : (s : StreamState) (bytes : List ℕ) → TakesPackets s → length bytes ≡ 188 →
+    pushed s bytes ≡ record (taken s bytes) { found = s.found ++ found_in s bytes }
 pushed_state s bytes takes size = taken_as_pushed s bytes (rw takes.held refl) size
 
 pub pushed_found : (s : StreamState) (bytes : List ℕ) → TakesPackets s → length bytes ≡ 188 → (pushed s bytes).found ≡ found_in s bytes
-pushed_found s bytes takes size = ap (λ (t : StreamState). t.found) (pushed_state s bytes takes size) ∙ ap (λ (fs : List FindingView). fs ++ found_in s bytes) takes.found
+pushed_found s bytes takes size = ap (λ (t : StreamState). t.found) (pushed_state s bytes takes size)
+    ∙ ap (λ (fs : List FindingView). fs ++ found_in s bytes) takes.found
 
 pub pushed_forgotten : (s : StreamState) (bytes : List ℕ) → TakesPackets s → length bytes ≡ 188 → with_found [] (headers_pushed s bytes) ≡ headers_taken s bytes
 unfolding taken
@@ -46,22 +48,28 @@ null_passed options t demux takes is =
 
 pub null_events : (options : ViewOptions) (t : TablesState) → TakesPackets t.demux → packet_events options t null_packet ≡ []
 unfolding findings_events
-null_events options t takes = ap (λ (fs : List FindingView). findings_events options t.times fs) (pushed_found t.demux null_packet takes null_again.size ∙ null_found t.demux)
+null_events options t takes =
+    ap (λ (fs : List FindingView). findings_events options t.times fs) (pushed_found t.demux null_packet takes null_again.size ∙ null_found t.demux)
 
 -- what follows no findings
 pub added_to_none : (none new found : List FindingView) → none ≡ [] → AddsHeaders none new found → all_without_body new ≡ all_without_body found
 added_to_none none new found e added = added ∙ ap (λ (x : List FindingView). all_without_body x ++ all_without_body found) e
 
 -- and any packet leaves what is found in it
-pub packet_passed : (options : ViewOptions) (t : TablesState) (bytes : List ℕ) (demux : StreamState) (times : TimesState) (found : List FindingView) → TakesPackets t.demux →
-    length bytes ≡ 188 → demux ≡ headers_taken t.demux bytes → all_without_body found ≡ all_without_body (found_in t.demux bytes) → times ≡ with_findings options t.times found →
+pub packet_passed : (options : ViewOptions) (t : TablesState) (bytes : List ℕ) (demux : StreamState) (times : TimesState) (found : List FindingView) →
+    TakesPackets t.demux →
+    length bytes ≡ 188 → demux ≡ headers_taken t.demux bytes → all_without_body found ≡ all_without_body (found_in t.demux bytes) →
+    times ≡ with_findings options t.times found →
     ◌≡◌ {A = TablesState} (record { demux = demux; times = times }) (with_packet options t bytes)
 packet_passed options t bytes demux times found takes size is finds goes =
     ap₂ (λ (d : StreamState) (x : TimesState). record { demux = d; times = x }) (is ∙ sym (pushed_forgotten t.demux bytes takes size))
-    (goes ∙ times_alike options t.times found (found_in t.demux bytes) finds ∙ ap (λ (fs : List FindingView). with_findings options t.times fs) (sym (pushed_found t.demux bytes takes size)))
+    (goes ∙ times_alike options t.times found (found_in t.demux bytes) finds
+    ∙ ap (λ (fs : List FindingView). with_findings options t.times fs) (sym (pushed_found t.demux bytes takes size)))
 
-pub packet_writes : (options : ViewOptions) (t : TablesState) (bytes : List ℕ) (events events' : List Event) (found : List FindingView) → TakesPackets t.demux → length bytes ≡ 188 →
-    all_without_body found ≡ all_without_body (found_in t.demux bytes) → events' ≡ events ++ findings_events options t.times found → events' ≡ events ++ packet_events options t bytes
+pub packet_writes : (options : ViewOptions) (t : TablesState) (bytes : List ℕ) (events events' : List Event) (found : List FindingView) → TakesPackets t.demux →
+    length bytes ≡ 188 →
+    all_without_body found ≡ all_without_body (found_in t.demux bytes) → events' ≡ events ++ findings_events options t.times found →
+    events' ≡ events ++ packet_events options t bytes
 packet_writes options t bytes events events' found takes size finds grown =
     grown ∙ ap (λ (xs : List Event). events ++ xs) (events_alike options t.times found (found_in t.demux bytes) finds
     ∙ ap (λ (fs : List FindingView). findings_events options t.times fs) (sym (pushed_found t.demux bytes takes size)))

@@ -1,10 +1,12 @@
 -- The sections of tables: where they begin, those that begin too late (ETSI TR 101 290, 5.2.1, 1.3 and 1.5; 5.2.3, 3.1, 3.5,
 -- 3.6 and 3.8), and what each table came to at the end.
-use Rattle.std.specs.Prelude.{◌≡◌, ℕ, ◌+◌, ◌-◌, ◌^◌, ◌%◌, min, is_some, Bool, true, false, if◌then◌else◌, unwrap_or, List, [], ◌∷◌, ◌++◌, map, option_and_then, Option, Some, None}
+use Rattle.std.specs.Prelude.{◌≡◌, ℕ, ◌+◌, ◌-◌, ◌^◌, ◌%◌, min, is_some, Bool, true, false, if◌then◌else◌, unwrap_or, List, [], ◌∷◌, ◌++◌, map, option_and_then}
+use Rattle.std.specs.Prelude.{Option, Some, None}
 use Rattle.arrival.specs.Arrivals.{moment_on}
 use Rattle.arrival.specs.declared.arrival.Arrival.{Arrival}
 use Rattle.arrival.specs.declared.arrival.Arrival.TheVariants.{Unknown, AtRate, OnLines}
-use Rattle.demux.specs.Views.{FindingView, WhatView, IsDuplicate, BreaksCounter, IsScrambled, IsTruncated, IsSection, IsBadSection, IsPes, IsBadPes, IsBadPacket, IsErrored}
+use Rattle.demux.specs.Views.{FindingView, WhatView, IsDuplicate, BreaksCounter, IsScrambled, IsTruncated, IsSection, IsBadSection, IsPes, IsBadPes}
+use Rattle.demux.specs.Views.{IsBadPacket, IsErrored}
 use Rattle.psi_tables.specs.declared.error.SectionError.TheVariants as refusals
 use Rattle.demux.specs.Stream.{StreamState, start, pushed}
 use Rattle.demux.specs.Bodies.{headers_pushed}
@@ -144,7 +146,8 @@ abbrev pub with_finding : ViewOptions → TimesState → FindingView → TimesSt
 with_finding options s f = with_begin (with_whole (with_check_word s f) (whole_in options f)) (section_in options f)
 
 abbrev pub finding_events : ViewOptions → TimesState → FindingView → List Event
-finding_events options s f = check_word_events f ++ (other_events (whole_section f) ++ (distance_events s.distances (whole_in options f) ++ begin_events s (section_in options f)))
+finding_events options s f =
+    check_word_events f ++ (other_events (whole_section f) ++ (distance_events s.distances (whole_in options f) ++ begin_events s (section_in options f)))
 
 unfoldable pub with_findings : ViewOptions → TimesState → List FindingView → TimesState
 with_findings options s [] = s
@@ -169,7 +172,8 @@ abbrev pub no_tables : TableTiming → TablesState
 no_tables timing = record { demux = start; times = record { intervals = no_section timing; distances = no_end timing; errors = 0 } }
 
 abbrev pub with_packet : ViewOptions → TablesState → List ℕ → TablesState
-with_packet options s bytes = record { demux = with_found [] (headers_pushed s.demux bytes); times = with_findings options s.times (pushed s.demux bytes).found }
+with_packet options s bytes =
+    record { demux = with_found [] (headers_pushed s.demux bytes); times = with_findings options s.times (pushed s.demux bytes).found }
 
 abbrev pub packet_events : ViewOptions → TablesState → List ℕ → List Event
 packet_events options s bytes = findings_events options s.times (pushed s.demux bytes).found

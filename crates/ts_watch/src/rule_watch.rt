@@ -150,8 +150,8 @@ impl RuleWatch {
         Ok(errors.len() as u64)
     }
 
-    /// Takes the report on the reference of a packet of a PID, if it has one, appends the errors of accuracy that count now, and returns
-    /// their number.
+    /// Takes the report on the reference of a packet of a PID, if it has one, appends the errors of accuracy that count
+    /// now, and returns their number.
     #[tactic(auto, unfolding(crate::specs::RuleEvents::judge_after, crate::specs::RuleEvents::accuracy_events, crate::specs::RuleEvents::accuracy_count))]
     pub fn take_report(
         &mut self,
@@ -195,7 +195,8 @@ impl RuleWatch {
         }
     }
 
-    /// Takes the packet at an index: appends the error of its PTS, and that it is scrambled though it is one of a PAT or of a PMT.
+    /// Takes the packet at an index: appends the error of its PTS, and that it is scrambled though it is one of a PAT
+    /// or of a PMT.
     pub fn take(
         &mut self,
         arrival: &Arrival,
@@ -222,7 +223,8 @@ impl RuleWatch {
         self.judge.varies() || self.judge.is_empty()
     }
 
-    /// Appends at the end of a stream of so many packets what is held of accuracy, and that packets are scrambled and there is no CAT.
+    /// Appends at the end of a stream of so many packets what is held of accuracy, and that packets are scrambled and
+    /// there is no CAT.
     pub fn push_end(
         &self,
         packets: u64,

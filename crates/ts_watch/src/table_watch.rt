@@ -22,8 +22,8 @@ use tr101290::{
 };
 use ts_packet::{Packet, PacketError};
 
-/// The sections of each table, where the last ones end, and the number of sections that are late or have a wrong check word, which
-/// stops at 2^64 - 1.
+/// The sections of each table, where the last ones end, and the number of sections that are late or have a wrong check
+/// word, which stops at 2^64 - 1.
 #[derive(Drop)]
 pub struct TableTimes {
     intervals: TableIntervals<Global>,

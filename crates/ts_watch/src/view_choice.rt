@@ -74,8 +74,8 @@ impl ViewChoice {
         }
     }
 
-    /// Returns the two buffers of video of the stream of a PID, of this coding: none where its buffers are given, or of another
-    /// coding.
+    /// Returns the two buffers of video of the stream of a PID, of this coding: none where its buffers are given, or of
+    /// another coding.
     pub fn rates_for(&self, pid: u16, coding: Coding) -> Option<VideoRates>
         ensures { result ≡ spec.rates_for self.now pid coding }
     {
@@ -86,8 +86,8 @@ impl ViewChoice {
         }
     }
 
-    /// Returns which frames the sound of the stream of a PID has, by its entry in the program map, if its main buffer is viewed by access
-    /// units: it is not where its buffers are given.
+    /// Returns which frames the sound of the stream of a PID has, by its entry in the program map, if its main buffer
+    /// is viewed by access units: it is not where its buffers are given.
     pub fn frames_for(&self, pid: u16, stream_type: u8, descriptors: &[u8]) -> Option<FrameKind>
         ensures { result ≡ spec.frames_for self.now pid stream_type descriptors.now }
     {

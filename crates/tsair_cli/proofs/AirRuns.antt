@@ -26,7 +26,8 @@ use Rattle.tsair_cli.specs.Fronts.{ReadsPlans}
 use Rattle.tsair_cli.specs.HeardRecords.{EndsRecords, FailsRecords}
 
 -- nothing waits, so all is written
-whole_output : (start now : Option (List ℕ)) (packets : Buffered) (all : List ℕ) → waiting_of packets ≡ [] → IsOutput start now packets all → Appends start now all
+whole_output : (start now : Option (List ℕ)) (packets : Buffered) (all : List ℕ) → waiting_of packets ≡ [] → IsOutput start now packets all →
+    Appends start now all
 whole_output start now packets all none o =
     subst (λ (bytes : List ℕ). Appends start now bytes) (sym (o.is ∙ ap (λ (l : List ℕ). o.written ++ l) none ∙ append-nil o.written)) o.taken
 
@@ -47,8 +48,10 @@ records_failed o run input output before told after sent status f r s = inr (rec
 })
 
 pub run_ended : (o : AirOptions) (run : Run) (input : Device) (begin mid end before told after : Port) (why : RecordsEnd) (s t : AirState) (records status : ℕ)
-    (e : EndsRecords run o.stop begin.bytes input (between begin mid) (between before told) why s) → IsOnAir run (ended run e.airs.came) begin.bytes end.bytes t → waiting_of t.packets ≡ [] → end.failed ≡ mid.failed →
-    records ≡ t.records → Reports (between told after) (end_outcome o.terms.slots records why).report → status ≡ (end_outcome o.terms.slots records why).status →
+    (e : EndsRecords run o.stop begin.bytes input (between begin mid) (between before told) why s) →
+    IsOnAir run (ended run e.airs.came) begin.bytes end.bytes t → waiting_of t.packets ≡ [] → end.failed ≡ mid.failed →
+    records ≡ t.records → Reports (between told after) (end_outcome o.terms.slots records why).report →
+    status ≡ (end_outcome o.terms.slots records why).status →
     AirsRecords o run input (between begin end) (between before after) status
 run_ended o run input begin mid end before told after why s t records status e h none clean n r st =
     let count : records ≡ e.airs.came.records = n ∙ h.records in
@@ -68,7 +71,8 @@ run_ended o run input begin mid end before told after why s t records status e h
     })
 
 pub end_failed : (o : AirOptions) (run : Run) (input : Device) (begin mid end before told after : Port) (why : RecordsEnd) (s : AirState) (sent status : ℕ)
-    (e : EndsRecords run o.stop begin.bytes input (between begin mid) (between before told) why s) → Fails run (ended run e.airs.came) begin.bytes end.bytes sent → Failed mid.failed end.failed →
+    (e : EndsRecords run o.stop begin.bytes input (between begin mid) (between before told) why s) →
+    Fails run (ended run e.airs.came) begin.bytes end.bytes sent → Failed mid.failed end.failed →
     Reports (between told after) (halt_line Write) → status ≡ 3 → AirsRecords o run input (between begin end) (between before after) status
 end_failed o run input begin mid end before told after why s sent status e f failed r st = inr (record {
   rest = e.rest;
@@ -87,7 +91,8 @@ no_rest : (plans : JobPlans) → (plans_view plans []).rest ≡ []
 no_rest (One c) = refl
 no_rest (Two c) = refl
 
-pub begun : (o : AirOptions) (before left : Port) (plans : JobPlans) (switch : Bool) → switch ≡ is_some o.periods → ReadsPlans switch (between before left) plans →
+pub begun : (o : AirOptions) (before left : Port) (plans : JobPlans) (switch : Bool) → switch ≡ is_some o.periods →
+    ReadsPlans switch (between before left) plans →
     Begins o before left (plans_view plans [])
 begun o before left plans switch is r = record {
   front = r.front;

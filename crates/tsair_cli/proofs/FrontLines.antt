@@ -1,5 +1,6 @@
 -- A text of whole lines and the lines after it: the plans that end in both.
-use Rattle.std.proofs.Common.{◌≡◌, inl, inr, ◌<◌, ◌≤◌, ◌-◌, ℕ, zero, suc, ◌+◌, ◌==◌, Bool, true, false, not, List, [], ◌∷◌, ◌++◌, take, drop, length, Option, Some, None, if◌then◌else◌, refl, sym, ap, ap₂, ◌∙◌, arith, length-append}
+use Rattle.std.proofs.Common.{◌≡◌, inl, inr, ◌<◌, ◌≤◌, ◌-◌, ℕ, zero, suc, ◌+◌, ◌==◌, Bool, true, false, not, List, [], ◌∷◌, ◌++◌, take, drop, length, Option}
+use Rattle.std.proofs.Common.{Some, None, if◌then◌else◌, refl, sym, ap, ap₂, ◌∙◌, arith, length-append}
 use Rattle.std.specs.Prelude.{◌&&◌, IfSome, codes, nat_eq, option_map}
 use Rattle.std.specs.List.{list_all, starts_with}
 use Rattle.std.proofs.lemmas.Bool.{and_parts, eqb-true, false≢true, leb-false}
@@ -49,7 +50,8 @@ end_lines_on b [] ys e =
     let none : end_lines true ys ≡ 0 + end_lines true ys = omega arith in
     ap (λ (t : Bool). end_lines t ys) e ∙ none
 end_lines_on b (x ∷ xs) ys e =
-    let here : starts_with nat_eq (x ∷ (xs ++ ys)) (codes "end\n") ≡ starts_with nat_eq (x ∷ xs) (codes "end\n") = begins_alike (codes "end") (x ∷ xs) ys refl e in
+    let here : starts_with nat_eq (x ∷ (xs ++ ys)) (codes "end\n") ≡ starts_with nat_eq (x ∷ xs) (codes "end\n") =
+    begins_alike (codes "end") (x ∷ xs) ys refl e in
     ap₂ (λ (t : Bool) (n : ℕ). (if b && t then 1 else 0) + n) here (end_lines_on (x == 10) xs ys e)
     ∙ regrouped (if b && starts_with nat_eq (x ∷ xs) (codes "end\n") then 1 else 0) (end_lines (x == 10) xs) (end_lines true ys)
 
@@ -78,7 +80,8 @@ from_place i b (x ∷ xs) zs e = by (b && starts_with nat_eq (x ∷ xs) first_pl
     by false later = later
 
 in_parts : (xs : List ℕ) (place : Option ℕ) →
-    option_map (λ (p : List ℕ × List ℕ). end_lines true p.1) (option_map (λ i. (take i xs, drop i xs)) place) ≡ option_map (λ n. end_lines true (drop n xs)) place
+    option_map (λ (p : List ℕ × List ℕ). end_lines true p.1) (option_map (λ i. (take i xs, drop i xs)) place) ≡ option_map (λ n. end_lines true (drop n xs))
+    place
 in_parts xs None = refl
 in_parts xs (Some n) = refl
 
@@ -88,12 +91,14 @@ as_recursion xs = in_parts xs (plan_offset 0 true xs) ∙ from_place 0 true xs x
 ends_on : (b : Bool) (xs ys : List ℕ) → ends_a_line b xs ≡ true → ends_from b (xs ++ ys) ≡ ended_after (ends_from b xs) ys
 ends_on b [] ys e = ap (λ (t : Bool). ends_from t ys) e ∙ sym (as_recursion ys)
 ends_on b (x ∷ xs) ys e =
-    let here : starts_with nat_eq (x ∷ (xs ++ ys)) first_plan_line ≡ starts_with nat_eq (x ∷ xs) first_plan_line = begins_alike (codes "tsplan 1") (x ∷ xs) ys refl e in
+    let here : starts_with nat_eq (x ∷ (xs ++ ys)) first_plan_line ≡ starts_with nat_eq (x ∷ xs) first_plan_line =
+    begins_alike (codes "tsplan 1") (x ∷ xs) ys refl e in
     ap (λ (t : Bool). if b && t then Some (end_lines true (x ∷ (xs ++ ys))) else ends_from (x == 10) (xs ++ ys)) here
     ∙ by (b && starts_with nat_eq (x ∷ xs) first_plan_line) (end_lines_on true (x ∷ xs) ys e) (ends_on (x == 10) xs ys e)
   where
     by : (t : Bool) → end_lines true (x ∷ (xs ++ ys)) ≡ end_lines true (x ∷ xs) + end_lines true ys →
-        ends_from (x == 10) (xs ++ ys) ≡ ended_after (ends_from (x == 10) xs) ys → (if t then Some (end_lines true (x ∷ (xs ++ ys))) else ends_from (x == 10) (xs ++ ys))
+        ends_from (x == 10) (xs ++ ys) ≡ ended_after (ends_from (x == 10) xs) ys →
+        (if t then Some (end_lines true (x ∷ (xs ++ ys))) else ends_from (x == 10) (xs ++ ys))
         ≡ ended_after (if t then Some (end_lines true (x ∷ xs)) else ends_from (x == 10) xs) ys
     by true here later = ap Some here
     by false here later = later
@@ -115,7 +120,8 @@ short_whole : (text : List ℕ) → length text ≤ max_front → IsLined text �
 short_whole text short (inl long) = absurd (omega (arith, short, long))
 short_whole text short (inr whole) = whole
 
-pub ended_more : (now new lines got : List ℕ) (ended after : Option ℕ) (from : ℕ) → new ≡ now ++ lines → length now ≤ max_front → IsLined now → ended ≡ ended_plans now →
+pub ended_more : (now new lines got : List ℕ) (ended after : Option ℕ) (from : ℕ) → new ≡ now ++ lines → length now ≤ max_front → IsLined now →
+    ended ≡ ended_plans now →
     got ≡ new → from ≡ length now → after ≡ ended_after ended (take (length got - from) (drop from got)) → after ≡ ended_plans new
 ended_more now new lines got ended after from grown short lined before same at is =
     is ∙ ap₂ ended_after before (lines_read now new lines got from grown same at)
@@ -126,11 +132,13 @@ few_ended switch None all is not_all = tt
 few_ended true (Some n) all is not_all = leb-false 2 n (sym is ∙ not_all)
 few_ended false (Some n) all is not_all = let less : n < 1 = leb-false 1 n (sym is ∙ not_all) in omega (arith, less)
 
-pub all_ended : (switch : Bool) (text : List ℕ) (ended : Option ℕ) (all : Bool) → ended ≡ ended_plans text → all ≡ have_ended (plan_count switch) ended → all ≡ true →
+pub all_ended : (switch : Bool) (text : List ℕ) (ended : Option ℕ) (all : Bool) → ended ≡ ended_plans text → all ≡ have_ended (plan_count switch) ended →
+    all ≡ true →
     plans_end switch text ≡ true
 all_ended switch text ended all is e every =
     sym (by (parts_of text)) ∙ ap (have_ended (plan_count switch)) (sym is) ∙ sym e ∙ every
   where
-    by : (parts : Option (List ℕ × List ℕ)) → have_ended (plan_count switch) (option_map (λ (p : List ℕ × List ℕ). end_lines true p.1) parts) ≡ have_ends (plan_count switch) parts
+    by : (parts : Option (List ℕ × List ℕ)) →
+        have_ended (plan_count switch) (option_map (λ (p : List ℕ × List ℕ). end_lines true p.1) parts) ≡ have_ends (plan_count switch) parts
     by None = refl
     by (Some parts) = refl

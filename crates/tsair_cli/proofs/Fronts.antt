@@ -1,5 +1,6 @@
 -- A front that grows by bytes of the input.
-use Rattle.std.proofs.Common.{◌≡◌, ◌≤◌, ◌<◌, ◌+◌, ℕ, suc, min, Bool, true, List, [], ◌∷◌, ◌++◌, length, take, drop, Option, Some, None, Result, Ok, Err, inl, inr, refl, sym, ap, ◌∙◌, subst, arith, append-nil, append_assoc, length-append}
+use Rattle.std.proofs.Common.{◌≡◌, ◌≤◌, ◌<◌, ◌+◌, ℕ, suc, min, Bool, true, List, [], ◌∷◌, ◌++◌, length, take, drop, Option, Some, None, Result, Ok, Err, inl}
+use Rattle.std.proofs.Common.{inr, refl, sym, ap, ◌∙◌, subst, arith, append-nil, append_assoc, length-append}
 use Rattle.std.specs.Prelude.{slice_index}
 use Rattle.std.specs.Io.KnownBytes.{Consumes, IsAtEnd}
 use Rattle.std.proofs.KnownBytes.{Consumes-nil, Consumes-trans}
@@ -17,7 +18,8 @@ use Rattle.tsair_cli.specs.declared.front.FrontFault.TheVariants.{Job, Unended}
 pub grown_none : (port : Port) (text : List ℕ) → Grows (between port port) text text
 grown_none port text = record { bytes = []; grown = sym (append-nil text); read = Consumes-nil port.bytes; clean = refl }
 
-pub grown_more : (before mid after : Port) (old now new bytes : List ℕ) → Grows (between before mid) old now → Consumes mid.bytes after.bytes bytes → after.failed ≡ mid.failed →
+pub grown_more : (before mid after : Port) (old now new bytes : List ℕ) → Grows (between before mid) old now → Consumes mid.bytes after.bytes bytes →
+    after.failed ≡ mid.failed →
     new ≡ now ++ bytes → Grows (between before after) old new
 grown_more before mid after old now new bytes g read clean is = record {
   bytes = g.bytes ++ bytes;
@@ -26,7 +28,8 @@ grown_more before mid after old now new bytes g read clean is = record {
   clean = clean ∙ g.clean;
 }
 
-pub grown_on : (before mid after : Port) (old now new : List ℕ) → Grows (between before mid) old now → Grows (between mid after) now new → Grows (between before after) old new
+pub grown_on : (before mid after : Port) (old now new : List ℕ) → Grows (between before mid) old now → Grows (between mid after) now new →
+    Grows (between before after) old new
 grown_on before mid after old now new g h = grown_more before mid after old now new h.bytes g h.read h.clean h.grown
 
 -- the bytes that a read gave
@@ -41,7 +44,8 @@ none_left : (xs : List ℕ) (n : ℕ) → 0 ≡ min (suc n) (length xs) → xs �
 none_left [] n e = refl
 none_left (x ∷ xs) n e = absurd (omega (arith, e))
 
-pub end_read : (mid after : Port) (part : List ℕ) → length part ≡ 1 → ((xs : List ℕ) → mid.bytes ≡ Some xs → ReadsPart xs after.bytes part (Ok 0)) → IsSpent (between mid after)
+pub end_read : (mid after : Port) (part : List ℕ) → length part ≡ 1 → ((xs : List ℕ) → mid.bytes ≡ Some xs → ReadsPart xs after.bytes part (Ok 0)) →
+    IsSpent (between mid after)
 end_read mid after part size known xs is =
     let r = known xs is in
     let none : xs ≡ [] = none_left xs 0 (r.0 ∙ ap (λ (n : ℕ). min n (length xs)) size) in
@@ -69,27 +73,32 @@ one [] e = absurd (omega (arith, e))
 one (x ∷ []) e = refl
 one (x ∷ (y ∷ rest)) e = absurd (omega (arith, e))
 
-pub byte_read : (a b : Option (List ℕ)) (part : List ℕ) (n : ℕ) → length part ≡ 1 → n ≤ 1 → 0 < n → ((xs : List ℕ) → a ≡ Some xs → ReadsPart xs b part (Ok n)) → Consumes a b (slice_index part 0 ∷ [])
+pub byte_read : (a b : Option (List ℕ)) (part : List ℕ) (n : ℕ) → length part ≡ 1 → n ≤ 1 → 0 < n → ((xs : List ℕ) → a ≡ Some xs → ReadsPart xs b part (Ok n)) →
+    Consumes a b (slice_index part 0 ∷ [])
 byte_read a b part n size upper some known =
     let all : n ≡ 1 = omega (arith, upper, some) in
     subst (Consumes a b) (ap (λ (m : ℕ). take m part) all ∙ one part size) (part_read a b part n known)
 
 -- a read at the end, and one of a byte
 pub end_on : (before mid after : Port) (old now part : List ℕ) (n : ℕ) → n ≡ 0 → length part ≡ 1 → Grows (between before mid) old now →
-    ((xs : List ℕ) → mid.bytes ≡ Some xs → ReadsPart xs after.bytes part (Ok n)) → after.failed ≡ mid.failed → Grows (between before after) old now × IsSpent (between before after)
+    ((xs : List ℕ) → mid.bytes ≡ Some xs → ReadsPart xs after.bytes part (Ok n)) → after.failed ≡ mid.failed →
+    Grows (between before after) old now × IsSpent (between before after)
 end_on before mid after old now part n none size g known clean =
-    let at : (xs : List ℕ) → mid.bytes ≡ Some xs → ReadsPart xs after.bytes part (Ok 0) = λ xs e. subst (λ (m : ℕ). ReadsPart xs after.bytes part (Ok m)) none (known xs e) in (
+    let at : (xs : List ℕ) → mid.bytes ≡ Some xs → ReadsPart xs after.bytes part (Ok 0) =
+    λ xs e. subst (λ (m : ℕ). ReadsPart xs after.bytes part (Ok m)) none (known xs e) in (
       grown_more before mid after old now now [] g (part_read mid.bytes after.bytes part 0 at) clean (sym (append-nil now)),
       spent_on before mid after old now g (end_read mid after part size at),
     )
 
 pub byte_on : (before mid after : Port) (old now new part : List ℕ) (n : ℕ) → length part ≡ 1 → n ≤ 1 → 0 < n → Grows (between before mid) old now →
-    ((xs : List ℕ) → mid.bytes ≡ Some xs → ReadsPart xs after.bytes part (Ok n)) → after.failed ≡ mid.failed → new ≡ now ++ (slice_index part 0 ∷ []) → Grows (between before after) old new
+    ((xs : List ℕ) → mid.bytes ≡ Some xs → ReadsPart xs after.bytes part (Ok n)) → after.failed ≡ mid.failed → new ≡ now ++ (slice_index part 0 ∷ []) →
+    Grows (between before after) old new
 byte_on before mid after old now new part n size upper some g known clean is =
     grown_more before mid after old now new (slice_index part 0 ∷ []) g (byte_read mid.bytes after.bytes part n size upper some known) clean is
 
 -- a front of which the last line of each plan has come, by what it is read as
-pub front_read : (switch : Bool) (before after : Port) (text got : List ℕ) (r : Result JobPlans FrontError) → Grows (between before after) [] text → plans_end switch text ≡ true →
+pub front_read : (switch : Bool) (before after : Port) (text got : List ℕ) (r : Result JobPlans FrontError) → Grows (between before after) [] text →
+    plans_end switch text ≡ true →
     got ≡ text → IsFrontOf (job_of switch got) r → ReadsFront switch (between before after) r
 front_read switch before after text got r g ends same is =
     by r (subst (λ (l : List ℕ). IsFrontOf (job_of switch l) r) same is)

@@ -1,5 +1,6 @@
 -- Records heard one after another, and the lines of those that are refused.
-use Rattle.std.proofs.Common.{◌≡◌, ◌<◌, ◌+◌, ℕ, Bool, true, false, nat_lt, List, [], ◌∷◌, ◌++◌, length, map, Option, Some, None, Result, Ok, Err, refl, sym, ap, ◌∙◌, subst, arith, below_none, length-append}
+use Rattle.std.proofs.Common.{◌≡◌, ◌<◌, ◌+◌, ℕ, Bool, true, false, nat_lt, List, [], ◌∷◌, ◌++◌, length, map, Option, Some, None, Result, Ok, Err, refl, sym, ap}
+use Rattle.std.proofs.Common.{◌∙◌, subst, arith, below_none, length-append}
 use Rattle.std.proofs.lemmas.List.{map-append}
 use Rattle.std.proofs.lemmas.Bool.{lt-ltb}
 use Rattle.devices.specs.Devices.{Device, Port, HasFailed, IsClean, between}
@@ -20,10 +21,12 @@ use Rattle.tsair_cli.specs.HeardRecords.{Airs, EndsRecords, FailsRecords, HearsA
 
 -- 1. Lines
 
-told_refused : (before mid after : Port) (old new : List (ℕ × AirRefusal)) (refused : ℕ × AirRefusal) → new ≡ old ++ (refused ∷ []) → Tells before mid (map refusal_line old) →
+told_refused : (before mid after : Port) (old new : List (ℕ × AirRefusal)) (refused : ℕ × AirRefusal) → new ≡ old ++ (refused ∷ []) →
+    Tells before mid (map refusal_line old) →
     Reports (between mid after) (refusal_line refused) → Tells before after (map refusal_line new)
 told_refused before mid after old new refused is t r =
-    subst (λ (lines : List (List ℕ)). Tells before after lines) (sym (ap (λ (l : List (ℕ × AirRefusal)). map refusal_line l) is ∙ map-append refusal_line old (refused ∷ [])))
+    subst (λ (lines : List (List ℕ)). Tells before after lines)
+    (sym (ap (λ (l : List (ℕ × AirRefusal)). map refusal_line l) is ∙ map-append refusal_line old (refused ∷ [])))
     (told_more before mid after (map refusal_line old) (refusal_line refused) t r)
 
 some_refused : (old new : List (ℕ × AirRefusal)) (refused : ℕ × AirRefusal) → new ≡ old ++ (refused ∷ []) → nat_lt 0 (length new) ≡ true
@@ -43,14 +46,22 @@ pub first : (run : Run) (origin start now : Option (List ℕ)) (port : Port) (s 
     Midway run origin origin start now (between port port) false s
 unfolding heard after_records
 first run origin start now port s h = record {
-  airs = record { came = silence; heard_is = record { count = 0; heard_is = λ xs e. (refl, e, λ m none. below_none (λ i. (heard run i xs).slots < limit_of run.terms) m none) }; told = told_none port };
+  airs = record {
+    came = silence;
+    heard_is =
+        record { count = 0; heard_is = λ xs e. (refl, e, λ m none. below_none (λ i. (heard run i xs).slots < limit_of run.terms) m none) };
+    told =
+        told_none port;
+  };
   refused_is = refl;
   state = h;
 }
 
 -- the record that was refused is told, and the run has followed it, if it does
-pub next : (run : Run) (origin mid left start now later last : Option (List ℕ)) (before told after : Port) (refused : Bool) (s heard_to new : AirState) (index : ℕ) (cause : AirRefusal)
-    (m : Midway run origin mid start now (between before told) refused s) → HearsOn run m.airs.came origin left start later (Ok (Refused index cause)) heard_to →
+pub next : (run : Run) (origin mid left start now later last : Option (List ℕ)) (before told after : Port) (refused : Bool) (s heard_to new : AirState)
+    (index : ℕ) (cause : AirRefusal)
+    (m : Midway run origin mid start now (between before told) refused s) →
+    HearsOn run m.airs.came origin left start later (Ok (Refused index cause)) heard_to →
     ((a : Air) → IsOnAir run a start later heard_to → IsOnAir run (caught_up run a (Some cause)) start last new) →
     Reports (between told after) (refusal_line (index, cause)) → Midway run origin left start last (between before after) true new
 next run origin mid left start now later last before told after refused s heard_to new index cause m (b, heard_on, adds, state) follows r = record {
@@ -64,28 +75,33 @@ next run origin mid left start now later last before told after refused s heard_
 }
 
 -- the writer failed within the slots up to a record that the run follows
-pub follow_fails : (run : Run) (mid start now later : Option (List ℕ)) (input output : Device) (before told after : Port) (refused : Bool) (s heard_to : AirState) (index : ℕ)
+pub follow_fails : (run : Run) (mid start now later : Option (List ℕ)) (input output : Device) (before told after : Port) (refused : Bool)
+    (s heard_to : AirState) (index : ℕ)
     (cause : AirRefusal) (sent : ℕ) (m : Midway run input.before.bytes mid start now (between before told) refused s) →
     HearsOn run m.airs.came input.before.bytes input.after.bytes start later (Ok (Refused index cause)) heard_to →
     ((a : Air) → IsOnAir run a start later heard_to → Fails run (caught_up run a (Some cause)) start output.after.bytes sent) →
-    Reports (between told after) (refusal_line (index, cause)) → IsClean input → HasFailed output → FailsRecords run start input output (between before after) sent
-follow_fails run mid start now later input output before told after refused s heard_to index cause sent m (b, heard_on, adds, state) failing r clean failed = record {
-  airs = record {
-    came = caught_up run b (Some cause);
-    heard_is = heard_on;
-    told = told_refused before told after m.airs.came.refused b.refused (index, cause) adds m.airs.told r;
-  };
-  fails = failing b state;
-  clean = clean;
-  failed = failed;
-}
+    Reports (between told after) (refusal_line (index, cause)) → IsClean input → HasFailed output →
+    FailsRecords run start input output (between before after) sent
+follow_fails run mid start now later input output before told after refused s heard_to index cause sent m (b, heard_on, adds, state) failing r clean failed =
+    record {
+      airs = record {
+        came = caught_up run b (Some cause);
+        heard_is = heard_on;
+        told = told_refused before told after m.airs.came.refused b.refused (index, cause) adds m.airs.told r;
+      };
+      fails = failing b state;
+      clean = clean;
+      failed = failed;
+    }
 
 -- 3. How it ends
 
-told_same : (before after : Port) (old new : List (ℕ × AirRefusal)) → new ≡ old → Tells before after (map refusal_line old) → Tells before after (map refusal_line new)
+told_same : (before after : Port) (old new : List (ℕ × AirRefusal)) → new ≡ old → Tells before after (map refusal_line old) →
+    Tells before after (map refusal_line new)
 told_same before after old new is t = subst (λ (l : List (ℕ × AirRefusal)). Tells before after (map refusal_line l)) (sym is) t
 
-reader_named : (input : Device) (why : Ending) (w0 w1 : ℕ) → NamesDevice (Ok (Ended why)) input.before.failed input.after.failed w0 w1 → NamesReader input (Some why)
+reader_named : (input : Device) (why : Ending) (w0 w1 : ℕ) → NamesDevice (Ok (Ended why)) input.before.failed input.after.failed w0 w1 →
+    NamesReader input (Some why)
 reader_named input Input w0 w1 n = n.0
 reader_named input (Unread Cut) w0 w1 n = n.0
 reader_named input (Unread Size) w0 w1 n = n.0
@@ -104,7 +120,8 @@ writer_clean Slots r0 r1 w0 w1 n = n.1
 writer_clean Records r0 r1 w0 w1 n = n.1
 
 pub ends : (run : Run) (stop : Bool) (mid start now : Option (List ℕ)) (input output faults : Device) (refused : Bool) (s new : AirState) (why : Ending)
-    (m : Midway run input.before.bytes mid start now faults refused s) → HearsOn run m.airs.came input.before.bytes input.after.bytes start output.after.bytes (Ok (Ended why)) new →
+    (m : Midway run input.before.bytes mid start now faults refused s) →
+    HearsOn run m.airs.came input.before.bytes input.after.bytes start output.after.bytes (Ok (Ended why)) new →
     NamesDevice (Ok (Ended why)) input.before.failed input.after.failed output.before.failed output.after.failed →
     EndsRecords run stop start input output faults (record { has_refused = refused; why = Some why }) new
 ends run stop mid start now input output faults refused s new why m (b, (rest, heard_on, ends_at), same, state) n = record {
@@ -131,8 +148,10 @@ stops run stop start input output faults s is m r w = record {
 }
 
 pub fails : (run : Run) (mid start now : Option (List ℕ)) (input output faults : Device) (refused : Bool) (s new : AirState) (fault : OutputFault)
-    (m : Midway run input.before.bytes mid start now faults refused s) → HearsOn run m.airs.came input.before.bytes input.after.bytes start output.after.bytes (Err fault) new →
-    NamesDevice (Err fault) input.before.failed input.after.failed output.before.failed output.after.failed → FailsRecords run start input output faults fault.sent
+    (m : Midway run input.before.bytes mid start now faults refused s) →
+    HearsOn run m.airs.came input.before.bytes input.after.bytes start output.after.bytes (Err fault) new →
+    NamesDevice (Err fault) input.before.failed input.after.failed output.before.failed output.after.failed →
+    FailsRecords run start input output faults fault.sent
 fails run mid start now input output faults refused s new fault m (b, heard_on, same, failing) n = record {
   airs = record { came = b; heard_is = heard_on; told = told_same faults.before faults.after m.airs.came.refused b.refused same m.airs.told };
   fails = failing;

@@ -120,7 +120,8 @@ pub(crate) const OPTIONS: [OptionRow; 11] = [
     },
 ];
 
-/// The usage, written to the first writer if the words ask for help, to the second on a usage error: a line for each row of the table.
+/// The usage, written to the first writer if the words ask for help, to the second on a usage error: a line for each
+/// row of the table.
 const USAGE: &str = "usage: tsair [OPTIONS] < JOB > PACKETS
   --wait 0..8100000              how much later than a greater DTS a unit may come, in units of 90 kHz; else 180000
   --ahead 0..4503599627370496    how far after the greatest DTS so far the next may lie; else 900000

@@ -114,9 +114,9 @@ fn air_job<R: HeldInput, W: Sink, E: Sink>(
     status
 }
 
-/// Runs the whole program: it reads the front of the input, writes the slots that each record settles before a read of the
-/// next may wait, reports faults on the second writer, and returns the exit status: 0 good, 1 refused, 2 a usage error, 3 a
-/// device failed or out of memory.
+/// Runs the whole program: it reads the front of the input, writes the slots that each record settles before a read of
+/// the next may wait, reports faults on the second writer, and returns the exit status: 0 good, 1 refused, 2 a usage
+/// error, 3 a device failed or out of memory.
 pub fn run<R: HeldInput, W: Sink, E: Sink>(
     alloc: Global,
     words: &[&str],

@@ -1,6 +1,7 @@
 //! `tsjob`: a transport stream to a job that `tsmux mux` multiplexes at a constant rate (ISO/IEC 13818-1, EN 300 468).
 //!
-//! The program is `tsjob_cli::run_command` over any reader and two writers; `devices::run_program` runs it over the real ones.
+//! The program is `tsjob_cli::run_command` over any reader and two writers; `devices::run_program` runs it over the
+//! real ones.
 #![tactic(auto)]
 
 use counted_io::Sink;

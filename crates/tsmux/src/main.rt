@@ -1,6 +1,7 @@
 //! `tsmux`: a constant-rate MPEG-2 transport stream multiplexer (ISO/IEC 13818-1, EN 300 468, TR 101 290).
 //!
-//! The program is `tsmux_cli::run` over any reader and two writers; `devices::run_reporting_program` runs it over the real ones.
+//! The program is `tsmux_cli::run` over any reader and two writers; `devices::run_reporting_program` runs it over the
+//! real ones.
 #![tactic(auto)]
 
 use counted_io::Sink;

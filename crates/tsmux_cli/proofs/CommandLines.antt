@@ -20,6 +20,7 @@ pub named : {E : Type 0} (app : App) (words : List Text) (r : Result ArgMatches 
 named app words (Ok m) s h = (h s).1
 named app words (Err e) s h = tt
 
-pub faulty : {T : Type 0} (app : App) (words : List Text) (r : Result T Error) → app ≡ tsmux_app → (is_simple_and_free app ≡ true → FailsBy (fault_of app words) r) →
+pub faulty : {T : Type 0} (app : App) (words : List Text) (r : Result T Error) → app ≡ tsmux_app →
+    (is_simple_and_free app ≡ true → FailsBy (fault_of app words) r) →
     FailsBy (fault_of tsmux_app words) r
 faulty app words r e h = subst (λ (a : App). FailsBy (fault_of a words) r) e (h (subst (λ (a : App). is_simple_and_free a ≡ true) (sym e) simple_and_free))

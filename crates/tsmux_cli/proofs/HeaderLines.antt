@@ -1,11 +1,13 @@
 -- The lines of findings need no body.
-use Rattle.std.proofs.Common.{◌≡◌, ◌∙◌, ℕ, suc, ◌<◌, ◌≤◌, Bool, true, false, List, [], ◌∷◌, ◌++◌, length, map, drop, slice_get, Some, Result, Ok, Err, OnOk, inl, inr, refl, sym, ap, ap₂, arith, append_assoc}
+use Rattle.std.proofs.Common.{◌≡◌, ◌∙◌, ℕ, suc, ◌<◌, ◌≤◌, Bool, true, false, List, [], ◌∷◌, ◌++◌, length, map, drop, slice_get, Some, Result, Ok, Err, OnOk}
+use Rattle.std.proofs.Common.{inl, inr, refl, sym, ap, ap₂, arith, append_assoc}
 use Rattle.std.specs.Prelude.{◌||◌, IfOk, codes, decimal}
 use Rattle.std.proofs.lemmas.List.{append-nil, drop_all, length-replicate}
 use Rattle.std.proofs.lemmas.Grind.{flat_map-append}
 use Rattle.std.proofs.lemmas.List.Folds.{list_any-append}
 use Rattle.std.proofs.lemmas.Option.{slice_get_cases}
-use Rattle.demux.specs.Views.{WhatView, IsDuplicate, BreaksCounter, IsScrambled, IsTruncated, IsSection, IsBadSection, IsPes, IsBadPes, IsBadPacket, IsErrored, FindingView}
+use Rattle.demux.specs.Views.{WhatView, IsDuplicate, BreaksCounter, IsScrambled, IsTruncated, IsSection, IsBadSection, IsPes, IsBadPes, IsBadPacket, IsErrored}
+use Rattle.demux.specs.Views.{FindingView}
 use Rattle.demux.specs.Machine.{PidState}
 use Rattle.demux.specs.Findings.{ended}
 use Rattle.demux.specs.Shown.{with_pid}
@@ -108,7 +110,8 @@ end_more packet i states lines next all faulty here more fault less listed known
   | inr past ↦ absurd (omega (arith, less, past.0))
 ]
 
-pub lines_end : (packet i : ℕ) (states : States) (lines all : List ℕ) (faulty fault : Bool) → length states ≤ i → AtEnd packet i states lines all faulty fault → lines ≡ all
+pub lines_end : (packet i : ℕ) (states : States) (lines all : List ℕ) (faulty fault : Bool) → length states ≤ i → AtEnd packet i states lines all faulty fault →
+    lines ≡ all
 unfolding ended_found
 lines_end packet i states lines all faulty fault past h =
     sym (append-nil lines) ∙ ap (λ (xs : States). lines ++ finding_lines (ended_found packet xs)) (sym (drop_all i states past)) ∙ h.lines_are
@@ -117,13 +120,15 @@ or_none : (b : Bool) → b ≡ (b || false)
 or_none true = refl
 or_none false = refl
 
-pub faults_end : (packet i : ℕ) (states : States) (lines all : List ℕ) (faulty fault : Bool) → length states ≤ i → AtEnd packet i states lines all faulty fault → faulty ≡ fault
+pub faults_end : (packet i : ℕ) (states : States) (lines all : List ℕ) (faulty fault : Bool) → length states ≤ i →
+    AtEnd packet i states lines all faulty fault → faulty ≡ fault
 unfolding ended_found
 faults_end packet i states lines all faulty fault past h =
     or_none faulty ∙ ap (λ (xs : States). faulty || has_fault (ended_found packet xs)) (sym (drop_all i states past)) ∙ h.faults_are
 
 -- before the first PID
-pub at_first : (packet : ℕ) (states : States) (held : List FindingView) (old lines : List ℕ) (faulty : Bool) → lines ≡ old ++ finding_lines held → faulty ≡ has_fault held →
+pub at_first : (packet : ℕ) (states : States) (held : List FindingView) (old lines : List ℕ) (faulty : Bool) → lines ≡ old ++ finding_lines held →
+    faulty ≡ has_fault held →
     AtEnd packet 0 states lines (old ++ finding_lines (held ++ ended_found packet states)) faulty (has_fault (held ++ ended_found packet states))
 at_first packet states held old lines faulty listed known =
     let rest = ended_found packet states in record {

@@ -14,15 +14,18 @@ use Rattle.checked_jobs.proofs.LongerJobs.{fault_stays, plans_stay}
 -- 1. The text
 
 -- no byte has come
-pub none_came : (Taken : List ℕ → Type 0) (switch has : Bool) (text : List ℕ) (state : FrontState) → has ≡ switch → text ≡ [] → state ≡ Open → Taken [] → TakesJob Taken switch [] has text state
+pub none_came : (Taken : List ℕ → Type 0) (switch has : Bool) (text : List ℕ) (state : FrontState) → has ≡ switch → text ≡ [] → state ≡ Open → Taken [] →
+    TakesJob Taken switch [] has text state
 none_came Taken switch has text Open s t e k = record { same = s; stands = (t, k) }
 none_came Taken switch has text (Plans plans) s t e k = absurd cc
 none_came Taken switch has text (Fault fault) s t e k = absurd cc
 
 -- more bytes come to a text
-pub text_longer : (Taken : List ℕ → Type 0) (switch has : Bool) (before bytes text now : List ℕ) (state : FrontState) → state ≡ Open → TakesJob Taken switch before has text state →
+pub text_longer : (Taken : List ℕ → Type 0) (switch has : Bool) (before bytes text now : List ℕ) (state : FrontState) → state ≡ Open →
+    TakesJob Taken switch before has text state →
     now ≡ text ++ bytes → TakesJob Taken switch (before ++ bytes) has now state
-text_longer Taken switch has before bytes text now Open e t n = record { same = t.same; stands = (n ∙ ap (λ (xs : List ℕ). xs ++ bytes) t.stands.0, t.stands.1) }
+text_longer Taken switch has before bytes text now Open e t n =
+    record { same = t.same; stands = (n ∙ ap (λ (xs : List ℕ). xs ++ bytes) t.stands.0, t.stands.1) }
 text_longer Taken switch has before bytes text now (Plans plans) e t n = absurd cc
 text_longer Taken switch has before bytes text now (Fault fault) e t n = absurd cc
 
@@ -39,8 +42,10 @@ fault_at Taken switch has bytes text fault t p =
     subst (λ (xs : List ℕ). Err (fault_view fault) ≡ job_of switch xs) t.stands.0 (subst (λ (b : Bool). Err (fault_view fault) ≡ job_of b text) t.same p)
 
 -- the plans in the text are whole, and what comes after them is taken
-pub plans_read : (Taken Then : List ℕ → Type 0) (switch has : Bool) (bytes text now : List ℕ) (state : FrontState) (plans : JobPlans) (place : ℕ) (r : Result (Unit {0}) Halt) → state ≡ Open →
-    TakesJob Taken switch bytes has text state → IsJobAtFront (job_of has text) text (Ok (plans, place)) → ((before : List ℕ) → Taken before → OnOk r (Then (before ++ drop place text))) →
+pub plans_read : (Taken Then : List ℕ → Type 0) (switch has : Bool) (bytes text now : List ℕ) (state : FrontState) (plans : JobPlans) (place : ℕ)
+    (r : Result (Unit {0}) Halt) → state ≡ Open →
+    TakesJob Taken switch bytes has text state → IsJobAtFront (job_of has text) text (Ok (plans, place)) →
+    ((before : List ℕ) → Taken before → OnOk r (Then (before ++ drop place text))) →
     OnOk r (TakesJob Then switch bytes has now (Plans plans))
 plans_read Taken Then switch has bytes text now Open plans place (Ok x) e t p k =
     let front = at_front Taken switch has bytes text plans place t p in
@@ -57,7 +62,8 @@ plans_read Taken Then switch has bytes text now (Plans first) plans place r e t 
 plans_read Taken Then switch has bytes text now (Fault fault) plans place r e t p k = absurd cc
 
 -- the text has a fault that stays
-pub fault_read : (Taken : List ℕ → Type 0) (switch has : Bool) (bytes text : List ℕ) (state : FrontState) (fault : JobFault) → state ≡ Open → TakesJob Taken switch bytes has text state →
+pub fault_read : (Taken : List ℕ → Type 0) (switch has : Bool) (bytes text : List ℕ) (state : FrontState) (fault : JobFault) → state ≡ Open →
+    TakesJob Taken switch bytes has text state →
     Err (fault_view fault) ≡ job_of has text → is_final (fault_view fault) ≡ true → TakesJob Taken switch bytes has text (Fault fault)
 fault_read Taken switch has bytes text Open fault e t p f = record {
   same = t.same;
@@ -68,8 +74,10 @@ fault_read Taken switch has bytes text (Fault first) fault e t p f = absurd cc
 
 -- 2. Bytes after the plans, and after a fault
 
-pub plans_longer : (Taken Then : List ℕ → Type 0) (switch has : Bool) (bytes piece text : List ℕ) (state : FrontState) (plans : JobPlans) (r : Result (Unit {0}) Halt) → state ≡ Plans plans →
-    TakesJob Taken switch bytes has text state → ((before : List ℕ) → Taken before → OnOk r (Then (before ++ piece))) → OnOk r (TakesJob Then switch (bytes ++ piece) has text state)
+pub plans_longer : (Taken Then : List ℕ → Type 0) (switch has : Bool) (bytes piece text : List ℕ) (state : FrontState) (plans : JobPlans)
+    (r : Result (Unit {0}) Halt) → state ≡ Plans plans →
+    TakesJob Taken switch bytes has text state → ((before : List ℕ) → Taken before → OnOk r (Then (before ++ piece))) →
+    OnOk r (TakesJob Then switch (bytes ++ piece) has text state)
 plans_longer Taken Then switch has bytes piece text (Plans found) plans (Ok x) e t k =
     let after = t.stands.after in
     record {
@@ -77,7 +85,8 @@ plans_longer Taken Then switch has bytes piece text (Plans found) plans (Ok x) e
       stands = record {
         after = after ++ piece;
         plans_are = λ more.
-            ap (λ (xs : List ℕ). Ok (plans_view found xs)) (append_assoc after piece more) ∙ t.stands.plans_are (piece ++ more) ∙ ap (job_of switch) (sym (append_assoc bytes piece more));
+            ap (λ (xs : List ℕ). Ok (plans_view found xs)) (append_assoc after piece more) ∙ t.stands.plans_are (piece ++ more)
+            ∙ ap (job_of switch) (sym (append_assoc bytes piece more));
         taken = k after t.stands.taken;
       };
     }
@@ -96,7 +105,8 @@ fault_longer Taken switch has bytes piece text (Plans plans) fault e t = absurd 
 
 -- 3. The end
 
-pub plans_concluded : (Taken : List ℕ → Type 0) (switch has : Bool) (bytes text : List ℕ) (state : FrontState) (plans : JobPlans) → state ≡ Plans plans → TakesJob Taken switch bytes has text state →
+pub plans_concluded : (Taken : List ℕ → Type 0) (switch has : Bool) (bytes text : List ℕ) (state : FrontState) (plans : JobPlans) → state ≡ Plans plans →
+    TakesJob Taken switch bytes has text state →
     ConcludesPlans Taken (job_of switch bytes) plans
 plans_concluded Taken switch has bytes text (Plans found) plans e t =
     let same : found ≡ plans = cc in
@@ -110,7 +120,8 @@ plans_concluded Taken switch has bytes text (Plans found) plans e t =
 plans_concluded Taken switch has bytes text Open plans e t = absurd cc
 plans_concluded Taken switch has bytes text (Fault fault) plans e t = absurd cc
 
-pub fault_concluded : (Taken : List ℕ → Type 0) (switch has : Bool) (bytes text : List ℕ) (state : FrontState) (fault : JobFault) → state ≡ Fault fault → TakesJob Taken switch bytes has text state →
+pub fault_concluded : (Taken : List ℕ → Type 0) (switch has : Bool) (bytes text : List ℕ) (state : FrontState) (fault : JobFault) → state ≡ Fault fault →
+    TakesJob Taken switch bytes has text state →
     Err (fault_view fault) ≡ job_of switch bytes
 fault_concluded Taken switch has bytes text (Fault found) fault e t =
     let same : fault ≡ found = cc in
@@ -119,8 +130,10 @@ fault_concluded Taken switch has bytes text Open fault e t = absurd cc
 fault_concluded Taken switch has bytes text (Plans plans) fault e t = absurd cc
 
 -- the text is all that came
-pub text_concluded : (Taken Then : List ℕ → Type 0) (switch has : Bool) (bytes text : List ℕ) (state : FrontState) (plans : JobPlans) (place : ℕ) → state ≡ Open →
-    TakesJob Taken switch bytes has text state → IsJobAtFront (job_of has text) text (Ok (plans, place)) → ((before : List ℕ) → Taken before → Then (before ++ drop place text)) →
+pub text_concluded : (Taken Then : List ℕ → Type 0) (switch has : Bool) (bytes text : List ℕ) (state : FrontState) (plans : JobPlans) (place : ℕ) →
+    state ≡ Open →
+    TakesJob Taken switch bytes has text state → IsJobAtFront (job_of has text) text (Ok (plans, place)) →
+    ((before : List ℕ) → Taken before → Then (before ++ drop place text)) →
     ConcludesPlans Then (job_of switch bytes) plans
 text_concluded Taken Then switch has bytes text Open plans place e t p k = record {
   after = drop place bytes;
@@ -130,7 +143,8 @@ text_concluded Taken Then switch has bytes text Open plans place e t p k = recor
 text_concluded Taken Then switch has bytes text (Plans first) plans place e t p k = absurd cc
 text_concluded Taken Then switch has bytes text (Fault fault) plans place e t p k = absurd cc
 
-pub text_faulty : (Taken : List ℕ → Type 0) (switch has : Bool) (bytes text : List ℕ) (state : FrontState) (fault : JobFault) → state ≡ Open → TakesJob Taken switch bytes has text state →
+pub text_faulty : (Taken : List ℕ → Type 0) (switch has : Bool) (bytes text : List ℕ) (state : FrontState) (fault : JobFault) → state ≡ Open →
+    TakesJob Taken switch bytes has text state →
     Err (fault_view fault) ≡ job_of has text → Err (fault_view fault) ≡ job_of switch bytes
 text_faulty Taken switch has bytes text Open fault e t p = fault_at Taken switch has bytes text fault t p
 text_faulty Taken switch has bytes text (Plans plans) fault e t p = absurd cc

@@ -50,5 +50,6 @@ end_listed input bytes demux faulty ended lines more r l m e =
       bytes = bytes;
       read = r;
       faults = rw (l.faults, e) (sym (both_faults l.found found) ∙ sym (faults_alike (findings_of bytes) (l.found ++ found) all));
-      lines_are = m ∙ ap (λ (x : List ℕ). x ++ finding_lines found) l.lines_are ∙ sym (both_lines l.found found) ∙ sym (lines_alike (findings_of bytes) (l.found ++ found) all);
+      lines_are = m ∙ ap (λ (x : List ℕ). x ++ finding_lines found) l.lines_are ∙ sym (both_lines l.found found)
+          ∙ sym (lines_alike (findings_of bytes) (l.found ++ found) all);
     }

@@ -1,5 +1,6 @@
 -- `monitor`: an input that is taken piece by piece, whole packets in each but the last, and the report on all of it.
-use Rattle.std.proofs.Common.{◌≡◌, ℕ, zero, suc, ◌*◌, ◌/◌, ◌%◌, ◌≤◌, List, [], ◌∷◌, ◌++◌, length, take, drop, refl, sym, ap, subst, ◌∙◌, arith, append_assoc, append-nil, Result, Ok, Err}
+use Rattle.std.proofs.Common.{◌≡◌, ℕ, zero, suc, ◌*◌, ◌/◌, ◌%◌, ◌≤◌, List, [], ◌∷◌, ◌++◌, length, take, drop, refl, sym, ap, subst, ◌∙◌, arith, append_assoc}
+use Rattle.std.proofs.Common.{append-nil, Result, Ok, Err}
 use Rattle.std.specs.Prelude.{OnOk, not, ◌==◌}
 use Rattle.std.proofs.lemmas.List.{length-drop, length-take-le, take-append-drop}
 use Rattle.ts_packet.specs.PidList.{cut_packets}
@@ -39,7 +40,8 @@ pub takes_more : {V E : Type 0} (first before after : MonitorState) (bytes piece
 takes_more first before after bytes piece (Ok v) whole b a = λ rate limit packets t.
     let count : length bytes ≡ 188 * (length bytes / 188) = omega (arith, whole) in
     subst (λ (xs : List (List ℕ)). HasTaken rate limit xs after)
-    (append_assoc packets (cut_packets bytes) (cut_packets piece) ∙ ap (λ (xs : List (List ℕ)). packets ++ xs) (sym (cut_both (length bytes / 188) bytes piece count)))
+    (append_assoc packets (cut_packets bytes) (cut_packets piece)
+    ∙ ap (λ (xs : List (List ℕ)). packets ++ xs) (sym (cut_both (length bytes / 188) bytes piece count)))
     (a rate limit (packets ++ cut_packets bytes) (b rate limit packets t))
 takes_more first before after bytes piece (Err e) whole b a = tt
 
@@ -58,4 +60,5 @@ reports_on options input first marks (Ok size) (Ok report) f t c =
     }
 reports_on options input first marks (Ok size) (Err halt) f t c = subst (λ (h : Halt). ReadsInput input (Err h)) (sym c) t.read.1.clean
 reports_on options input first marks (Err halt) (Ok report) f t c = absurd cc
-reports_on options input first marks (Err halt) (Err other) f t c = subst (λ (h : Halt). ReadsInput input (Err h)) (sym (let same : other ≡ halt = cc in same)) t
+reports_on options input first marks (Err halt) (Err other) f t c =
+    subst (λ (h : Halt). ReadsInput input (Err h)) (sym (let same : other ≡ halt = cc in same)) t

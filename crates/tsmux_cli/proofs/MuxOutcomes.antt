@@ -10,7 +10,8 @@ use Rattle.mux_core.specs.declared.multiplexing.MuxError.TheVariants.{TooManySlo
 use Rattle.devices.specs.Devices.{Device, IsUntouched}
 use Rattle.devices.specs.Lines.{Reports}
 use Rattle.tsmux_cli.specs.MuxJobs.{MuxFaultView, MuxJobView, mux_fault_line, mux_job_of}
-use Rattle.tsmux_cli.specs.Multiplexing.{IsKept, KeepsPromises, KeptUnlessRefused, Muxes, cause_of, error_outcome, packets_of, range_cause, run_bytes_of, schedule_of, slots_of, unless_refused, with_job}
+use Rattle.tsmux_cli.specs.Multiplexing.{IsKept, KeepsPromises, KeptUnlessRefused, Muxes, cause_of, error_outcome, packets_of, range_cause, run_bytes_of}
+use Rattle.tsmux_cli.specs.Multiplexing.{schedule_of, slots_of, unless_refused, with_job}
 use Rattle.devices.specs.Outcomes.{printed, reported}
 use Rattle.devices.specs.Runs.{Performs}
 use Rattle.devices.specs.WholeInput.{ReadsInput}
@@ -32,7 +33,8 @@ is_kept o j (Err Memory) headline measured = tt
 abbrev pub IsReadAs : MuxOptions → List ℕ → MuxJobView → Type 0
 IsReadAs o bytes j = Ok j ≡ mux_job_of (is_some o.periods) bytes
 
-leads_to : (o : MuxOptions) (bytes : List ℕ) (j : MuxJobView) (cause : Option MuxError) → IsReadAs o bytes j → cause_of o j ≡ cause → KeptUnlessRefused cause (IsKept o j) →
+leads_to : (o : MuxOptions) (bytes : List ℕ) (j : MuxJobView) (cause : Option MuxError) → IsReadAs o bytes j → cause_of o j ≡ cause →
+    KeptUnlessRefused cause (IsKept o j) →
     Muxes o bytes (unless_refused cause (packets_of o j))
 unfolding with_job
 leads_to o bytes j cause r e kept = record {
@@ -40,16 +42,19 @@ leads_to o bytes j cause r e kept = record {
   kept = subst (KeepsPromises o) r (subst (λ (c : Option MuxError). KeptUnlessRefused c (IsKept o j)) (sym e) kept);
 }
 
-written_whole : (o : MuxOptions) (bytes : List ℕ) (j : MuxJobView) → IsReadAs o bytes j → cause_of o j ≡ None → IsKept o j → Muxes o bytes (printed (packets_of o j) 0)
+written_whole : (o : MuxOptions) (bytes : List ℕ) (j : MuxJobView) → IsReadAs o bytes j → cause_of o j ≡ None → IsKept o j →
+    Muxes o bytes (printed (packets_of o j) 0)
 unfolding unless_refused
 written_whole o bytes j r e kept = leads_to o bytes j None r e kept
 
-refused_by : (o : MuxOptions) (bytes : List ℕ) (j : MuxJobView) (cause : MuxError) → IsReadAs o bytes j → cause_of o j ≡ Some cause → Muxes o bytes (reported (error_outcome cause).report)
+refused_by : (o : MuxOptions) (bytes : List ℕ) (j : MuxJobView) (cause : MuxError) → IsReadAs o bytes j → cause_of o j ≡ Some cause →
+    Muxes o bytes (reported (error_outcome cause).report)
 unfolding unless_refused
 refused_by o bytes j cause r e = leads_to o bytes j (Some cause) r e tt
 
 -- a job that is not read
-pub not_read : (o : MuxOptions) (bytes : List ℕ) (fault : MuxFaultView) → Err fault ≡ mux_job_of (is_some o.periods) bytes → Muxes o bytes (reported (mux_fault_line fault))
+pub not_read : (o : MuxOptions) (bytes : List ℕ) (fault : MuxFaultView) → Err fault ≡ mux_job_of (is_some o.periods) bytes →
+    Muxes o bytes (reported (mux_fault_line fault))
 unfolding with_job
 not_read o bytes fault r = record {
   is = ap (with_job o) r;
@@ -69,21 +74,26 @@ IsAnswer o j output result =
 
 -- all packets are written
 pub ended : (o : MuxOptions) (bytes : List ℕ) (j : MuxJobView) (sent : ℕ) (input output faults : Device) (status : ℕ) →
-    ReadsInput input (Ok bytes) → IsReadAs o bytes j → IsAnswer o j output (Ok sent) → Reports faults [] → status ≡ 0 → Performs (Muxes o) input output faults status
+    ReadsInput input (Ok bytes) → IsReadAs o bytes j → IsAnswer o j output (Ok sent) → Reports faults [] → status ≡ 0 →
+    Performs (Muxes o) input output faults status
 ended o bytes j sent input output faults status i r a t s =
     performed (Muxes o) bytes (printed (packets_of o j) 0) input output faults status i (written_whole o bytes j r a.0 a.1.1.0) a.1.0 a.1.1.1 t s
 
 -- an error is reported
 pub failed : (o : MuxOptions) (bytes : List ℕ) (j : MuxJobView) (error : MuxError) (input output faults : Device) (status : ℕ) →
-    ReadsInput input (Ok bytes) → IsReadAs o bytes j → IsAnswer o j output (Err error) → Reports faults (error_outcome error).report → status ≡ (error_outcome error).status →
+    ReadsInput input (Ok bytes) → IsReadAs o bytes j → IsAnswer o j output (Err error) → Reports faults (error_outcome error).report →
+    status ≡ (error_outcome error).status →
     Performs (Muxes o) input output faults status
 unfolding error_outcome
 failed o bytes j TooManySlots input output faults status i r a t s =
-    reported_only (Muxes o) bytes (error_outcome TooManySlots).report input output faults status i (refused_by o bytes j TooManySlots r a.0) (untouched output a.1.0 a.1.1.1) t s
+    reported_only (Muxes o) bytes (error_outcome TooManySlots).report input output faults status i (refused_by o bytes j TooManySlots r a.0)
+    (untouched output a.1.0 a.1.1.1) t s
 failed o bytes j Periods input output faults status i r a t s =
-    reported_only (Muxes o) bytes (error_outcome Periods).report input output faults status i (refused_by o bytes j Periods r a.0) (untouched output a.1.0 a.1.1.1) t s
+    reported_only (Muxes o) bytes (error_outcome Periods).report input output faults status i (refused_by o bytes j Periods r a.0)
+    (untouched output a.1.0 a.1.1.1) t s
 failed o bytes j (Feed index cause) input output faults status i r a t s =
-    reported_only (Muxes o) bytes (error_outcome (Feed index cause)).report input output faults status i (refused_by o bytes j (Feed index cause) r a.0) (untouched output a.1.0 a.1.1.1) t s
+    reported_only (Muxes o) bytes (error_outcome (Feed index cause)).report input output faults status i (refused_by o bytes j (Feed index cause) r a.0)
+    (untouched output a.1.0 a.1.1.1) t s
 failed o bytes j (AtWriter sent) input output faults status i r a t s =
     unwritten (Muxes o) bytes (printed (packets_of o j) 0) input output faults status i (written_whole o bytes j r a.0 a.1.1.0)
     (record { taken = sent; appends = a.1.0.1 }) a.1.1.1 t s

@@ -19,7 +19,8 @@ use Rattle.devices.proofs.Performances.{no_room, reported_only}
 abbrev pub IsReadAs : List ℕ → Result Described DescError → Type 0
 IsReadAs bytes read = (read ≡ Err Memory) ⊎ (read ≡ described bytes)
 
-led : (bytes lent : List ℕ) (read : Result Described DescError) (outcome : Outcome) → lent ≡ bytes → read ≡ described lent → MakesPlanFor read outcome → MakesPlan bytes outcome
+led : (bytes lent : List ℕ) (read : Result Described DescError) (outcome : Outcome) → lent ≡ bytes → read ≡ described lent → MakesPlanFor read outcome →
+    MakesPlan bytes outcome
 led bytes lent read outcome l e p = subst (λ (r : Result Described DescError). MakesPlanFor r outcome) (e ∙ ap described l) p
 
 pub not_described : (bytes lent : List ℕ) (error : DescError) (input output faults : Device) (status : ℕ) → lent ≡ bytes → IsReadAs lent (Err error) →
@@ -37,7 +38,8 @@ given_plan bytes lent text d l r t = elim r [
   | inr e ↦ led bytes lent (Ok d) (printed text 0) l e (inl (record { text = text; serving = t; is = refl }))
 ]
 
-pub no_plan : (bytes lent : List ℕ) (d : Described) → lent ≡ bytes → IsReadAs lent (Ok d) → serves d (plain_plan d) ≡ false → MakesPlan bytes (reported (line_text (codes "no plan") []))
+pub no_plan : (bytes lent : List ℕ) (d : Described) → lent ≡ bytes → IsReadAs lent (Ok d) → serves d (plain_plan d) ≡ false →
+    MakesPlan bytes (reported (line_text (codes "no plan") []))
 no_plan bytes lent d l r n = elim r [
   | inl e ↦ absurd cc
   | inr e ↦ led bytes lent (Ok d) (reported (line_text (codes "no plan") [])) l e (inr (record { plain = n; is = refl }))

@@ -1,5 +1,6 @@
 -- The records of a job, one by one, and as their bytes come.
-use Rattle.std.proofs.Common.{◌≡◌, ◌+◌, ◌-◌, ℕ, suc, List, [], ◌∷◌, ◌++◌, length, drop, Option, Some, None, Result, Ok, Err, refl, sym, ap, ◌∙◌, subst, arith, append_assoc, append-nil, Bool, true, false, not}
+use Rattle.std.proofs.Common.{◌≡◌, ◌+◌, ◌-◌, ℕ, suc, List, [], ◌∷◌, ◌++◌, length, drop, Option, Some, None, Result, Ok, Err, refl, sym, ap, ◌∙◌, subst, arith}
+use Rattle.std.proofs.Common.{append_assoc, append-nil, Bool, true, false, not}
 use Rattle.std.specs.Prelude.{is_some}
 use Rattle.std.proofs.lemmas.List.{length-append, length-drop}
 use Rattle.pes_packet.specs.AccessUnits.{AccessUnit}
@@ -59,7 +60,8 @@ read_all xs done left r e =
     let rest = units_from r.spare (length done + 1) (after_record left) in
     ap Ok (sym (append-nil done)) ∙ sym (r.is ∙ ap (λ o. joined done (units_step (length done) o rest)) e)
 
-pub read_stopped : (xs : List ℕ) (done : List (ℕ × AccessUnit)) (left : List ℕ) (fault : UnitFileError) → ReadSoFar xs done left → record_at left ≡ Err fault → Err (length done, fault) ≡ units_in xs
+pub read_stopped : (xs : List ℕ) (done : List (ℕ × AccessUnit)) (left : List ℕ) (fault : UnitFileError) → ReadSoFar xs done left → record_at left ≡ Err fault →
+    Err (length done, fault) ≡ units_in xs
 unfolding units_from units_step joined
 read_stopped xs done left fault r e =
     let rest = units_from r.spare (length done + 1) (after_record left) in
@@ -68,7 +70,8 @@ read_stopped xs done left fault r e =
 -- 2. Records whose bytes come one after another
 
 -- no byte has come
-pub none_come : (units : List (ℕ × AccessUnit)) (begun : OpenRecord) (fault : Option RecordFault) → units ≡ [] → IsOpen begun → come_of begun ≡ [] → fault ≡ None →
+pub none_come : (units : List (ℕ × AccessUnit)) (begun : OpenRecord) (fault : Option RecordFault) → units ≡ [] → IsOpen begun → come_of begun ≡ [] →
+    fault ≡ None →
     TakesRecords [] units begun fault
 none_come units begun fault u o e f = λ more.
     rw (u, f) (o, subst (ReadSoFar more []) (ap (λ (xs : List ℕ). xs ++ more) (sym e)) (read_none more))
@@ -79,19 +82,23 @@ no_fault None none e t = refl
 no_fault (Some f) true e t = absurd cc
 no_fault (Some f) false e t = absurd cc
 
-pub fault_stays : (xs left after : List ℕ) (units : List (ℕ × AccessUnit)) (begun : OpenRecord) (fault : Option RecordFault) (none : Bool) → is_some fault ≡ not none → none ≡ false →
+pub fault_stays : (xs left after : List ℕ) (units : List (ℕ × AccessUnit)) (begun : OpenRecord) (fault : Option RecordFault) (none : Bool) →
+    is_some fault ≡ not none → none ≡ false →
     StandsOn xs left units begun fault → StandsOn xs after units begun fault
 fault_stays xs left after units begun None true e t s = absurd cc
 fault_stays xs left after units begun None false e t s = absurd cc
 fault_stays xs left after units begun (Some f) none e t s = s
 
 -- a record ends among these bytes
-pub record_ends : (xs bytes more : List ℕ) (units : List (ℕ × AccessUnit)) (old new : OpenRecord) (n : ℕ) (entry : ℕ × AccessUnit) (fault : Option RecordFault) → fault ≡ None →
-    StandsOn xs (bytes ++ more) units old fault → (IsOpen old → TakesBytes (come_of old) bytes new (Ok (Some (n, entry)))) → StandsOn xs (drop n bytes ++ more) (units ++ entry ∷ []) new fault
+pub record_ends : (xs bytes more : List ℕ) (units : List (ℕ × AccessUnit)) (old new : OpenRecord) (n : ℕ) (entry : ℕ × AccessUnit)
+    (fault : Option RecordFault) → fault ≡ None →
+    StandsOn xs (bytes ++ more) units old fault → (IsOpen old → TakesBytes (come_of old) bytes new (Ok (Some (n, entry)))) →
+    StandsOn xs (drop n bytes ++ more) (units ++ entry ∷ []) new fault
 record_ends xs bytes more units old new n entry (Some f) e s k = absurd cc
 record_ends xs bytes more units old new n entry None e s k =
     let t = k s.0 in
-    let rest : after_record (come_of old ++ (bytes ++ more)) ≡ come_of new ++ (drop n bytes ++ more) = t.1.1.rest_is more ∙ ap (λ (ys : List ℕ). ys ++ (drop n bytes ++ more)) (sym t.1.0) in
+    let rest : after_record (come_of old ++ (bytes ++ more)) ≡ come_of new ++ (drop n bytes ++ more) =
+    t.1.1.rest_is more ∙ ap (λ (ys : List ℕ). ys ++ (drop n bytes ++ more)) (sym t.1.0) in
     (t.0, subst (ReadSoFar xs (units ++ entry ∷ [])) rest (read_more xs units (come_of old ++ (bytes ++ more)) entry s.1 (t.1.1.record_is more)))
 
 -- all of them belong to the open record
@@ -100,20 +107,27 @@ pub record_goes_on : (xs bytes more : List ℕ) (units : List (ℕ × AccessUnit
 record_goes_on xs bytes more units old new (Some f) e s k = absurd cc
 record_goes_on xs bytes more units old new None e s k =
     let t = k s.0 in
-    let left : come_of old ++ (bytes ++ more) ≡ come_of new ++ more = sym (append_assoc (come_of old) bytes more) ∙ ap (λ (ys : List ℕ). ys ++ more) (sym t.1) in
+    let left : come_of old ++ (bytes ++ more) ≡ come_of new ++ more = sym (append_assoc (come_of old) bytes more)
+    ∙ ap (λ (ys : List ℕ). ys ++ more) (sym t.1) in
     (t.0, subst (ReadSoFar xs units) left s.1)
 
-named : (fault : RecordFault) (index : ℕ) (refusal : UnitFileError) {xs : Units} → ◌≡◌ {A = Result RecordFault Halt} (Ok fault) (Ok (record { index = index; fault = refusal })) →
+named : (fault : RecordFault) (index : ℕ) (refusal : UnitFileError) {xs : Units} →
+    ◌≡◌ {A = Result RecordFault Halt} (Ok fault) (Ok (record { index = index; fault = refusal })) →
     Err (index, refusal) ≡ xs → Err (fault.index, fault.fault) ≡ xs
 named fault index refusal n e = (let same : fault ≡ record { index = index; fault = refusal } = cc in ap (λ (f : RecordFault). Err (f.index, f.fault)) same ∙ e)
 
 -- the open record is refused
-pub record_is_none : (xs bytes more : List ℕ) (units : List (ℕ × AccessUnit)) (old new : OpenRecord) (refusal : UnitFileError) (before : Option RecordFault) (fault : RecordFault) → before ≡ None →
-    StandsOn xs (bytes ++ more) units old before → (IsOpen old → TakesBytes (come_of old) bytes new (Err refusal)) → NamesFault (length units) refusal (Ok fault) → Err (fault.index, fault.fault) ≡ units_in xs
+pub record_is_none : (xs bytes more : List ℕ) (units : List (ℕ × AccessUnit)) (old new : OpenRecord) (refusal : UnitFileError) (before : Option RecordFault)
+    (fault : RecordFault) → before ≡ None →
+    StandsOn xs (bytes ++ more) units old before → (IsOpen old → TakesBytes (come_of old) bytes new (Err refusal)) →
+    NamesFault (length units) refusal (Ok fault) → Err (fault.index, fault.fault) ≡ units_in xs
 record_is_none xs bytes more units old new refusal (Some f) fault b s k n = absurd cc
-record_is_none xs bytes more units old new Cut None fault b s k n = named fault (length units) Cut n (read_stopped xs units (come_of old ++ (bytes ++ more)) Cut s.1 (k s.0 more))
-record_is_none xs bytes more units old new Size None fault b s k n = named fault (length units) Size n (read_stopped xs units (come_of old ++ (bytes ++ more)) Size s.1 (k s.0 more))
-record_is_none xs bytes more units old new Device None fault b s k n = named fault (length units) Device n (read_stopped xs units (come_of old ++ (bytes ++ more)) Device s.1 (k s.0 more))
+record_is_none xs bytes more units old new Cut None fault b s k n =
+    named fault (length units) Cut n (read_stopped xs units (come_of old ++ (bytes ++ more)) Cut s.1 (k s.0 more))
+record_is_none xs bytes more units old new Size None fault b s k n =
+    named fault (length units) Size n (read_stopped xs units (come_of old ++ (bytes ++ more)) Size s.1 (k s.0 more))
+record_is_none xs bytes more units old new Device None fault b s k n =
+    named fault (length units) Device n (read_stopped xs units (come_of old ++ (bytes ++ more)) Device s.1 (k s.0 more))
 record_is_none xs bytes more units old new Memory None fault b s k n = absurd cc
 
 -- what came after the ones before, before more
@@ -126,17 +140,20 @@ none_left : record_at [] ≡ Ok None
 unfolding record_at
 none_left = refl
 
-pub all_came : (bytes : List ℕ) (units : List (ℕ × AccessUnit)) (begun : OpenRecord) → TakesRecords bytes units begun None → (IsOpen begun → come_of begun ≡ []) → Ok units ≡ units_in bytes
+pub all_came : (bytes : List ℕ) (units : List (ℕ × AccessUnit)) (begun : OpenRecord) → TakesRecords bytes units begun None →
+    (IsOpen begun → come_of begun ≡ []) → Ok units ≡ units_in bytes
 all_came bytes units begun t e =
     let s = t [] in
     let none : come_of begun ++ [] ≡ [] = append-nil (come_of begun) ∙ e s.0 in
     read_all (bytes ++ []) units [] (subst (ReadSoFar (bytes ++ []) units) none s.1) none_left ∙ ap units_in (append-nil bytes)
 
-pub cut_came : (bytes : List ℕ) (units : List (ℕ × AccessUnit)) (begun : OpenRecord) → TakesRecords bytes units begun None → (IsOpen begun → record_at (come_of begun) ≡ Err Cut) →
+pub cut_came : (bytes : List ℕ) (units : List (ℕ × AccessUnit)) (begun : OpenRecord) → TakesRecords bytes units begun None →
+    (IsOpen begun → record_at (come_of begun) ≡ Err Cut) →
     Err (length units, Cut) ≡ units_in bytes
 cut_came bytes units begun t e =
     let s = t [] in
     read_stopped (bytes ++ []) units (come_of begun ++ []) Cut s.1 (ap record_at (append-nil (come_of begun)) ∙ e s.0) ∙ ap units_in (append-nil bytes)
 
-pub fault_came : (bytes : List ℕ) (units : List (ℕ × AccessUnit)) (begun : OpenRecord) (fault : RecordFault) → TakesRecords bytes units begun (Some fault) → Err (fault.index, fault.fault) ≡ units_in bytes
+pub fault_came : (bytes : List ℕ) (units : List (ℕ × AccessUnit)) (begun : OpenRecord) (fault : RecordFault) → TakesRecords bytes units begun (Some fault) →
+    Err (fault.index, fault.fault) ≡ units_in bytes
 fault_came bytes units begun fault t = t [] ∙ ap units_in (append-nil bytes)

@@ -24,7 +24,8 @@ carry_outcome (Err (NoMemory index)) = halted Memory
 pub record Carries (c : CarryOptions) (input output faults : Device) (status : ℕ) : Type 0 where
   pub answer : Result ℕ CarryError
   pub answers : (xs : List ℕ) → input.before.bytes ≡ Some xs → Answers (run_of c.id xs) answer
-  pub writes : (xs : List ℕ) → input.before.bytes ≡ Some xs → Writes (carried c.hex c.pid c.id) (run_of c.id xs).units output.before.bytes output.after.bytes answer
+  pub writes : (xs : List ℕ) → input.before.bytes ≡ Some xs →
+      Writes (carried c.hex c.pid c.id) (run_of c.id xs).units output.before.bytes output.after.bytes answer
   pub leaves : (xs : List ℕ) → input.before.bytes ≡ Some xs → Leaves xs input.after.bytes answer
   pub device : NamesDevice answer input.before.failed input.after.failed output.before.failed output.after.failed
   pub reports : Reports faults (carry_outcome answer).report

@@ -65,7 +65,8 @@ impl PieceTaker for FindingList {
     }
 }
 
-/// Lists what the end of the stream decides of the bytes of a packet that is not whole, and returns whether it is a fault.
+/// Lists what the end of the stream decides of the bytes of a packet that is not whole, and returns whether it is a
+/// fault.
 #[tactic(auto, using(crate::proofs::HeaderLines::lines_after, crate::proofs::HeaderLines::faults_after))]
 fn list_held(alloc: Global, demux: &HeaderDemux, text: &mut Vec<u8>) -> Result<bool, Halt>
     ensures lines { OnOk result (text.new.items ≡ text.old.items

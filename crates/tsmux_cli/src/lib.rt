@@ -1,10 +1,11 @@
 //! The subcommands of `tsmux`, over any reader and two writers (`run`).
 //!
-//! `options` has the table of options of each subcommand, and the usage; `command_line` and `request` read the command line by them.
-//! Each subcommand has a module: `carrying`; `demultiplexing`, with the lines of `finding_lines`; `planning`; `checking`;
-//! `multiplexing`, for a job with its units (`mux_jobs`) and, without `--slots`, the number of slots in `default_slots`;
-//! `monitoring`. A job is taken as its bytes arrive (`job_taker`), and so are the bytes after its plans (`rest_taker`,
-//! `unit_list`); the crate `checked_jobs` defines a job and its first fault. `program` is `run`.
+//! `options` has the table of options of each subcommand, and the usage; `command_line` and `request` read the command
+//! line by them. Each subcommand has a module: `carrying`; `demultiplexing`, with the lines of `finding_lines`;
+//! `planning`; `checking`; `multiplexing`, for a job with its units (`mux_jobs`) and, without `--slots`, the number of
+//! slots in `default_slots`; `monitoring`. A job is taken as its bytes arrive (`job_taker`), and so are the bytes after
+//! its plans (`rest_taker`, `unit_list`); the crate `checked_jobs` defines a job and its first fault. `program` is
+//! `run`.
 #![tactic(auto)]
 
 mod carrying;

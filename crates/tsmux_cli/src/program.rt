@@ -40,8 +40,8 @@ pub fn report_usage<E: Sink>(faults: &mut E) -> u8
     2
 }
 
-/// Returns the whole program: it reads the input, writes the output, reports faults on the second writer, and returns the
-/// exit status: 0 good, 1 refused or a fault found, 2 a usage error, 3 a device failed or out of memory.
+/// Returns the whole program: it reads the input, writes the output, reports faults on the second writer, and returns
+/// the exit status: 0 good, 1 refused or a fault found, 2 a usage error, 3 a device failed or out of memory.
 pub fn run<R: Source, W: Sink, E: Sink>(
     alloc: Global,
     words: &[&str],
@@ -67,7 +67,8 @@ pub fn run<R: Source, W: Sink, E: Sink>(
     ensures check { (switch : Bool) → asked words.now ≡ Some (Check switch) →
         Performs (Checks switch) (reads R.Source input.old input.new) (writes W.Sink output.old output.new)
         (writes E.Sink faults.old faults.new) result }
-    // `mux`: a job with its units to the packets of its plan, which keep every promise, and measuring them finds nothing.
+    // `mux`: a job with its units to the packets of its plan, which keep every promise, and measuring them finds
+    // nothing.
     ensures mux { (options : MuxOptions) → asked words.now ≡ Some (Mux options) →
         Performs (Muxes options) (reads R.Source input.old input.new) (writes W.Sink output.old output.new)
         (writes E.Sink faults.old faults.new) result }

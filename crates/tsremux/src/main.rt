@@ -1,6 +1,7 @@
 //! `tsremux`: transport streams to one multiplex at a constant rate (ISO/IEC 13818-1, EN 300 468).
 //!
-//! The program is `tsremux_cli::run` over any reader and two writers; `devices::run_program` runs it over the real ones.
+//! The program is `tsremux_cli::run` over any reader and two writers; `devices::run_program` runs it over the real
+//! ones.
 #![tactic(auto)]
 
 use counted_io::Sink;

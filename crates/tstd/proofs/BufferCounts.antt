@@ -1,5 +1,6 @@
 -- Bytes of a main buffer: counted, and dropped.
-use Rattle.std.proofs.Common.{◌≡◌, ℕ, ◌+◌, ◌<◌, ◌≤◌, nat_lt, nat_le, true, false, List, [], ◌∷◌, ◌++◌, length, drop, get_or, filter, refl, arith, add-one, inl, inr}
+use Rattle.std.proofs.Common.{◌≡◌, ℕ, ◌+◌, ◌<◌, ◌≤◌, nat_lt, nat_le, true, false, List, [], ◌∷◌, ◌++◌, length, drop, get_or, filter, refl, arith, add-one, inl}
+use Rattle.std.proofs.Common.{inr}
 use Rattle.std.proofs.lemmas.List.{drop_all}
 use Rattle.std.proofs.Math.Seq.{drop-cons}
 use Rattle.std.proofs.lemmas.Bool.{cases_Bool, leb-true, le-leb, and_parts, and_from}
@@ -8,11 +9,13 @@ use Rattle.tstd.specs.declared.buffered_units.BufferedUnit.{BufferedUnit}
 use Rattle.tstd.specs.BufferedUnits.{is_buffered, buffered_bytes, all_buffered, all_bytes, all_until}
 
 -- one more of those from i on
-pub bytes_next : (units : List BufferedUnit) (i : ℕ) (d : BufferedUnit) → i < length units → all_bytes (drop i units) ≡ (get_or units i d).bytes + all_bytes (drop (i + 1) units)
+pub bytes_next : (units : List BufferedUnit) (i : ℕ) (d : BufferedUnit) → i < length units → all_bytes (drop i units) ≡ (get_or units i d).bytes
+    + all_bytes (drop (i + 1) units)
 unfolding all_bytes
 bytes_next units i d below = rw (drop-cons units i d below, add-one i) refl
 
-pub until_next : (units : List BufferedUnit) (i : ℕ) (d : BufferedUnit) (n : ℕ) → i < length units → n ≤ (get_or units i d).until → all_until n (drop (i + 1) units) ≡ true →
+pub until_next : (units : List BufferedUnit) (i : ℕ) (d : BufferedUnit) (n : ℕ) → i < length units → n ≤ (get_or units i d).until →
+    all_until n (drop (i + 1) units) ≡ true →
     all_until n (drop i units) ≡ true
 unfolding all_until
 until_next units i d n below early rest =
@@ -69,7 +72,8 @@ early_there m next (unit ∷ units) lt early =
     one m unit lt = grind (arith, nat_tests)
 
 -- one more at the end
-pub there_pushed : (x : ℕ) (units : List BufferedUnit) (unit : BufferedUnit) → all_buffered x (units ++ (unit ∷ [])) ≡ all_buffered x units + buffered_bytes x unit
+pub there_pushed : (x : ℕ) (units : List BufferedUnit) (unit : BufferedUnit) → all_buffered x (units ++ (unit ∷ [])) ≡ all_buffered x units
+    + buffered_bytes x unit
 unfolding all_buffered
 there_pushed x [] unit = omega arith
 there_pushed x (s ∷ units) unit = omega (arith, there_pushed x units unit)
@@ -79,7 +83,8 @@ unfolding all_bytes
 bytes_pushed [] unit = omega arith
 bytes_pushed (s ∷ units) unit = omega (arith, bytes_pushed units unit)
 
-pub until_pushed : (next n : ℕ) (units : List BufferedUnit) (unit : BufferedUnit) → n ≤ next → n ≤ unit.until → all_until next units ≡ true → all_until n (units ++ (unit ∷ [])) ≡ true
+pub until_pushed : (next n : ℕ) (units : List BufferedUnit) (unit : BufferedUnit) → n ≤ next → n ≤ unit.until → all_until next units ≡ true →
+    all_until n (units ++ (unit ∷ [])) ≡ true
 unfolding all_until
 until_pushed next n [] unit le last early = and_from (nat_le n unit.until) true (le-leb n unit.until last) refl
 until_pushed next n (s ∷ units) unit le last early =

@@ -1,5 +1,6 @@
 -- The bytes that a PID carries agree with the PES packets of units.
-use Rattle.std.proofs.Common.{◌≡◌, ℕ, zero, suc, ◌+◌, ◌≤◌, ◌<◌, ◌==◌, ◌||◌, not, nat_eq, Bool, true, false, Option, Some, None, List, [], ◌∷◌, ◌++◌, length, drop, get_or, sum_by, refl, sym, arith, add-one, is_some}
+use Rattle.std.proofs.Common.{◌≡◌, ℕ, zero, suc, ◌+◌, ◌≤◌, ◌<◌, ◌==◌, ◌||◌, not, nat_eq, Bool, true, false, Option, Some, None, List, [], ◌∷◌, ◌++◌, length}
+use Rattle.std.proofs.Common.{drop, get_or, sum_by, refl, sym, arith, add-one, is_some}
 use Rattle.std.specs.List.{starts_with, concat, list_all}
 use Rattle.std.proofs.Math.Seq.{drop-cons}
 use Rattle.std.proofs.lemmas.Bool.{and_parts}
@@ -17,20 +18,25 @@ use Rattle.tstd.specs.Carried.{timed_pes_packets}
 wire_again : (a : ℕ) → on_wire (on_wire a) ≡ on_wire a
 wire_again a = omega arith
 
-pub header_wire : (id size : ℕ) (marks : Marks) (pts dts : ℕ) → pes_header_bytes id size marks (on_wire pts) (on_wire dts) ≡ pes_header_bytes id size marks pts dts
+pub header_wire : (id size : ℕ) (marks : Marks) (pts dts : ℕ) →
+    pes_header_bytes id size marks (on_wire pts) (on_wire dts) ≡ pes_header_bytes id size marks pts dts
 unfolding pes_header_bytes
 header_wire id size marks pts dts = rw (wire_again pts, wire_again dts) refl
 
 -- an entry of the stream, or of another
-pub texts_first : (id base0 number i : ℕ) (units : List (ℕ × AccessUnit)) (u : ℕ × AccessUnit) → i < length units → u ≡ get_or units i u → (u.0 == number) ≡ true →
-    concat (pes_packets_of id base0 (units_of number (drop i units))) ≡ pes_packet_bytes id base0 u.1 ++ concat (pes_packets_of id base0 (units_of number (drop (i + 1) units)))
+pub texts_first : (id base0 number i : ℕ) (units : List (ℕ × AccessUnit)) (u : ℕ × AccessUnit) → i < length units → u ≡ get_or units i u →
+    (u.0 == number) ≡ true →
+    concat (pes_packets_of id base0 (units_of number (drop i units))) ≡ pes_packet_bytes id base0 u.1
+    ++ concat (pes_packets_of id base0 (units_of number (drop (i + 1) units)))
 texts_first id base0 number i units u below at own = rw (drop-cons units i u below, add-one i, sym at, own) refl
 
-pub texts_past : (id base0 number i : ℕ) (units : List (ℕ × AccessUnit)) (u : ℕ × AccessUnit) → i < length units → u ≡ get_or units i u → (u.0 == number) ≡ false →
+pub texts_past : (id base0 number i : ℕ) (units : List (ℕ × AccessUnit)) (u : ℕ × AccessUnit) → i < length units → u ≡ get_or units i u →
+    (u.0 == number) ≡ false →
     concat (pes_packets_of id base0 (units_of number (drop i units))) ≡ concat (pes_packets_of id base0 (units_of number (drop (i + 1) units)))
 texts_past id base0 number i units u below at other = rw (drop-cons units i u below, add-one i, sym at, other) refl
 
-pub texts_none : (id base0 number i : ℕ) (units : List (ℕ × AccessUnit)) → length units ≤ i → concat (pes_packets_of id base0 (units_of number (drop i units))) ≡ []
+pub texts_none : (id base0 number i : ℕ) (units : List (ℕ × AccessUnit)) → length units ≤ i →
+    concat (pes_packets_of id base0 (units_of number (drop i units))) ≡ []
 texts_none id base0 number i units over = rw (drop_all i units over) refl
 
 -- what passes for all passes for each
@@ -51,10 +57,12 @@ beginning_few (b ∷ expected) (x ∷ part) e =
     let rest = beginning_few expected part (and_parts (nat_eq x b) (starts_with nat_eq expected part) e).1 in omega (arith, rest)
 
 -- the PES packets of units are as long as timing sees them
-pub sizes_joined : (id base0 : ℕ) (units : List AccessUnit) → length (concat (pes_packets_of id base0 units)) ≡ sum_by (λ t. t.size) (timed_pes_packets id base0 units)
+pub sizes_joined : (id base0 : ℕ) (units : List AccessUnit) →
+    length (concat (pes_packets_of id base0 units)) ≡ sum_by (λ t. t.size) (timed_pes_packets id base0 units)
 sizes_joined id base0 [] = refl
 sizes_joined id base0 (u ∷ units) =
-    rw (sum_by-cons (λ t. t.size) (record { dts = u.dts; size = length (pes_packet_bytes id base0 u); front = field_size u.marks.random_access }) (timed_pes_packets id base0 units))
+    rw (sum_by-cons (λ t. t.size) (record { dts = u.dts; size = length (pes_packet_bytes id base0 u); front = field_size u.marks.random_access })
+    (timed_pes_packets id base0 units))
     (omega (arith, length-append (pes_packet_bytes id base0 u) (concat (pes_packets_of id base0 units)), sizes_joined id base0 units))
 
 -- no text is left: the payloads have to end

@@ -1,5 +1,6 @@
 -- A walk over the packets of a PID.
-use Rattle.std.proofs.Common.{◌≡◌, ◌∙◌, ℕ, suc, ◌+◌, ◌-◌, ◌*◌, ◌<◌, ◌≤◌, max, List, [], ◌∷◌, ◌++◌, length, take, drop, refl, ap, sym, arith, take_at, drop_at, add-one, append_assoc, length-append}
+use Rattle.std.proofs.Common.{◌≡◌, ◌∙◌, ℕ, suc, ◌+◌, ◌-◌, ◌*◌, ◌<◌, ◌≤◌, max, List, [], ◌∷◌, ◌++◌, length, take, drop, refl, ap, sym, arith, take_at, drop_at}
+use Rattle.std.proofs.Common.{add-one, append_assoc, length-append}
 use Rattle.clock27.specs.Arrival.{bytes_from, arrivals}
 use Rattle.clock27.specs.Departure.{departures, last_left}
 use Rattle.clock27.proofs.Departures.{departures-append, length-departures}
@@ -47,13 +48,18 @@ into_packet step last rx index size packets few =
     let after = last_left step last front in
     let all : bytes_from rx (188 * index) 188 ++ rest ≡ front ++ (row ++ rest) =
     ap (λ (ts : List ℕ). ts ++ rest) (packet_row rx index size few) ∙ append_assoc front row rest in
-    let split : departures step last (front ++ (row ++ rest)) ≡ departures step last front ++ (departures step after row ++ departures step (last_left step after row) rest) =
+    let split : departures step last (front ++ (row ++ rest)) ≡ departures step last front
+    ++ (departures step after row ++ departures step (last_left step after row) rest) =
     departures-append step last front (row ++ rest) ∙ ap (λ (ds : List ℕ). departures step last front ++ ds) (departures-append step after row rest) in
     let la : length (departures step last front) ≡ 188 - size = length-departures step last front ∙ length-row rx (188 * index) (188 - size) in
     let lb : length (departures step after row) ≡ size = length-departures step after row ∙ length-row rx (188 * index + (188 - size)) size in
     let e : (188 - size) + size ≡ 188 = omega arith in
-    let payload = rw e at (front_end (departures step last front) (departures step after row) (departures step (last_left step after row) rest) (188 - size) size la lb) in
-    let following = rw e at (after_front (departures step last front) (departures step after row) (departures step (last_left step after row) rest) (188 - size) size la lb) in
+    let payload =
+    rw e at (front_end (departures step last front) (departures step after row) (departures step (last_left step after row) rest) (188 - size) size la lb)
+    in
+    let following =
+    rw e at (after_front (departures step last front) (departures step after row) (departures step (last_left step after row) rest) (188 - size) size la lb)
+    in
     rw (all, split, payload, following) refl
 
 -- and its bytes before the payload have passed the buffer
@@ -93,7 +99,8 @@ packet_ahead q rx byte index size packets few =
     rw (passed-step q front, passed-last q front) (into_packet q.step q.last rx index size packets few)
 
 packet_longest : (q : Queue) (rx byte index size : ℕ) (packets : List Packet) → size ≤ 188 →
-    (let p = all_arrived q (bytes_from rx (188 * index) (188 - size)) in residence_from p.step p.last p.longest_residence rx (188 * index + (188 - size)) size packets)
+    (let p = all_arrived q (bytes_from rx (188 * index) (188 - size)) in
+    residence_from p.step p.last p.longest_residence rx (188 * index + (188 - size)) size packets)
     ≡ residence_from q.step q.last q.longest_residence rx byte 0 (record { slot = index; size = size } ∷ packets)
 unfolding bytes_from
 packet_longest q rx byte index size packets few =

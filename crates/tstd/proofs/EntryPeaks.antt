@@ -1,5 +1,6 @@
 -- Bytes that enter a main buffer one after another.
-use Rattle.std.proofs.Common.{◌≡◌, ◌∙◌, ℕ, suc, ◌+◌, ◌*◌, ◌/◌, ◌%◌, ◌≤◌, ◌<◌, max, min, cond, nat_lt, nat_le, Bool, true, false, List, [], ◌∷◌, length, take, drop, refl, sym, inl, inr, arith, All}
+use Rattle.std.proofs.Common.{◌≡◌, ◌∙◌, ℕ, suc, ◌+◌, ◌*◌, ◌/◌, ◌%◌, ◌≤◌, ◌<◌, max, min, cond, nat_lt, nat_le, Bool, true, false, List, [], ◌∷◌, length, take}
+use Rattle.std.proofs.Common.{drop, refl, sym, inl, inr, arith, All}
 use Rattle.std.proofs.lemmas.Bool.{cases_lt, le-leb, lt-leb, lt-ltb, le-ltb}
 use Rattle.std.proofs.lemmas.List.Elements.{All-take, All-drop}
 use Rattle.std.proofs.lemmas.List.Sums.{sum_by-cons}
@@ -62,7 +63,8 @@ byte_entered rate r due m pes_packets before after d ds climbs counted =
 pub text_entered : (rate r due : ℕ) (pes_packets : List PesPacket) (before : ℕ → ℕ) (left : List ℕ) →
     peak_ahead before rate r (record { dts = due; size = 0; front = 0 } ∷ pes_packets) left ≡ peak_ahead before rate r pes_packets left
 text_entered rate r due pes_packets before left =
-    greatest_ext (λ x. before x + mb_fullness rate r x (record { dts = due; size = 0; front = 0 } ∷ pes_packets) left) (λ x. before x + mb_fullness rate r x pes_packets left) left
+    greatest_ext (λ x. before x + mb_fullness rate r x (record { dts = due; size = 0; front = 0 } ∷ pes_packets) left)
+    (λ x. before x + mb_fullness rate r x pes_packets left) left
     (λ x. unfold mb_fullness in omega arith)
 
 -- a byte that has entered by the last moment that is not after a stamp has entered by the stamp
@@ -99,7 +101,8 @@ ceiling : (x : ℕ) → x / 720000 + min 1 (x % 720000) ≡ (x + 719999) / 72000
 ceiling x = omega arith
 
 pub first_by_parts : (rate rx rbx due : ℕ) →
-    due * rate * rx / 720000 * rbx + (due * rate * rx % 720000 * rbx / 720000 + min 1 (due * rate * rx % 720000 * rbx % 720000)) ≡ removal_time rate (rx * rbx) due
+    due * rate * rx / 720000 * rbx + (due * rate * rx % 720000 * rbx / 720000 + min 1 (due * rate * rx % 720000 * rbx % 720000)) ≡ removal_time rate (rx * rbx)
+    due
 first_by_parts rate rx rbx due =
     let same : due * rate * (rx * rbx) ≡ due * rate * rx * rbx = omega arith in
     rw (same, ceiling (due * rate * rx % 720000 * rbx))
@@ -112,5 +115,6 @@ pub left_whole : (rate drain due size last moment : ℕ) (ahead : List ℕ) (in_
 left_whole rate drain due size last moment ahead in_time whole all by is =
     rw (whole, all, left_test rate drain due last, is, by) refl
 
-pub left_short : (rate drain due size : ℕ) (ahead : List ℕ) → nat_le size (length ahead) ≡ false → has_left rate drain (record { dts = due; size = size; front = 0 }) ahead ≡ false
+pub left_short : (rate drain due size : ℕ) (ahead : List ℕ) → nat_le size (length ahead) ≡ false →
+    has_left rate drain (record { dts = due; size = size; front = 0 }) ahead ≡ false
 left_short rate drain due size ahead short = rw short refl

@@ -20,7 +20,8 @@ passed_none None ts none = none
 passed_none (Some q) ts none = rw none refl
 
 -- a byte passes it
-pub byte_passes : (o : Option Queue) (q q' : Queue) (entered left : ℕ) (ts : List ℕ) → o ≡ Some q → left ≡ max entered q.last + q.step → q' ≡ arrived q entered →
+pub byte_passes : (o : Option Queue) (q q' : Queue) (entered left : ℕ) (ts : List ℕ) → o ≡ Some q → left ≡ max entered q.last + q.step →
+    q' ≡ arrived q entered →
     passed o (entered ∷ ts) ≡ left ∷ passed (Some q') ts
 unfolding passed departures
 byte_passes o q q' entered left ts is leaves state = rw (is, leaves, state) refl

@@ -11,7 +11,8 @@ use Rattle.tstd.proofs.PassedBytes.{passed_climb}
 pub bytes_climb : (w : PayloadBytes) → Climbs (suc (last_of w)) (bytes_ahead w)
 unfolding bytes_ahead
 bytes_climb w =
-    passed_climb w.multiplexing w.transport.queue.last (w.transport.byte * 2 ^ 58) (left_ahead w.transport) w.within (ahead_climbs w.transport w.transport.positive)
+    passed_climb w.multiplexing w.transport.queue.last (w.transport.byte * 2 ^ 58) (left_ahead w.transport) w.within
+    (ahead_climbs w.transport w.transport.positive)
 
 -- the next time that a walk gives is later than the last
 pub next_climbs : (w : PayloadBytes) (time : ℕ) (rest : List ℕ) → bytes_ahead w ≡ time ∷ rest → last_of w ≤ time

@@ -35,31 +35,37 @@ peak_few most ts ds peak = omega (arith, peak.reached, fullness_le peak.moment t
 pub length-arrivals : (r : ℕ) (slots : List ℕ) → length (arrivals r slots) ≡ 188 * length slots
 unfolding arrivals
 length-arrivals r [] = refl
-length-arrivals r (s ∷ slots) = length-append (bytes_from r (188 * s) 188) (arrivals r slots) ∙ omega (arith, length-row r (188 * s) 188, length-arrivals r slots)
+length-arrivals r (s ∷ slots) = length-append (bytes_from r (188 * s) 188) (arrivals r slots)
+    ∙ omega (arith, length-row r (188 * s) 188, length-arrivals r slots)
 
 -- of the packets of a program's tables
 pub tables_peak : (rate : ℕ) (slots : List ℕ) (q p : Queue) (n m : ℕ) → 0 < rate → Climbs 0 slots → q.step ≡ 2 * rate → p.step ≡ 25 * rate →
     q ≡ all_arrived (record { step = 2 * rate; last = 0; longest_residence = 0 }) (arrivals 2000000 slots) →
     p ≡ all_arrived (record { step = 25 * rate; last = 0; longest_residence = 0 }) (departures (2 * rate) 0 (arrivals 2000000 slots)) →
-    n ≡ bytes_within q.step q.longest_residence → m ≡ bytes_within p.step p.longest_residence → IsSystemFullness rate slots (record { transport = n; system = m })
+    n ≡ bytes_within q.step q.longest_residence → m ≡ bytes_within p.step p.longest_residence →
+    IsSystemFullness rate slots (record { transport = n; system = m })
 tables_peak rate slots q p n m some climbs step step' passed passed' is is' =
     let pos : 0 < 2 * rate = omega (arith, some) in
     let pos' : 0 < 25 * rate = omega (arith, some) in
     let arrive : Climbs 0 (arrivals 2000000 slots) = arrivals_climb 2000000 slots (omega arith) climbs in
     let low : 0 ≤ 1 = omega arith in
-    let leave : Climbs 0 (departures (2 * rate) 0 (arrivals 2000000 slots)) = climbs_low 0 1 _ low (departures_climb (2 * rate) 0 (arrivals 2000000 slots) pos) in
+    let leave : Climbs 0 (departures (2 * rate) 0 (arrivals 2000000 slots)) =
+    climbs_low 0 1 _ low (departures_climb (2 * rate) 0 (arrivals 2000000 slots) pos) in
     record {
-      transport = rw (is, step) (residence_peak (2 * rate) q.longest_residence (arrivals 2000000 slots) pos arrive (longest_arrived (2 * rate) q (arrivals 2000000 slots) passed));
+      transport = rw (is, step)
+          (residence_peak (2 * rate) q.longest_residence (arrivals 2000000 slots) pos arrive (longest_arrived (2 * rate) q (arrivals 2000000 slots) passed));
       system = rw (is', step') (residence_peak (25 * rate) p.longest_residence (departures (2 * rate) 0 (arrivals 2000000 slots)) pos' leave
           (longest_arrived (25 * rate) p (departures (2 * rate) 0 (arrivals 2000000 slots)) passed'));
     }
 
 -- so there are no more bytes than came
-pub tables_bytes : (rate : ℕ) (slots : List ℕ) (f : SystemFullness) → IsSystemFullness rate slots f → (f.transport ≤ 188 * length slots) × (f.system ≤ 188 * length slots)
+pub tables_bytes : (rate : ℕ) (slots : List ℕ) (f : SystemFullness) → IsSystemFullness rate slots f →
+    (f.transport ≤ 188 * length slots) × (f.system ≤ 188 * length slots)
 tables_bytes rate slots f is =
     let all = length-arrivals 2000000 slots in
     let first = peak_few f.transport (arrivals 2000000 slots) (departures (2 * rate) 0 (arrivals 2000000 slots)) is.transport in
-    let second = peak_few f.system (departures (2 * rate) 0 (arrivals 2000000 slots)) (departures (25 * rate) 0 (departures (2 * rate) 0 (arrivals 2000000 slots))) is.system in
+    let second = peak_few f.system (departures (2 * rate) 0 (arrivals 2000000 slots))
+    (departures (25 * rate) 0 (departures (2 * rate) 0 (arrivals 2000000 slots))) is.system in
     (omega (arith, all, first), omega (arith, all, second, length-departures (2 * rate) 0 (arrivals 2000000 slots)))
 
 -- of the payload bytes of a PID that pass a multiplexing buffer

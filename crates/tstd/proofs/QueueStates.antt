@@ -15,7 +15,8 @@ passed-last q (t ∷ ts) = passed-last (arrived q t) ts
 
 -- the longest residence of these bytes and of those after them
 pub passed-longest : (q : Queue) (ts us : List ℕ) →
-    max (all_arrived q ts).longest_residence (greatest_residence q.step (last_left q.step q.last ts) us) ≡ max q.longest_residence (greatest_residence q.step q.last (ts ++ us))
+    max (all_arrived q ts).longest_residence (greatest_residence q.step (last_left q.step q.last ts) us) ≡ max q.longest_residence
+    (greatest_residence q.step q.last (ts ++ us))
 unfolding last_left greatest_residence
 passed-longest q [] us = refl
 passed-longest q (t ∷ ts) us = passed-longest (arrived q t) ts us ∙ omega arith

@@ -38,7 +38,8 @@ most_residence step prev (t ∷ ts) pos =
     ∙ omega (arith, within_one step prev t pos, most_residence step (max t prev + step) ts pos)
 
 -- of bytes that have passed an empty buffer
-pub longest_arrived : (step : ℕ) (q : Queue) (ts : List ℕ) → q ≡ all_arrived (record { step = step; last = 0; longest_residence = 0 }) ts → q.longest_residence ≡ greatest_residence step 0 ts
+pub longest_arrived : (step : ℕ) (q : Queue) (ts : List ℕ) → q ≡ all_arrived (record { step = step; last = 0; longest_residence = 0 }) ts →
+    q.longest_residence ≡ greatest_residence step 0 ts
 unfolding greatest_residence
 longest_arrived step q ts is =
     let start : Queue = record { step = step; last = 0; longest_residence = 0 } in

@@ -43,7 +43,8 @@ left_climb : (step last rx byte left : ℕ) (packets : List Packet) → 0 < step
 left_climb step last rx byte left packets pos =
     let row = bytes_from rx byte left in
     let rest = arrivals rx (slots_of packets) in
-    climbs_put (suc last) (departures step last row) (departures step (last_left step last row) rest) (of_payloads packets (departures step (last_left step last row) rest))
+    climbs_put (suc last) (departures step last row) (departures step (last_left step last row) rest)
+    (of_payloads packets (departures step (last_left step last row) rest))
     (rw (sym (departures-append step last row rest)) (departures_climb step last (row ++ rest) pos))
     (payloads_climb packets (departures step (last_left step last row) rest))
 

@@ -1,5 +1,6 @@
 -- The packets of a stream: by the definition over bytes, and packet by packet.
-use Rattle.std.proofs.Common.{◌≡◌, ◌∙◌, ℕ, suc, ◌+◌, ◌-◌, ◌≤◌, max, ◌||◌, Option, Some, None, Result, Ok, Err, List, [], ◌∷◌, ◌++◌, length, take, drop, map, filter, sum_by, refl, ap, sym, arith, add-one, inl, inr}
+use Rattle.std.proofs.Common.{◌≡◌, ◌∙◌, ℕ, suc, ◌+◌, ◌-◌, ◌≤◌, max, ◌||◌, Option, Some, None, Result, Ok, Err, List, [], ◌∷◌, ◌++◌, length, take, drop, map}
+use Rattle.std.proofs.Common.{filter, sum_by, refl, ap, sym, arith, add-one, inl, inr}
 use Rattle.std.specs.List.{enumerate_from, filter_map, concat}
 use Rattle.std.proofs.lemmas.Bool.{cases_Bool}
 use Rattle.std.proofs.lemmas.List.{length-append, length-drop, length-take}
@@ -76,10 +77,13 @@ pub none_given : (o : Option ℕ) (rest ahead : List ℕ) → ahead ≡ [] → a
 none_given None rest ahead none is = refl
 none_given (Some time) rest ahead none is = cc
 
-plain_most : (before : ℕ → ℕ) (peak first rate rx rate' rx' : ℕ) (pes_packets : List PesPacket) (left left' : List ℕ) → ((x : ℕ) → before x ≡ 0) → first ≡ 0 → rate' ≡ rate → rx' ≡ rx → left' ≡ left →
-    max peak 0 ≡ max first (greatest_at (λ x. before x + mb_fullness rate' rx' x pes_packets left') left') → peak ≡ greatest_at (λ x. mb_fullness rate rx x pes_packets left) left
+plain_most : (before : ℕ → ℕ) (peak first rate rx rate' rx' : ℕ) (pes_packets : List PesPacket) (left left' : List ℕ) → ((x : ℕ) → before x ≡ 0) → first ≡ 0 →
+    rate' ≡ rate → rx' ≡ rx → left' ≡ left →
+    max peak 0 ≡ max first (greatest_at (λ x. before x + mb_fullness rate' rx' x pes_packets left') left') →
+    peak ≡ greatest_at (λ x. mb_fullness rate rx x pes_packets left) left
 plain_most before peak first rate rx rate' rx' pes_packets left left' none start same_rate same_rx same is =
-    let all = greatest_ext (λ x. before x + mb_fullness rate rx x pes_packets left) (λ x. mb_fullness rate rx x pes_packets left) left (λ x. omega (arith, none x)) in
+    let all = greatest_ext (λ x. before x + mb_fullness rate rx x pes_packets left) (λ x. mb_fullness rate rx x pes_packets left) left
+    (λ x. omega (arith, none x)) in
     omega (arith, rw (start, same_rate, same_rx, same) at is, all)
 
 -- what a walk from an empty buffer to its end has found
@@ -88,7 +92,8 @@ pub most_found_all : {A : Type 0} (walk walk' : PayloadBytes) (buffer buffer' : 
     peak_of walk' buffer' [] ≡ peak_of walk buffer pes_packets → buffer'.peak ≡ greatest_at (λ x. mb_fullness rate rx x pes_packets left) left
 unfolding greatest_at
 most_found_all walk walk' buffer buffer' rate rx pes_packets left none start same_rate same_rx same ended is =
-    plain_most (fullness_at buffer) buffer'.peak buffer.peak rate rx walk.rate (drain_of walk) pes_packets left (bytes_ahead walk) none start same_rate same_rx same
+    plain_most (fullness_at buffer) buffer'.peak buffer.peak rate rx walk.rate (drain_of walk) pes_packets left (bytes_ahead walk) none start same_rate same_rx
+    same
     (let e : peak_of walk' buffer' [] ≡ max buffer'.peak 0 = rw ended refl in sym e ∙ is)
 
 -- ---- over the bytes
@@ -117,8 +122,10 @@ packets_same pid index [] = refl
 packets_same pid index (chunk ∷ chunks) = packets_next pid index chunk chunks (packet_at chunk) refl (packets_same pid (index + 1) chunks)
 
 payloads_next : (pid index : ℕ) (chunk : List ℕ) (chunks : List (List ℕ)) (read : Result PacketView PacketError) → packet_at chunk ≡ read →
-    concat (map (λ entry. payload_of entry.packet) (filter (λ entry. is_of_pid pid entry.packet) (entries_from (index + 1) chunks))) ≡ payloads_from pid chunks →
-    concat (map (λ entry. payload_of entry.packet) (filter (λ entry. is_of_pid pid entry.packet) (entries_from index (chunk ∷ chunks)))) ≡ payloads_from pid (chunk ∷ chunks)
+    concat (map (λ entry. payload_of entry.packet) (filter (λ entry. is_of_pid pid entry.packet) (entries_from (index + 1) chunks))) ≡ payloads_from pid chunks
+    →
+    concat (map (λ entry. payload_of entry.packet) (filter (λ entry. is_of_pid pid entry.packet) (entries_from index (chunk ∷ chunks)))) ≡ payloads_from pid
+    (chunk ∷ chunks)
 unfolding entries_from entry_of payloads_from payload_in
 payloads_next pid index chunk chunks (Err error) is rest = rw is rest
 payloads_next pid index chunk chunks (Ok packet) is rest = elim (cases_Bool (is_of_pid pid packet)) [
@@ -134,8 +141,10 @@ payloads_same pid index [] = refl
 payloads_same pid index (chunk ∷ chunks) = payloads_next pid index chunk chunks (packet_at chunk) refl (payloads_same pid (index + 1) chunks)
 
 tables_next : (pmt_pid index : ℕ) (chunk : List ℕ) (chunks : List (List ℕ)) (read : Result PacketView PacketError) → packet_at chunk ≡ read →
-    map (λ entry. entry.index) (filter (λ entry. is_of_pid 0 entry.packet || is_of_pid pmt_pid entry.packet) (entries_from (index + 1) chunks)) ≡ tables_from pmt_pid (index + 1) chunks →
-    map (λ entry. entry.index) (filter (λ entry. is_of_pid 0 entry.packet || is_of_pid pmt_pid entry.packet) (entries_from index (chunk ∷ chunks))) ≡ tables_from pmt_pid index (chunk ∷ chunks)
+    map (λ entry. entry.index) (filter (λ entry. is_of_pid 0 entry.packet || is_of_pid pmt_pid entry.packet) (entries_from (index + 1) chunks)) ≡ tables_from
+    pmt_pid (index + 1) chunks →
+    map (λ entry. entry.index) (filter (λ entry. is_of_pid 0 entry.packet || is_of_pid pmt_pid entry.packet) (entries_from index (chunk ∷ chunks))) ≡
+    tables_from pmt_pid index (chunk ∷ chunks)
 unfolding entries_from entry_of tables_from is_of_tables
 tables_next pmt_pid index chunk chunks (Err error) is rest = rw is rest
 tables_next pmt_pid index chunk chunks (Ok packet) is rest = elim (cases_Bool (is_of_pid 0 packet || is_of_pid pmt_pid packet)) [

@@ -1,5 +1,6 @@
 -- Streams and programs, one after another.
-use Rattle.std.proofs.Common.{◌≡◌, ◌∙◌, ℕ, zero, suc, ◌+◌, ◌/◌, ◌≤◌, ◌<◌, ◌⊎◌, ◌==◌, ◌&&◌, nat_eq, nat_le, true, Option, Some, None, List, [], ◌∷◌, ◌++◌, length, drop, get_or, sum_by, refl, ap, subst, sym, arith, add-one, inl, inr, slice_get}
+use Rattle.std.proofs.Common.{◌≡◌, ◌∙◌, ℕ, zero, suc, ◌+◌, ◌/◌, ◌≤◌, ◌<◌, ◌⊎◌, ◌==◌, ◌&&◌, nat_eq, nat_le, true, Option, Some, None, List, [], ◌∷◌, ◌++◌}
+use Rattle.std.proofs.Common.{length, drop, get_or, sum_by, refl, ap, subst, sym, arith, add-one, inl, inr, slice_get}
 use Rattle.std.specs.List.{concat, list_all, starts_with}
 use Rattle.std.specs.Option.{option_or}
 use Rattle.std.proofs.Math.Seq.{drop-cons}
@@ -25,7 +26,8 @@ use Rattle.tstd.proofs.CarriedBytes.{beginning_few, sizes_joined}
 use Rattle.tstd.proofs.StreamPackets.{packets_same, payloads_same, tables_same, sizes_same}
 
 -- an entry of a list with one more at its end
-pub pushed : {X : Type 0} (xs : List X) (v : X) (n : ℕ) (f : X) → slice_get (xs ++ (v ∷ [])) n ≡ Some f → (slice_get xs n ≡ Some f) ⊎ ((n ≡ length xs) × (v ≡ f))
+pub pushed : {X : Type 0} (xs : List X) (v : X) (n : ℕ) (f : X) → slice_get (xs ++ (v ∷ [])) n ≡ Some f →
+    (slice_get xs n ≡ Some f) ⊎ ((n ≡ length xs) × (v ≡ f))
 pushed [] v zero f e = inr (refl, cc)
 pushed [] v (suc n) f e = absurd (let no : ⊥ = cc in no)
 pushed (x ∷ xs) v zero f e = inl e
@@ -43,21 +45,26 @@ gets (x ∷ xs) zero d below = refl
 gets (x ∷ xs) (suc n) d below = gets xs n d (omega (arith, below))
 
 -- one program more
-pub systems_next : (rate : ℕ) (bytes : List ℕ) (chunks : List (List ℕ)) (all : List DescribedProgram) (found : List SystemFullness) (v : SystemFullness) (u : DescribedProgram) (pmt_pid i : ℕ) →
+pub systems_next : (rate : ℕ) (bytes : List ℕ) (chunks : List (List ℕ)) (all : List DescribedProgram) (found : List SystemFullness) (v : SystemFullness)
+    (u : DescribedProgram) (pmt_pid i : ℕ) →
     chunks ≡ cut_packets bytes → length found ≡ i → u ≡ get_or all i u → pmt_pid ≡ u.pmt_pid → IsSystemFullness rate (tables_from pmt_pid 0 chunks) v →
-    ((number : ℕ) (p : DescribedProgram) (f : SystemFullness) → slice_get all number ≡ Some p → slice_get found number ≡ Some f → IsSystemFullness rate (table_packets p.pmt_pid bytes) f) →
-    (number : ℕ) (p : DescribedProgram) (f : SystemFullness) → slice_get all number ≡ Some p → slice_get (found ++ (v ∷ [])) number ≡ Some f → IsSystemFullness rate (table_packets p.pmt_pid bytes) f
+    ((number : ℕ) (p : DescribedProgram) (f : SystemFullness) → slice_get all number ≡ Some p → slice_get found number ≡ Some f →
+    IsSystemFullness rate (table_packets p.pmt_pid bytes) f) →
+    (number : ℕ) (p : DescribedProgram) (f : SystemFullness) → slice_get all number ≡ Some p → slice_get (found ++ (v ∷ [])) number ≡ Some f →
+    IsSystemFullness rate (table_packets p.pmt_pid bytes) f
 systems_next rate bytes chunks all found v u pmt_pid i cut count at pid is before number p f there full = elim (pushed found v number f full) [
   | inl earlier ↦ before number p f there earlier
   | inr last ↦
       let here : u ≡ p = at ∙ got all i p u (rw (last.0 ∙ count) at there) in
       let same : tables_from pmt_pid 0 chunks ≡ table_packets p.pmt_pid bytes =
       rw (cut, pid ∙ ap (λ (q : DescribedProgram). q.pmt_pid) here) (sym (tables_same p.pmt_pid 0 (cut_packets bytes))) in
-      subst (λ (w : SystemFullness). IsSystemFullness rate (table_packets p.pmt_pid bytes) w) last.1 (subst (λ (slots : List ℕ). IsSystemFullness rate slots v) same is)
+      subst (λ (w : SystemFullness). IsSystemFullness rate (table_packets p.pmt_pid bytes) w) last.1
+      (subst (λ (slots : List ℕ). IsSystemFullness rate slots v) same is)
 ]
 
 -- one stream more
-pub streams_next : (rate base0 : ℕ) (units : List (ℕ × AccessUnit)) (bytes : List ℕ) (chunks : List (List ℕ)) (all : List DescribedStream) (found : List StreamFullness) (v : StreamFullness) (u : DescribedStream) (i : ℕ) →
+pub streams_next : (rate base0 : ℕ) (units : List (ℕ × AccessUnit)) (bytes : List ℕ) (chunks : List (List ℕ)) (all : List DescribedStream)
+    (found : List StreamFullness) (v : StreamFullness) (u : DescribedStream) (i : ℕ) →
     chunks ≡ cut_packets bytes → length found ≡ i → u ≡ get_or all i u → IsStreamFullness rate base0 u (units_of i units) (packets_from u.pid 0 chunks) v →
     ((number : ℕ) (s : DescribedStream) (f : StreamFullness) → slice_get all number ≡ Some s → slice_get found number ≡ Some f →
     IsStreamFullness rate base0 s (units_of number units) (packets_on s.pid bytes) f) →
@@ -79,38 +86,46 @@ streams_next rate base0 units bytes chunks all found v u i cut count at is befor
 ]
 
 -- the first of the streams from i on
-pub carried_next : (d : Described) (units : List (ℕ × AccessUnit)) (bytes : List ℕ) (all : List DescribedStream) (u : DescribedStream) (i : ℕ) → i < length all → u ≡ get_or all i u →
-    all_carried d units bytes i (drop i all) ≡ (carries u.pid u.stream_id d.base0 (units_of i units) bytes && all_carried d units bytes (i + 1) (drop (i + 1) all))
+pub carried_next : (d : Described) (units : List (ℕ × AccessUnit)) (bytes : List ℕ) (all : List DescribedStream) (u : DescribedStream) (i : ℕ) →
+    i < length all → u ≡ get_or all i u →
+    all_carried d units bytes i (drop i all) ≡
+    (carries u.pid u.stream_id d.base0 (units_of i units) bytes && all_carried d units bytes (i + 1) (drop (i + 1) all))
 unfolding all_carried
 carried_next d units bytes all u i below at =
     let s : drop (i + 1) all ≡ drop (suc i) all = ap (λ (n : ℕ). drop n all) (add-one i) in
     rw (drop-cons all i u below, sym at, s) refl
 
-pub carried_end : (d : Described) (units : List (ℕ × AccessUnit)) (bytes : List ℕ) (all : List DescribedStream) (i : ℕ) → length all ≤ i → all_carried d units bytes i (drop i all) ≡ true
+pub carried_end : (d : Described) (units : List (ℕ × AccessUnit)) (bytes : List ℕ) (all : List DescribedStream) (i : ℕ) → length all ≤ i →
+    all_carried d units bytes i (drop i all) ≡ true
 unfolding all_carried
 carried_end d units bytes all i over = rw (drop_all i all over) refl
 
-pub late_step : (d : Described) (units : List (ℕ × AccessUnit)) (bytes : List ℕ) (all : List DescribedStream) (u : DescribedStream) (i : ℕ) (late : Option LateUnit) (first : Option ℕ) →
+pub late_step : (d : Described) (units : List (ℕ × AccessUnit)) (bytes : List ℕ) (all : List DescribedStream) (u : DescribedStream) (i : ℕ)
+    (late : Option LateUnit) (first : Option ℕ) →
     i < length all → u ≡ get_or all i u → first ≡ late_in d.rate d.base0 (length bytes / 188) u (units_of i units) (packets_on u.pid bytes) u.multiplexing →
-    option_or (option_or late (late_or i first None)) (late_from d units bytes (i + 1) (drop (i + 1) all)) ≡ option_or late (late_from d units bytes i (drop i all))
+    option_or (option_or late (late_or i first None)) (late_from d units bytes (i + 1) (drop (i + 1) all)) ≡ option_or late
+    (late_from d units bytes i (drop i all))
 unfolding late_from
 late_step d units bytes all u i late first below at is =
     let s : drop (i + 1) all ≡ drop (suc i) all = ap (λ (n : ℕ). drop n all) (add-one i) in
     rw (drop-cons all i u below, sym at, s, sym is) (joined late first (late_from d units bytes (i + 1) (drop (suc i) all)))
   where
-    joined : (late : Option LateUnit) (first : Option ℕ) (rest : Option LateUnit) → option_or (option_or late (late_or i first None)) rest ≡ option_or late (late_or i first rest)
+    joined : (late : Option LateUnit) (first : Option ℕ) (rest : Option LateUnit) →
+        option_or (option_or late (late_or i first None)) rest ≡ option_or late (late_or i first rest)
     joined None None rest = refl
     joined None (Some n) rest = refl
     joined (Some l) first rest = refl
 
-pub late_done : (d : Described) (units : List (ℕ × AccessUnit)) (bytes : List ℕ) (all : List DescribedStream) (i : ℕ) (late : Option LateUnit) → length all ≤ i →
+pub late_done : (d : Described) (units : List (ℕ × AccessUnit)) (bytes : List ℕ) (all : List DescribedStream) (i : ℕ) (late : Option LateUnit) →
+    length all ≤ i →
     option_or late (late_from d units bytes i (drop i all)) ≡ late
 unfolding late_from
 late_done d units bytes all i None over = rw (drop_all i all over) refl
 late_done d units bytes all i (Some l) over = refl
 
 -- payloads that are a beginning are no longer
-pub enough : (pid id base0 : ℕ) (units : List AccessUnit) (bytes : List ℕ) (chunks : List (List ℕ)) → chunks ≡ cut_packets bytes → carries pid id base0 units bytes ≡ true →
+pub enough : (pid id base0 : ℕ) (units : List AccessUnit) (bytes : List ℕ) (chunks : List (List ℕ)) → chunks ≡ cut_packets bytes →
+    carries pid id base0 units bytes ≡ true →
     sum_by (λ p. p.size) (packets_from pid 0 chunks) ≤ sum_by (λ t. t.size) (timed_pes_packets id base0 units)
 enough pid id base0 units bytes chunks cut is =
     let part : payloads_on pid bytes ≡ payloads_from pid chunks = payloads_same pid 0 (cut_packets bytes) ∙ ap (payloads_from pid) (sym cut) in
@@ -124,14 +139,16 @@ carries_same pid id base0 units bytes chunks cut =
     ap (starts_with nat_eq (concat (pes_packets_of id base0 units))) (ap (payloads_from pid) cut ∙ sym (payloads_same pid 0 (cut_packets bytes)))
 
 -- a unit within the declaration of its stream can be a PES packet of it
-fits_stream : (id size largest : ℕ) → IsStreamId id → (id < 224 → largest ≤ 65522) → largest ≤ 4000000 → (nat_le 1 size && nat_le size largest) ≡ true → fits_packet id size ≡ true
+fits_stream : (id size largest : ℕ) → IsStreamId id → (id < 224 → largest ≤ 65522) → largest ≤ 4000000 → (nat_le 1 size && nat_le size largest) ≡ true →
+    fits_packet id size ≡ true
 fits_stream id size largest (inl e) short long within =
     let parts = and_parts (nat_le 1 size) (nat_le size largest) within in
     let few : size ≤ 65522 = omega (arith, leb-true size largest parts.1, short (omega (arith, e))) in
     rw (e, parts.0, le-leb size 65522 few) refl
 fits_stream id size largest (inr range) short long within =
     let parts = and_parts (nat_le 1 size) (nat_le size largest) within in
-    let unit : is_unit_id id ≡ true = rw (le-leb 192 id range.0, le-leb id 239 range.1) (elim (cases_Bool (id == 189)) [ inl y ↦ rw y refl | inr n ↦ rw n refl ]) in
+    let unit : is_unit_id id ≡ true =
+    rw (le-leb 192 id range.0, le-leb id 239 range.1) (elim (cases_Bool (id == 189)) [ inl y ↦ rw y refl | inr n ↦ rw n refl ]) in
     elim (cases_lt id 224) [
       | inl audio ↦
           let few : size ≤ 65522 = omega (arith, leb-true size largest parts.1, short audio) in
@@ -154,13 +171,17 @@ declared_fit d number s (u ∷ units) there stream all =
       | inr other ↦ rw other refl
     ]) (declared_fit d number s units there stream parts.1)
 
-pub late_same : (rate rate' base0 base0' n : ℕ) (s : DescribedStream) (units : List AccessUnit) (bytes : List ℕ) (chunks : List (List ℕ)) → rate' ≡ rate → base0' ≡ base0 →
+pub late_same : (rate rate' base0 base0' n : ℕ) (s : DescribedStream) (units : List AccessUnit) (bytes : List ℕ) (chunks : List (List ℕ)) → rate' ≡ rate →
+    base0' ≡ base0 →
     n ≡ length bytes / 188 → chunks ≡ cut_packets bytes →
-    late_in rate' base0' n s units (packets_from s.pid 0 chunks) s.multiplexing ≡ late_in rate base0 (length bytes / 188) s units (packets_on s.pid bytes) s.multiplexing
+    late_in rate' base0' n s units (packets_from s.pid 0 chunks) s.multiplexing ≡ late_in rate base0 (length bytes / 188) s units (packets_on s.pid bytes)
+    s.multiplexing
 late_same rate rate' base0 base0' n s units bytes chunks same_rate same_base count cut =
-    rw (same_rate, same_base, count, cut) (ap (λ (ps : List Packet). late_in rate base0 (length bytes / 188) s units ps s.multiplexing) (sym (packets_same s.pid 0 (cut_packets bytes))))
+    rw (same_rate, same_base, count, cut)
+    (ap (λ (ps : List Packet). late_in rate base0 (length bytes / 188) s units ps s.multiplexing) (sym (packets_same s.pid 0 (cut_packets bytes))))
 
-pub full_same : (rate rate' base0 base0' : ℕ) (s : DescribedStream) (units : List AccessUnit) (packets : List Packet) (f : StreamFullness) → rate' ≡ rate → base0' ≡ base0 →
+pub full_same : (rate rate' base0 base0' : ℕ) (s : DescribedStream) (units : List AccessUnit) (packets : List Packet) (f : StreamFullness) → rate' ≡ rate →
+    base0' ≡ base0 →
     IsStreamFullness rate' base0' s units packets f → IsStreamFullness rate base0 s units packets f
 full_same rate rate' base0 base0' s units packets f same_rate same_base is =
     subst (λ (n : ℕ). IsStreamFullness rate n s units packets f) same_base (subst (λ (n : ℕ). IsStreamFullness n base0' s units packets f) same_rate is)

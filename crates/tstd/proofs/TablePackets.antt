@@ -1,5 +1,6 @@
 -- The packets of a program's tables pass two buffers.
-use Rattle.std.proofs.Common.{◌≡◌, ℕ, suc, ◌+◌, ◌-◌, ◌*◌, ◌^◌, ◌≤◌, ◌<◌, max, true, false, List, [], ◌∷◌, length, drop, get_or, refl, ap, sym, arith, add-one, inl, inr}
+use Rattle.std.proofs.Common.{◌≡◌, ℕ, suc, ◌+◌, ◌-◌, ◌*◌, ◌^◌, ◌≤◌, ◌<◌, max, true, false, List, [], ◌∷◌, length, drop, get_or, refl, ap, sym, arith, add-one}
+use Rattle.std.proofs.Common.{inl, inr}
 use Rattle.std.proofs.Math.Seq.{drop-cons}
 use Rattle.std.proofs.lemmas.Bool.{cases_Bool}
 use Rattle.std.proofs.lemmas.List.{drop_all}
@@ -17,7 +18,8 @@ use Rattle.tstd.proofs.QueueStates.{passed-step, passed-last}
 
 -- one byte more of those up to `end` passes both
 pub pass_step : (q p : Queue) (byte end : ℕ) → byte < end →
-    all_arrived (arrived p (max (byte * 2000000) q.last + q.step)) (departures q.step (max (byte * 2000000) q.last + q.step) (bytes_from 2000000 (byte + 1) (end - (byte + 1))))
+    all_arrived (arrived p (max (byte * 2000000) q.last + q.step))
+    (departures q.step (max (byte * 2000000) q.last + q.step) (bytes_from 2000000 (byte + 1) (end - (byte + 1))))
     ≡ all_arrived p (departures q.step q.last (bytes_from 2000000 byte (end - byte)))
 unfolding bytes_from departures
 pass_step q p byte end below =

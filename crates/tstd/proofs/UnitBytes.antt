@@ -1,5 +1,6 @@
 -- The bytes of a text, taken one after another.
-use Rattle.std.proofs.Common.{◌≡◌, ℕ, zero, suc, ◌+◌, ◌*◌, ◌≤◌, max, nat_le, nat_eq, ◌&&◌, ◌||◌, Bool, true, false, List, [], ◌∷◌, length, take, drop, refl, ap, subst, sym, inl, inr, arith}
+use Rattle.std.proofs.Common.{◌≡◌, ℕ, zero, suc, ◌+◌, ◌*◌, ◌≤◌, max, nat_le, nat_eq, ◌&&◌, ◌||◌, Bool, true, false, List, [], ◌∷◌, length, take, drop, refl, ap}
+use Rattle.std.proofs.Common.{subst, sym, inl, inr, arith}
 use Rattle.std.specs.List.{list_all}
 use Rattle.std.proofs.lemmas.Bool.{cases_Bool, leb-true, le-leb}
 use Rattle.std.proofs.lemmas.Bool.Decides.{nat_tests}
@@ -18,12 +19,14 @@ use Rattle.tstd.proofs.PayloadWalks.{bytes_climb}
 use Rattle.tstd.proofs.EntryPeaks.{byte_entered, text_entered}
 
 -- a walk at its end
-pub most_none : {A : Type 0} (walk walk' : PayloadBytes) (buffer : MainBuffer A) (pes_packets pes_packets' : List PesPacket) → bytes_ahead walk ≡ [] → bytes_ahead walk' ≡ [] →
+pub most_none : {A : Type 0} (walk walk' : PayloadBytes) (buffer : MainBuffer A) (pes_packets pes_packets' : List PesPacket) → bytes_ahead walk ≡ [] →
+    bytes_ahead walk' ≡ [] →
     peak_of walk' buffer pes_packets ≡ peak_of walk buffer pes_packets'
 unfolding greatest_at
 most_none walk walk' buffer pes_packets pes_packets' none none' = rw (none, none') refl
 
-one_byte : (before after : ℕ → ℕ) (peak peak' rate rx rate' rx' due m d : ℕ) (pes_packets : List PesPacket) (left left' : List ℕ) → left ≡ d ∷ left' → Climbs (suc d) left' →
+one_byte : (before after : ℕ → ℕ) (peak peak' rate rx rate' rx' due m d : ℕ) (pes_packets : List PesPacket) (left left' : List ℕ) → left ≡ d ∷ left' →
+    Climbs (suc d) left' →
     rx' ≡ rx → rate' ≡ rate → ((x : ℕ) → d ≤ x → after x ≡ before x + one_buffered (removal_time rate rx due) x) →
     peak' ≡ max peak (before d + one_buffered (removal_time rate rx due) d) →
     max peak' (peak_ahead after rate' rx' (record { dts = due; size = m; front = 0 } ∷ pes_packets) left')
@@ -35,8 +38,10 @@ one_byte before after peak peak' rate rx rate' rx' due m d pes_packets left left
 pub most_byte : {A : Type 0} (walk walk' : PayloadBytes) (buffer buffer' : MainBuffer A) (due m d : ℕ) (pes_packets : List PesPacket) →
     bytes_ahead walk ≡ d ∷ bytes_ahead walk' → last_of walk' ≡ d → drain_of walk' ≡ drain_of walk → walk'.rate ≡ walk.rate →
     ((x : ℕ) → d ≤ x → fullness_at buffer' x ≡ fullness_at buffer x + one_buffered buffer.current.until x) →
-    buffer'.peak ≡ max buffer.peak (fullness_at buffer d + one_buffered buffer.current.until d) → buffer.current.until ≡ removal_time walk.rate (drain_of walk) due →
-    peak_of walk' buffer' (record { dts = due; size = m; front = 0 } ∷ pes_packets) ≡ peak_of walk buffer (record { dts = due; size = suc m; front = 0 } ∷ pes_packets)
+    buffer'.peak ≡ max buffer.peak (fullness_at buffer d + one_buffered buffer.current.until d) →
+    buffer.current.until ≡ removal_time walk.rate (drain_of walk) due →
+    peak_of walk' buffer' (record { dts = due; size = m; front = 0 } ∷ pes_packets) ≡ peak_of walk buffer
+    (record { dts = due; size = suc m; front = 0 } ∷ pes_packets)
 most_byte walk walk' buffer buffer' due m d pes_packets ahead last drain rate there peak until =
     let climbs : Climbs (suc d) (bytes_ahead walk') = subst (λ (n : ℕ). Climbs (suc n) (bytes_ahead walk')) last (bytes_climb walk') in
     let counted : (x : ℕ) → d ≤ x → fullness_at buffer' x ≡ fullness_at buffer x + one_buffered (removal_time walk.rate (drain_of walk) due) x =
@@ -53,7 +58,8 @@ most_whole walk buffer due pes_packets =
     ap (max buffer.peak) (sym (text_entered walk.rate (drain_of walk) due pes_packets (fullness_at buffer) (bytes_ahead walk)))
 
 -- a text begins
-pub most_begun : {A : Type 0} (walk : PayloadBytes) (buffer buffer' : MainBuffer A) (pes_packets : List PesPacket) → ((x : ℕ) → fullness_at buffer' x ≡ fullness_at buffer x) →
+pub most_begun : {A : Type 0} (walk : PayloadBytes) (buffer buffer' : MainBuffer A) (pes_packets : List PesPacket) →
+    ((x : ℕ) → fullness_at buffer' x ≡ fullness_at buffer x) →
     buffer'.peak ≡ buffer.peak → peak_of walk buffer' pes_packets ≡ peak_of walk buffer pes_packets
 most_begun walk buffer buffer' pes_packets there peak =
     let ahead = greatest_ext (λ x. fullness_at buffer' x + mb_fullness walk.rate (drain_of walk) x pes_packets (bytes_ahead walk))
@@ -61,7 +67,8 @@ most_begun walk buffer buffer' pes_packets there peak =
     omega (arith, peak, ahead)
 
 -- the next of a list's entries
-pub all_next : (p : ℕ → Bool) (i : ℕ) (ds : List ℕ) (d : ℕ) (rest : List ℕ) → drop i ds ≡ d ∷ rest → list_all p (take (suc i) ds) ≡ (list_all p (take i ds) && p d)
+pub all_next : (p : ℕ → Bool) (i : ℕ) (ds : List ℕ) (d : ℕ) (rest : List ℕ) → drop i ds ≡ d ∷ rest →
+    list_all p (take (suc i) ds) ≡ (list_all p (take i ds) && p d)
 all_next p zero [] d rest e = cc
 all_next p zero (x ∷ ds) d rest e =
     let same : x ≡ d = cc in

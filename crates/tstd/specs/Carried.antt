@@ -11,7 +11,8 @@ use Rattle.unit_timing.specs.PesPacket.{PesPacket}
 
 -- the PES packets of units as timing sees them: the decoding time stamp, the size in bytes, and the bytes in front of them
 abbrev pub timed_pes_packets : ℕ → ℕ → List AccessUnit → List PesPacket
-timed_pes_packets id base0 units = map (λ u. record { dts = u.dts; size = length (pes_packet_bytes id base0 u); front = field_size u.marks.random_access }) units
+timed_pes_packets id base0 units = map (λ u. record { dts = u.dts; size = length (pes_packet_bytes id base0 u); front = field_size u.marks.random_access })
+    units
 
 -- the packets of a PID as timing sees them: each with its index and the size of its payload in bytes
 abbrev pub packets_on : ℕ → List ℕ → List Packet

@@ -36,7 +36,8 @@ pub record IsTwoBuffers (rate base0 : ℕ) (s : DescribedStream) (units : List A
 
 -- the greatest numbers of bytes over all moments in MB and in EB of a stream with a multiplexing buffer, filled by these
 -- packets with these units, by the leak method (ISO/IEC 13818-1, 2.4.2.3) where EB never is full
-pub record IsVideoFullness (rate base0 : ℕ) (s : DescribedStream) (units : List AccessUnit) (packets : List Packet) (b : MultiplexingBuffer) (f : VideoFullness) : Type 0 where
+pub record IsVideoFullness (rate base0 : ℕ) (s : DescribedStream) (units : List AccessUnit) (packets : List Packet) (b : MultiplexingBuffer)
+    (f : VideoFullness) : Type 0 where
   pub multiplexing : IsPeak (λ x. multiplexing_fullness rate s.rx b.rbx x packets) f.multiplexing
   pub elementary : IsPeak (λ x. elementary_fullness rate s.rx b.rbx x (timed_pes_packets s.stream_id base0 units) packets) f.elementary
 

@@ -32,8 +32,8 @@ pub struct SystemFullness {
     pub system: u64,
 }
 
-/// A unit that has not left its transport buffer whole by its decoding time, or, of a stream with a multiplexing buffer,
-/// is not whole in its elementary stream buffer by then.
+/// A unit that has not left its transport buffer whole by its decoding time, or, of a stream with a multiplexing
+/// buffer, is not whole in its elementary stream buffer by then.
 #[derive(Clone, Copy, Debug, PartialEq, Eq)]
 pub struct LateUnit {
     /// The number of its stream in the description, from 0.

@@ -1,5 +1,5 @@
-//! The transport stream system target decoder (ISO/IEC 13818-1, 2.4.2), byte by byte: how full its buffers become, and which
-//! units come late, measured on the finished bytes of a transport stream.
+//! The transport stream system target decoder (ISO/IEC 13818-1, 2.4.2), byte by byte: how full its buffers become, and
+//! which units come late, measured on the finished bytes of a transport stream.
 //!
 //! - [`measure`]: the whole. `specs/Measured` says what it finds, over the buffer model of docs/TIMING.md, and
 //!   `specs/Refusals` what it refuses.
@@ -11,12 +11,13 @@
 //!   buffer.
 //! - [`MainBuffer`]: the main buffer of a stream; the bytes of a unit stay in it until its decoding time.
 //!
-//! The modules of [`measure`], from the bottom up: `fullness` and `refusal` are its results; `packets` reads what a packet
-//! carries; `units` and `streams` measure the units of a stream in its two buffers, or in the three of video, one after another;
-//! `tables` are a program's two buffers; `payloads` and `carried` compare payloads with units; `unreadable` and `declared` test
-//! the input; `all_streams` goes through the streams and programs of a description.
+//! The modules of [`measure`], from the bottom up: `fullness` and `refusal` are its results; `packets` reads what a
+//! packet carries; `units` and `streams` measure the units of a stream in its two buffers, or in the three of video,
+//! one after another; `tables` are a program's two buffers; `payloads` and `carried` compare payloads with units;
+//! `unreadable` and `declared` test the input; `all_streams` goes through the streams and programs of a description.
 //!
-//! Times are whole numbers on the scale of the buffer, as in docs/TIMING.md. `tstd_rows` has the same buffers row by row.
+//! Times are whole numbers on the scale of the buffer, as in docs/TIMING.md. `tstd_rows` has the same buffers row by
+//! row.
 #![tactic(auto)]
 
 mod all_streams;

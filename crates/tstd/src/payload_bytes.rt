@@ -5,8 +5,8 @@ ghost use Rattle.tstd.specs.MultiplexingQueue.{IsWithin, last_in, passed, reside
 use crate::departures::Departures;
 use crate::queue::Queue;
 
-/// A walk over the payload bytes of a PID, byte by byte, as they enter the main buffer of their stream, or the elementary
-/// stream buffer after a multiplexing buffer.
+/// A walk over the payload bytes of a PID, byte by byte, as they enter the main buffer of their stream, or the
+/// elementary stream buffer after a multiplexing buffer.
 #[derive(Drop)]
 pub struct PayloadBytes<'a> {
     /// As they leave the transport buffer.
@@ -15,8 +15,8 @@ pub struct PayloadBytes<'a> {
     pub multiplexing: Option<Queue>,
     /// The rate of the output, in bits a second.
     pub rate: u64,
-    /// The rates at which the transport buffer and the multiplexing buffer are drained, in bits a second; the second is 1
-    /// if there is no multiplexing buffer. Times are in units of 8 / (rate * rx * rbx) seconds.
+    /// The rates at which the transport buffer and the multiplexing buffer are drained, in bits a second; the second is
+    /// 1 if there is no multiplexing buffer. Times are in units of 8 / (rate * rx * rbx) seconds.
     pub rx: u64,
     pub rbx: u64,
     pub ghost positive: { 0 < rate },

@@ -1,5 +1,5 @@
-//! Units in the buffers of their stream: from the transport buffer into the main buffer, or through a multiplexing buffer into the
-//! elementary stream buffer.
+//! Units in the buffers of their stream: from the transport buffer into the main buffer, or through a multiplexing
+//! buffer into the elementary stream buffer.
 ghost use Rattle.std.specs.Prelude.{◌≡◌, ℕ, ◌∷◌, ◌*◌, ◌<◌, ◌≤◌, ◌&&◌, not, nat_le};
 ghost use Rattle.std.specs.Prelude.{List, length, take, drop, IfOk, OnOk};
 ghost use Rattle.std.specs.List.{list_all};
@@ -50,8 +50,8 @@ fn enter_unit<A: Allocator>(
     true
 }
 
-// The stamp of a unit that is due at `due` units of 90 kHz, on the scale of a walk: the last moment that is not after it, and the
-// first that is not before it.
+// The stamp of a unit that is due at `due` units of 90 kHz, on the scale of a walk: the last moment that is not after
+// it, and the first that is not before it.
 fn moments_of(walk: &PayloadBytes<'_>, due: u64) -> (u128, u128)
     ensures last { result.0 ≡ due_moment walk.now.rate (drain_of walk.now) due }
     ensures first { result.1 ≡ removal_time walk.now.rate (drain_of walk.now) due }

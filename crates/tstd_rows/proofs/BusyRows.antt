@@ -28,7 +28,8 @@ two_rows w prev from pace parts (suc n) more some = refl
 pub waiting_busy : (w : BusyWatch) (prev : ℕ) (l : Leaving) → 0 < l.waiting.bytes → busy_with w prev (times_of l.waiting) ≡ busy_with w prev (times_left l)
 waiting_busy w prev l some = two_rows w prev l.waiting.from l.waiting.pace l.waiting.parts l.waiting.bytes (times_of l.free) some
 
-none_first : (w : BusyWatch) (prev from pace parts n : ℕ) (more : List ℕ) → n ≡ 0 → busy_with w prev more ≡ busy_with w prev (times_in_row from pace parts n ++ more)
+none_first : (w : BusyWatch) (prev from pace parts n : ℕ) (more : List ℕ) → n ≡ 0 →
+    busy_with w prev more ≡ busy_with w prev (times_in_row from pace parts n ++ more)
 unfolding times_in_row
 none_first w prev from pace parts zero more e = refl
 none_first w prev from pace parts (suc n) more e = absurd (omega (arith, e))

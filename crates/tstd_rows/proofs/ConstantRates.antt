@@ -1,5 +1,6 @@
 -- A stream at a constant rate: its parts, and the model of finished bytes.
-use Rattle.std.proofs.Common.{◌≡◌, ◌∙◌, sym, ℕ, ◌+◌, ◌-◌, ◌*◌, ◌/◌, ◌≤◌, cond, List, [], ◌∷◌, ◌++◌, length, drop, Option, Some, None, refl, ap, inl, inr, arith, All}
+use Rattle.std.proofs.Common.{◌≡◌, ◌∙◌, sym, ℕ, ◌+◌, ◌-◌, ◌*◌, ◌/◌, ◌≤◌, cond, List, [], ◌∷◌, ◌++◌, length, drop, Option, Some, None, refl, ap, inl, inr, arith}
+use Rattle.std.proofs.Common.{All}
 use Rattle.std.proofs.lemmas.Bool.{cases_lt, lt-leb, le-leb}
 use Rattle.std.proofs.lemmas.List.{append_assoc, append-nil, length-append, drop_at, map-append}
 use Rattle.std.proofs.lemmas.List.Elements.{All-head, All-tail}
@@ -33,14 +34,16 @@ use Rattle.tstd_rows.specs.ConstantRate.{StreamPacket, begun, parts_of, packets_
 arrivals-append : (r : ℕ) (ss ts : List ℕ) → arrivals r (ss ++ ts) ≡ arrivals r ss ++ arrivals r ts
 unfolding arrivals
 arrivals-append r [] ts = refl
-arrivals-append r (s ∷ ss) ts = ap (λ (l : List ℕ). bytes_from r (188 * s) 188 ++ l) (arrivals-append r ss ts) ∙ sym (append_assoc (bytes_from r (188 * s) 188) (arrivals r ss) (arrivals r ts))
+arrivals-append r (s ∷ ss) ts = ap (λ (l : List ℕ). bytes_from r (188 * s) 188 ++ l) (arrivals-append r ss ts)
+    ∙ sym (append_assoc (bytes_from r (188 * s) 188) (arrivals r ss) (arrivals r ts))
 
 arrivals_one : (r s : ℕ) → arrivals r (s ∷ []) ≡ bytes_from r (188 * s) 188
 unfolding arrivals
 arrivals_one r s = append-nil (bytes_from r (188 * s) 188)
 
 -- the bytes of a packet before its payload, and those of its payload
-in_two : (r slot size : ℕ) → size ≤ 188 → bytes_from r (188 * slot) 188 ≡ bytes_from r (188 * slot) (188 - size) ++ bytes_from r (188 * slot + (188 - size)) size
+in_two : (r slot size : ℕ) → size ≤ 188 → bytes_from r (188 * slot) 188 ≡ bytes_from r (188 * slot) (188 - size)
+    ++ bytes_from r (188 * slot + (188 - size)) size
 in_two r slot size le =
     let e : (188 - size) + size ≡ 188 = omega (arith, le) in
     rw e at (row_split r (188 * slot) (188 - size) size)
@@ -65,7 +68,8 @@ unfolding begun main_fullness
 begun_main rate rx step x None parts = refl
 begun_main rate rx step x (Some due) parts = refl
 
-pub same_arrivals : (rate rx : ℕ) (packets : List StreamPacket) → All (λ p. p.size ≤ 188) packets → arrivals_of (parts_of rate rx packets) ≡ arrivals rx (slots_of (packets_of packets))
+pub same_arrivals : (rate rx : ℕ) (packets : List StreamPacket) → All (λ p. p.size ≤ 188) packets →
+    arrivals_of (parts_of rate rx packets) ≡ arrivals rx (slots_of (packets_of packets))
 unfolding parts_of arrivals_of
 same_arrivals rate rx [] all = unfold packets_of arrivals in refl
 same_arrivals rate rx (p ∷ before) all =
@@ -84,7 +88,8 @@ same_arrivals rate rx (p ∷ before) all =
     ) refl
 
 -- departures of payloads, of packets in two parts
-left-append : (rate r prev : ℕ) (ps qs : List Packet) → pes_left rate r prev (ps ++ qs) ≡ pes_left rate r prev ps ++ pes_left rate r (last_left rate prev (arrivals r (slots_of ps))) qs
+left-append : (rate r prev : ℕ) (ps qs : List Packet) → pes_left rate r prev (ps ++ qs) ≡ pes_left rate r prev ps
+    ++ pes_left rate r (last_left rate prev (arrivals r (slots_of ps))) qs
 unfolding last_left arrivals of_payloads
 left-append rate r prev [] qs = refl
 left-append rate r prev (p ∷ ps) qs =
@@ -108,22 +113,34 @@ left_one rate r prev p le =
     let many : length (departures rate prev first) ≡ 188 - p.size = length-departures rate prev first ∙ length-bytes_from r (188 * p.slot) (188 - p.size) in
     let none : pes_left rate r (last_left rate prev (bytes_from r (188 * p.slot) 188)) [] ≡ [] = unfold of_payloads in refl in
     pes_left-cons rate r prev p []
-    ∙ rw (none, append-nil (drop (188 - p.size) (departures rate prev (bytes_from r (188 * p.slot) 188))), in_two r p.slot p.size le, departures-append rate prev first payload)
+    ∙ rw (
+      none,
+      append-nil (drop (188 - p.size) (departures rate prev (bytes_from r (188 * p.slot) 188))),
+      in_two r p.slot p.size le,
+      departures-append rate prev first payload,
+    )
     (drop_at (departures rate prev first) (departures rate (last_left rate prev first) payload) (188 - p.size) many)
 
 -- the payload of a packet leaves after the bytes before it
 payload_after : (rate rx : ℕ) (before : List StreamPacket) (p : StreamPacket) → p.size ≤ 188 → All (λ p. p.size ≤ 188) before →
-    left_after rate (begun rate rx p.begins (Passes (bytes_from rx (188 * p.slot) (188 - p.size)) ∷ parts_of rate rx before)) (bytes_from rx (188 * p.slot + (188 - p.size)) p.size)
+    left_after rate (begun rate rx p.begins (Passes (bytes_from rx (188 * p.slot) (188 - p.size)) ∷ parts_of rate rx before))
+    (bytes_from rx (188 * p.slot + (188 - p.size)) p.size)
     ≡ pes_left rate rx (last_left rate 0 (arrivals rx (slots_of (packets_of before)))) (record { slot = p.slot; size = p.size } ∷ [])
 payload_after rate rx before p le all =
     let first = bytes_from rx (188 * p.slot) (188 - p.size) in
     let packet : Packet = record { slot = p.slot; size = p.size } in
     let one = left_one rate rx (last_left rate 0 (arrivals rx (slots_of (packets_of before)))) packet le in
-    let passes : arrivals_of (Passes first ∷ parts_of rate rx before) ≡ arrivals rx (slots_of (packets_of before)) ++ first = unfold arrivals_of in (rw (same_arrivals rate rx before all) refl) in
-    rw (begun_arrivals rate rx p.begins (Passes first ∷ parts_of rate rx before), passes, last_left-append rate 0 (arrivals rx (slots_of (packets_of before))) first)
+    let passes : arrivals_of (Passes first ∷ parts_of rate rx before) ≡ arrivals rx (slots_of (packets_of before)) ++ first = unfold arrivals_of in
+    (rw (same_arrivals rate rx before all) refl) in
+    rw (
+      begun_arrivals rate rx p.begins (Passes first ∷ parts_of rate rx before),
+      passes,
+      last_left-append rate 0 (arrivals rx (slots_of (packets_of before))) first,
+    )
     (sym one)
 
-pub same_left : (rate rx : ℕ) (packets : List StreamPacket) → All (λ p. p.size ≤ 188) packets → payload_left rate (parts_of rate rx packets) ≡ pes_left rate rx 0 (packets_of packets)
+pub same_left : (rate rx : ℕ) (packets : List StreamPacket) → All (λ p. p.size ≤ 188) packets →
+    payload_left rate (parts_of rate rx packets) ≡ pes_left rate rx 0 (packets_of packets)
 unfolding parts_of packets_of payload_left
 same_left rate rx [] all = unfold of_payloads in refl
 same_left rate rx (p ∷ before) all =
@@ -145,7 +162,8 @@ left_one_length rate r prev p le =
     let payload = bytes_from r (188 * p.slot + (188 - p.size)) p.size in
     rw (left_one rate r prev p le, length-departures rate (last_left rate prev first) payload) (length-bytes_from r (188 * p.slot + (188 - p.size)) p.size)
 
-same_length : (rate rx : ℕ) (packets : List StreamPacket) → All (λ p. p.size ≤ 188) packets → length (pes_left rate rx 0 (packets_of packets)) ≡ sizes (units_of packets)
+same_length : (rate rx : ℕ) (packets : List StreamPacket) → All (λ p. p.size ≤ 188) packets →
+    length (pes_left rate rx 0 (packets_of packets)) ≡ sizes (units_of packets)
 unfolding packets_of units_of
 same_length rate rx [] all = unfold of_payloads sizes in refl
 same_length rate rx (p ∷ before) all =
@@ -154,11 +172,18 @@ same_length rate rx (p ∷ before) all =
     let one = left_one_length rate rx last packet (All-head (λ p. p.size ≤ 188) p before all) in
     let rest = same_length rate rx before (All-tail (λ p. p.size ≤ 188) p before all) in
     rw (left-append rate rx 0 (packets_of before) (packet ∷ []))
-    (omega (arith, length-append (pes_left rate rx 0 (packets_of before)) (pes_left rate rx last (packet ∷ [])), one, rest, sizes_with p.begins p.size (units_of before)))
+    (omega (
+      arith,
+      length-append (pes_left rate rx 0 (packets_of before)) (pes_left rate rx last (packet ∷ [])),
+      one,
+      rest,
+      sizes_with p.begins p.size (units_of before),
+    ))
 
 -- ---- the moment from which a unit's bytes are gone
 
-until_begun : (rate rx : ℕ) (begins : Option ℕ) (size : ℕ) (parts : List Part) (units : List PesPacket) → until_of parts ≡ removal_time rate rx (last_due units) →
+until_begun : (rate rx : ℕ) (begins : Option ℕ) (size : ℕ) (parts : List Part) (units : List PesPacket) →
+    until_of parts ≡ removal_time rate rx (last_due units) →
     until_of (begun rate rx begins parts) ≡ removal_time rate rx (last_due (with_payload begins size units))
 unfolding begun until_of with_payload
 until_begun rate rx None size parts units same = rw (due_last size units) same
@@ -168,17 +193,23 @@ same_until : (rate rx : ℕ) (packets : List StreamPacket) → until_of (parts_o
 unfolding parts_of units_of until_of
 same_until rate rx [] = unfold last_due in (let e : 0 * rate * rx ≡ 0 = omega arith in rw e refl)
 same_until rate rx (p ∷ before) =
-    until_begun rate rx p.begins p.size (Passes (bytes_from rx (188 * p.slot) (188 - p.size)) ∷ parts_of rate rx before) (units_of before) (same_until rate rx before)
+    until_begun rate rx p.begins p.size (Passes (bytes_from rx (188 * p.slot) (188 - p.size)) ∷ parts_of rate rx before) (units_of before)
+    (same_until rate rx before)
 
 -- bytes that have entered are those that the model keeps
 entered_kept : (rate r due x : ℕ) (ds : List ℕ) → entered (removal_time rate r due) x ds ≡ kept rate r x due ds
 unfolding kept
 entered_kept rate r due x [] = refl
 entered_kept rate r due x (d ∷ ds) =
-    rw (sum_by-cons (λ s. cond (has_entered (removal_time rate r due) x s) 1 0) d ds, sum_by-cons (λ s. cond (is_in_main_buffer rate r x due s) 1 0) d ds, gone_test x (due * rate * r))
+    rw (
+      sum_by-cons (λ s. cond (has_entered (removal_time rate r due) x s) 1 0) d ds,
+      sum_by-cons (λ s. cond (is_in_main_buffer rate r x due s) 1 0) d ds,
+      gone_test x (due * rate * r),
+    )
     (omega (arith, entered_kept rate r due x ds))
 
-payload_kept : (rate r x due : ℕ) (begins : Option ℕ) (units : List PesPacket) (left ds : List ℕ) → length left ≡ sizes units → due ≡ last_due (with_payload begins (length ds) units) →
+payload_kept : (rate r x due : ℕ) (begins : Option ℕ) (units : List PesPacket) (left ds : List ℕ) → length left ≡ sizes units →
+    due ≡ last_due (with_payload begins (length ds) units) →
     mb_fullness rate r x (with_payload begins (length ds) units) (left ++ ds) ≡ mb_fullness rate r x units left + kept rate r x due ds
 unfolding with_payload
 payload_kept rate r x due None units left ds many is =
@@ -202,7 +233,8 @@ same_main rate rx x (p ∷ before) all =
     let many : length ds ≡ p.size = left_one_length rate rx last packet head in
     let until = until_begun rate rx p.begins p.size parts (units_of before) (unfold until_of in (same_until rate rx before)) in
     let due : ℕ = last_due (with_payload p.begins p.size (units_of before)) in
-    let model : mb_fullness rate rx x (with_payload p.begins p.size (units_of before)) (left ++ ds) ≡ mb_fullness rate rx x (units_of before) left + kept rate rx x due ds =
+    let model : mb_fullness rate rx x (with_payload p.begins p.size (units_of before)) (left ++ ds) ≡ mb_fullness rate rx x (units_of before) left
+    + kept rate rx x due ds =
     rw many at (payload_kept rate rx x due p.begins (units_of before) left ds (same_length rate rx before tail) (rw many refl)) in
     rw (
       begun_main rate rx rate x p.begins parts,

@@ -34,7 +34,8 @@ stays_fast step prev from pace parts (suc n) some fast =
     let rest = stays_fast step (max (from / parts) prev + step) (from + pace) pace parts n some fast in
     let same : max ((from + pace) / parts) (max (from / parts) prev + step) + suc n * step - (from + pace + n * pace) / parts
     ≡ max (from / parts) prev + suc (suc n) * step - (from + suc n * pace) / parts = rw far (omega (arith, m)) in
-    larger (max (from / parts) prev + step - from / parts) (greatest_residence step (max (from / parts) prev + step) (times_in_row (from + pace) pace parts (suc n)))
+    larger (max (from / parts) prev + step - from / parts)
+    (greatest_residence step (max (from / parts) prev + step) (times_in_row (from + pace) pace parts (suc n)))
     (max (from / parts) prev + suc (suc n) * step - (from + suc n * pace) / parts) (rest ∙ same) (omega (arith, all))
   where
     larger : (a b c : ℕ) → b ≡ c → a ≤ c → max a b ≡ c
@@ -59,7 +60,8 @@ last_even first step (suc n) some =
 
 -- they come no slower than they leave
 pub fast_even : (step prev : ℕ) (even : EvenBytes) (times : List ℕ) → AreEven even times → even.pace ≤ step * even.parts →
-    AreEven (record { first = max even.first prev + step; last = max even.first prev + even.bytes * step; pace = step; parts = 1; bytes = even.bytes }) (departures step prev times)
+    AreEven (record { first = max even.first prev + step; last = max even.first prev + even.bytes * step; pace = step; parts = 1; bytes = even.bytes })
+    (departures step prev times)
 fast_even step prev even times is fast =
     let first : max even.first prev ≡ max (is.from / even.parts) prev = rw is.first refl in
     let all = fast_left step prev is.from even.pace even.parts even.bytes (max even.first prev) [] is.some is.some_parts fast first refl in
@@ -97,7 +99,8 @@ fast_even_longest step prev even times is fast =
 
 -- they come no faster, and the first does not wait
 pub free_even : (step prev : ℕ) (even : EvenBytes) (times : List ℕ) → AreEven even times → step * even.parts ≤ even.pace → prev ≤ even.first →
-    AreEven (record { first = even.first + step; last = even.last + step; pace = even.pace; parts = even.parts; bytes = even.bytes }) (departures step prev times)
+    AreEven (record { first = even.first + step; last = even.last + step; pace = even.pace; parts = even.parts; bytes = even.bytes })
+    (departures step prev times)
 free_even step prev even times is slow free =
     let free' : prev ≤ is.from / even.parts = rw is.first at free in
     let e : is.from + step * even.parts + (even.bytes - 1) * even.pace ≡ is.from + (even.bytes - 1) * even.pace + step * even.parts = omega arith in
@@ -180,7 +183,8 @@ pub even_entered : (b : WatchedQueue) (even left : EvenBytes) (times : List ℕ)
     } ≡ all_entered b times
 even_entered b even left times pos pass is =
     let room = rw is.row at (room_in b even left times pos pass is) in
-    let none = room_row_after b.queue.step b.watch.size b.queue.last b.watch.under_way is.from even.pace even.parts even.bytes (some_bytes even.bytes is.some) room in
+    let none = room_row_after b.queue.step b.watch.size b.queue.last b.watch.under_way is.from even.pace even.parts even.bytes (some_bytes even.bytes is.some)
+    room in
     let queue = queue_of (all_arrived b.queue times) b.queue.step left.last (max b.queue.longest_residence (left.last - even.last))
     (passed-step b.queue times)
     (passed-last b.queue times ∙ pass.last times is)

@@ -125,7 +125,8 @@ frees_rest step prev from pace parts (suc n) some slow free = frees_left step pr
 -- the first a wait, and of the others none
 pub in_two_left : (step prev from pace parts a b : ℕ) → 0 < parts → step * parts ≤ pace → Waits step prev from pace parts a →
     (0 < b → prev + a * step ≤ (from + a * pace) / parts) →
-    departures step prev (times_in_row from pace parts (a + b)) ≡ times_in_row (prev + step) step 1 a ++ times_in_row (from + a * pace + step * parts) pace parts b
+    departures step prev (times_in_row from pace parts (a + b)) ≡ times_in_row (prev + step) step 1 a
+    ++ times_in_row (from + a * pace + step * parts) pace parts b
 in_two_left step prev from pace parts a b some slow waits free =
     rw (
       row-append from pace parts a b,
@@ -149,11 +150,13 @@ in_two_last step prev from pace parts a b some slow waits free =
     (frees_last step (prev + a * step) (from + a * pace) pace parts b some slow free)
 
 -- a row that is not empty leaves as it would after a byte that leaves no later than its first arrives
-from_first : (step prev from pace parts n : ℕ) → departures step prev (times_in_row from pace parts (suc n)) ≡ departures step (max (from / parts) prev) (times_in_row from pace parts (suc n))
+from_first : (step prev from pace parts n : ℕ) →
+    departures step prev (times_in_row from pace parts (suc n)) ≡ departures step (max (from / parts) prev) (times_in_row from pace parts (suc n))
 unfolding departures times_in_row
 from_first step prev from pace parts n = let e : max (from / parts) (max (from / parts) prev) ≡ max (from / parts) prev = omega arith in rw e refl
 
-last_from_first : (step prev from pace parts n : ℕ) → last_left step prev (times_in_row from pace parts (suc n)) ≡ last_left step (max (from / parts) prev) (times_in_row from pace parts (suc n))
+last_from_first : (step prev from pace parts n : ℕ) →
+    last_left step prev (times_in_row from pace parts (suc n)) ≡ last_left step (max (from / parts) prev) (times_in_row from pace parts (suc n))
 unfolding last_left times_in_row
 last_from_first step prev from pace parts n =
     let e : max (from / parts) (max (from / parts) prev) ≡ max (from / parts) prev = omega arith in
@@ -164,7 +167,8 @@ unfolding times_in_row
 no_bytes from pace parts n = let e : n - n ≡ 0 = omega arith in rw e refl
 
 -- all of a row that comes no slower than it leaves
-pub fast_left : (step prev from pace parts n first : ℕ) (none : List ℕ) → 0 < n → 0 < parts → pace ≤ step * parts → first ≡ max (from / parts) prev → none ≡ [] →
+pub fast_left : (step prev from pace parts n first : ℕ) (none : List ℕ) → 0 < n → 0 < parts → pace ≤ step * parts → first ≡ max (from / parts) prev →
+    none ≡ [] →
     times_in_row (first + step) step 1 n ++ none ≡ departures step prev (times_in_row from pace parts n)
 fast_left step prev from pace parts zero first none pos some fast e f = absurd (omega (arith, pos))
 fast_left step prev from pace parts (suc n) first none pos some fast e f =
@@ -200,7 +204,8 @@ waits_gain step prev from pace parts a some slow room =
 
 pub slow_left : (step prev from pace parts n a : ℕ) → 0 < parts → step * parts ≤ pace → a ≤ n →
     ((j : ℕ) → j < a → j * (pace - step * parts) < (prev + 1) * parts - from) → (a < n → (prev + 1) * parts - from ≤ a * (pace - step * parts)) →
-    times_in_row (prev + step) step 1 a ++ times_in_row (from + a * pace + step * parts) pace parts (n - a) ≡ departures step prev (times_in_row from pace parts n)
+    times_in_row (prev + step) step 1 a ++ times_in_row (from + a * pace + step * parts) pace parts (n - a) ≡ departures step prev
+    (times_in_row from pace parts n)
 slow_left step prev from pace parts n a some slow le room enough =
     let e : a + (n - a) ≡ n = omega (arith, le) in
     let two = in_two_left step prev from pace parts a (n - a) some slow (waits_gain step prev from pace parts a some slow room)
@@ -229,7 +234,8 @@ unfolding last_left times_in_row
 last_soon step prev from pace parts zero latest some early = omega arith
 last_soon step prev from pace parts (suc n) latest some early =
     let here : from / parts ≤ latest = div-le_of_le-mul parts (omega (arith, early)) in
-    let rest : last_left step (max (from / parts) prev + step) (times_in_row (from + pace) pace parts n) ≤ max latest (max (from / parts) prev + step) + n * step =
+    let rest : last_left step (max (from / parts) prev + step) (times_in_row (from + pace) pace parts n) ≤ max latest (max (from / parts) prev + step)
+    + n * step =
     last_soon step (max (from / parts) prev + step) (from + pace) pace parts n latest some (omega (arith, early)) in
     within rest (omega (arith, here))
   where

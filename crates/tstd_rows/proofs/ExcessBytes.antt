@@ -1,5 +1,6 @@
 -- What bytes do to an excess that all find no room, or all find some.
-use Rattle.std.proofs.Common.{◌≡◌, ◌∙◌, sym, ℕ, zero, suc, ◌+◌, ◌/◌, max, true, false, List, [], ◌∷◌, ◌++◌, Option, Some, None, if◌then◌else◌, refl, ap, arith, append_assoc}
+use Rattle.std.proofs.Common.{◌≡◌, ◌∙◌, sym, ℕ, zero, suc, ◌+◌, ◌/◌, max, true, false, List, [], ◌∷◌, ◌++◌, Option, Some, None, if◌then◌else◌, refl, ap, arith}
+use Rattle.std.proofs.Common.{append_assoc}
 use Rattle.std.proofs.lemmas.List.{append-nil}
 use Rattle.std.specs.Option.{option_to_list}
 use Rattle.clock27.specs.Departure.{last_left}
@@ -48,7 +49,8 @@ room_ended step size prev under_way t ts room =
     rw (room.0, none_ended step size (max t prev + step) ts room.1) (append-nil (option_to_list under_way))
 
 -- bytes that find none end nothing
-pub over_ended : (step size prev : ℕ) (under_way : Option Excess) (ts : List ℕ) → AreOver true step size prev ts → excesses_ended step size prev under_way ts ≡ []
+pub over_ended : (step size prev : ℕ) (under_way : Option Excess) (ts : List ℕ) → AreOver true step size prev ts →
+    excesses_ended step size prev under_way ts ≡ []
 unfolding excesses_ended AreOver
 over_ended step size prev under_way [] over = refl
 over_ended step size prev under_way (t ∷ ts) over =
@@ -61,7 +63,8 @@ grows : (step size prev begin peak : ℕ) (ts : List ℕ) → AreOver true step 
 unfolding excess_after AreOver last_left most_found grown
 grows step size prev begin peak [] over = let e : max peak 0 ≡ peak = omega arith in rw e refl
 grows step size prev begin peak (t ∷ ts) over =
-    let m : max (max peak (found step prev t)) (most_found step (max t prev + step) ts) ≡ max peak (max (found step prev t) (most_found step (max t prev + step) ts)) = omega arith in
+    let m : max (max peak (found step prev t)) (most_found step (max t prev + step) ts) ≡ max peak
+    (max (found step prev t) (most_found step (max t prev + step) ts)) = omega arith in
     rw over.0 (grows step size (max t prev + step) begin (max peak (found step prev t)) ts over.1
     ∙ ap (λ (n : ℕ). Some (record { begin = begin; end = room_again step size (last_left step (max t prev + step) ts); peak = n })) m)
 
@@ -76,41 +79,58 @@ pub grows_with : (step size prev : ℕ) (e : Excess) (t : ℕ) (ts : List ℕ) �
     ≡ Some (record { begin = e.begin; end = room_again step size (last_left step prev (t ∷ ts)); peak = max e.peak (most_found step prev (t ∷ ts)) })
 unfolding excess_after AreOver last_left most_found grown
 grows_with step size prev e t ts over =
-    let m : max (max e.peak (found step prev t)) (most_found step (max t prev + step) ts) ≡ max e.peak (max (found step prev t) (most_found step (max t prev + step) ts)) = omega arith in
+    let m : max (max e.peak (found step prev t)) (most_found step (max t prev + step) ts) ≡ max e.peak
+    (max (found step prev t) (most_found step (max t prev + step) ts)) = omega arith in
     rw over.0 (grows step size (max t prev + step) e.begin (max e.peak (found step prev t)) ts over.1
     ∙ ap (λ (n : ℕ). Some (record { begin = e.begin; end = room_again step size (last_left step (max t prev + step) ts); peak = n })) m)
 
 -- so for the bytes of a row
-pub no_row_after : (step size prev : ℕ) (under_way : Option Excess) (from pace parts n : ℕ) → n ≡ 0 → under_way ≡ excess_after step size prev under_way (times_in_row from pace parts n)
+pub no_row_after : (step size prev : ℕ) (under_way : Option Excess) (from pace parts n : ℕ) → n ≡ 0 →
+    under_way ≡ excess_after step size prev under_way (times_in_row from pace parts n)
 unfolding times_in_row excess_after
 no_row_after step size prev under_way from pace parts n e = rw e refl
 
-pub no_row_ended : (step size prev : ℕ) (under_way : Option Excess) (from pace parts n : ℕ) → n ≡ 0 → excesses_ended step size prev under_way (times_in_row from pace parts n) ≡ []
+pub no_row_ended : (step size prev : ℕ) (under_way : Option Excess) (from pace parts n : ℕ) → n ≡ 0 →
+    excesses_ended step size prev under_way (times_in_row from pace parts n) ≡ []
 unfolding times_in_row excesses_ended
 no_row_ended step size prev under_way from pace parts n e = rw e refl
 
-pub room_row_after : (step size prev : ℕ) (under_way : Option Excess) (from pace parts n : ℕ) → (n ≡ 0 → ⊥) → AreOver false step size prev (times_in_row from pace parts n) →
+pub room_row_after : (step size prev : ℕ) (under_way : Option Excess) (from pace parts n : ℕ) → (n ≡ 0 → ⊥) →
+    AreOver false step size prev (times_in_row from pace parts n) →
     excess_after step size prev under_way (times_in_row from pace parts n) ≡ None
 unfolding times_in_row
 room_row_after step size prev under_way from pace parts zero some room = absurd (some refl)
-room_row_after step size prev under_way from pace parts (suc n) some room = room_after step size prev under_way (from / parts) (times_in_row (from + pace) pace parts n) room
+room_row_after step size prev under_way from pace parts (suc n) some room =
+    room_after step size prev under_way (from / parts) (times_in_row (from + pace) pace parts n) room
 
-pub room_row_ended : (step size prev : ℕ) (under_way : Option Excess) (from pace parts n : ℕ) → (n ≡ 0 → ⊥) → AreOver false step size prev (times_in_row from pace parts n) →
+pub room_row_ended : (step size prev : ℕ) (under_way : Option Excess) (from pace parts n : ℕ) → (n ≡ 0 → ⊥) →
+    AreOver false step size prev (times_in_row from pace parts n) →
     excesses_ended step size prev under_way (times_in_row from pace parts n) ≡ option_to_list under_way
 unfolding times_in_row
 room_row_ended step size prev under_way from pace parts zero some room = absurd (some refl)
-room_row_ended step size prev under_way from pace parts (suc n) some room = room_ended step size prev under_way (from / parts) (times_in_row (from + pace) pace parts n) room
+room_row_ended step size prev under_way from pace parts (suc n) some room =
+    room_ended step size prev under_way (from / parts) (times_in_row (from + pace) pace parts n) room
 
 pub row_begins : (step size prev from pace parts n : ℕ) → (n ≡ 0 → ⊥) → AreOver true step size prev (times_in_row from pace parts n) →
     excess_after step size prev None (times_in_row from pace parts n)
-    ≡ Some (record { begin = from / parts; end = room_again step size (last_left step prev (times_in_row from pace parts n)); peak = most_found step prev (times_in_row from pace parts n) })
+    ≡ Some (record {
+      begin = from / parts;
+      end = room_again step size (last_left step prev (times_in_row from pace parts n));
+      peak =
+          most_found step prev (times_in_row from pace parts n);
+    })
 unfolding times_in_row
 row_begins step size prev from pace parts zero some over = absurd (some refl)
 row_begins step size prev from pace parts (suc n) some over = begins_with step size prev (from / parts) (times_in_row (from + pace) pace parts n) over
 
 pub row_grows : (step size prev : ℕ) (e : Excess) (from pace parts n : ℕ) → (n ≡ 0 → ⊥) → AreOver true step size prev (times_in_row from pace parts n) →
     excess_after step size prev (Some e) (times_in_row from pace parts n)
-    ≡ Some (record { begin = e.begin; end = room_again step size (last_left step prev (times_in_row from pace parts n)); peak = max e.peak (most_found step prev (times_in_row from pace parts n)) })
+    ≡ Some (record {
+      begin = e.begin;
+      end = room_again step size (last_left step prev (times_in_row from pace parts n));
+      peak =
+          max e.peak (most_found step prev (times_in_row from pace parts n));
+    })
 unfolding times_in_row
 row_grows step size prev e from pace parts zero some over = absurd (some refl)
 row_grows step size prev e from pace parts (suc n) some over = grows_with step size prev e (from / parts) (times_in_row (from + pace) pace parts n) over

@@ -1,5 +1,6 @@
 -- An excess lasts whenever too many bytes are in the buffer, and never while there is room.
-use Rattle.std.proofs.Common.{◌≡◌, ◌∙◌, ℕ, ◌+◌, ◌-◌, ◌*◌, ◌<◌, ◌≤◌, ◌⊎◌, max, Bool, true, false, List, [], ◌∷◌, ◌++◌, Option, Some, None, refl, inl, inr, arith, append_assoc, All}
+use Rattle.std.proofs.Common.{◌≡◌, ◌∙◌, ℕ, ◌+◌, ◌-◌, ◌*◌, ◌<◌, ◌≤◌, ◌⊎◌, max, Bool, true, false, List, [], ◌∷◌, ◌++◌, Option, Some, None, refl, inl, inr, arith}
+use Rattle.std.proofs.Common.{append_assoc, All}
 use Rattle.std.proofs.Math.Nat.{div-lt_iff_lt-mul}
 use Rattle.std.proofs.lemmas.Nat.{le-div}
 use Rattle.std.proofs.lemmas.Bool.{cases_lt, cases_Bool, lt-ltb, le-ltb}
@@ -120,7 +121,8 @@ unfolding excesses_ended excess_after
 all_none step size prev under_way = refl
 
 -- one that lasts is there at the end too
-keeps : (step size prev x : ℕ) (e : Excess) (ts : List ℕ) → e.end ≡ room_again step size prev → e.begin ≤ x → x < e.end → OneLasts x (all_from step size prev (Some e) ts)
+keeps : (step size prev x : ℕ) (e : Excess) (ts : List ℕ) → e.end ≡ room_again step size prev → e.begin ≤ x → x < e.end →
+    OneLasts x (all_from step size prev (Some e) ts)
 keeps step size prev x e [] ends begun lasts = rw (all_none step size prev (Some e)) (lasts_one x e [] begun lasts)
 keeps step size prev x e (t ∷ ts) ends begun lasts = elim (cases_Bool (is_over step size prev t)) [
   | inl over ↦
@@ -136,7 +138,8 @@ IsUnderWay None = ⊥
 IsUnderWay (Some e) = Unit {0}
 
 -- one that is under way lasts while it has begun and there is no room
-stands_keeps : (step size prev from x : ℕ) (under_way : Option Excess) (ts : List ℕ) → Stands step size prev from under_way → IsUnderWay under_way → from ≤ x → x < room_again step size prev →
+stands_keeps : (step size prev from x : ℕ) (under_way : Option Excess) (ts : List ℕ) → Stands step size prev from under_way → IsUnderWay under_way → from ≤ x →
+    x < room_again step size prev →
     OneLasts x (all_from step size prev under_way ts)
 unfolding Stands IsUnderWay
 stands_keeps step size prev from x None ts stands is le less = absurd is
@@ -152,7 +155,8 @@ unfolding Stands
 stands_none step size prev from = tt
 
 -- where the buffer holds too many
-too_many : (step size : ℕ) → 0 < step → 0 < size → (ts : List ℕ) (prev from x : ℕ) (under_way : Option Excess) → Stands step size prev from under_way → Rises from ts → from ≤ x →
+too_many : (step size : ℕ) → 0 < step → 0 < size → (ts : List ℕ) (prev from x : ℕ) (under_way : Option Excess) → Stands step size prev from under_way →
+    Rises from ts → from ≤ x →
     (size < level step (prev - x) → IsUnderWay under_way) → size < fullness x ts (departures step prev ts) + level step (prev - x) →
     OneLasts x (all_from step size prev under_way ts)
 unfolding Rises fullness departures
@@ -164,13 +168,16 @@ too_many step size pos some (t ∷ ts) prev from x under_way stands rises le is 
       let all : All (λ s. x < s) (t ∷ ts) = All-cons (λ s. x < s) t ts before (rises_after x t ts before rises.1) in
       let none = fullness_before x (t ∷ ts) (departures step prev (t ∷ ts)) all in
       let here : size < level step (prev - x) = omega (arith, less, none) in
-      stands_keeps step size prev from x under_way (t ∷ ts) stands (is here) le (omega (arith, over_level step size prev x pos some here, size_sum size step some))
+      stands_keeps step size prev from x under_way (t ∷ ts) stands (is here) le
+      (omega (arith, over_level step size prev x pos some here, size_sum size step some))
   | inr come ↦
-      let next : size < fullness x ts (departures step (max t prev + step) ts) + level step ((max t prev + step) - x) = omega (arith, less, one_in step x t prev pos come) in
+      let next : size < fullness x ts (departures step (max t prev + step) ts) + level step ((max t prev + step) - x) =
+      omega (arith, less, one_in step x t prev pos come) in
       elim (cases_Bool (is_over step size prev t)) [
         | inl over ↦
             rw (all_over step size prev t under_way ts over)
-            (too_many step size pos some ts (max t prev + step) t x (Some (grown step size prev under_way t)) (stands_grown step size prev from t under_way stands rises.0) rises.1 come
+            (too_many step size pos some ts (max t prev + step) t x (Some (grown step size prev under_way t))
+            (stands_grown step size prev from t under_way stands rises.0) rises.1 come
             (λ h. under_way_some (grown step size prev under_way t)) next)
         | inr room ↦
             rw (all_room step size prev t under_way ts room)
@@ -218,19 +225,23 @@ later_lasts x (Some e) later (inl lasts) = omega (arith, later, lasts.0)
 later_lasts x (Some e) later (inr none) = absurd none
 
 -- so do all excesses of bytes that arrive later
-none_lasts : (step size x : ℕ) (ts : List ℕ) (prev : ℕ) (under_way : Option Excess) → Later x under_way → All (λ t. x < t) ts → OneLasts x (all_from step size prev under_way ts) → ⊥
+none_lasts : (step size x : ℕ) (ts : List ℕ) (prev : ℕ) (under_way : Option Excess) → Later x under_way → All (λ t. x < t) ts →
+    OneLasts x (all_from step size prev under_way ts) → ⊥
 none_lasts step size x [] prev under_way later all one = later_lasts x under_way later (rw (all_none step size prev under_way) at one)
 none_lasts step size x (t ∷ ts) prev under_way later all one = elim (cases_Bool (is_over step size prev t)) [
   | inl over ↦
-      none_lasts step size x ts (max t prev + step) (Some (grown step size prev under_way t)) (later_grown step size prev t x under_way later (All-head (λ t. x < t) t ts all))
+      none_lasts step size x ts (max t prev + step) (Some (grown step size prev under_way t))
+      (later_grown step size prev t x under_way later (All-head (λ t. x < t) t ts all))
       (All-tail (λ t. x < t) t ts all) (rw (all_over step size prev t under_way ts over) at one)
-  | inr room ↦ elim (lasts_either x (option_to_list under_way) (all_from step size (max t prev + step) None ts) (rw (all_room step size prev t under_way ts room) at one)) [
-    | inl first ↦ later_lasts x under_way later first
-    | inr rest ↦ none_lasts step size x ts (max t prev + step) None (later_none x) (All-tail (λ t. x < t) t ts all) rest
-  ]
+  | inr room ↦ elim
+      (lasts_either x (option_to_list under_way) (all_from step size (max t prev + step) None ts) (rw (all_room step size prev t under_way ts room) at one)) [
+        | inl first ↦ later_lasts x under_way later first
+        | inr rest ↦ none_lasts step size x ts (max t prev + step) None (later_none x) (All-tail (λ t. x < t) t ts all) rest
+      ]
 ]
 
-no_room : (step size : ℕ) → 0 < step → 0 < size → (ts : List ℕ) (prev from x : ℕ) (under_way : Option Excess) → Stands step size prev from under_way → Rises from ts → from ≤ x →
+no_room : (step size : ℕ) → 0 < step → 0 < size → (ts : List ℕ) (prev from x : ℕ) (under_way : Option Excess) → Stands step size prev from under_way →
+    Rises from ts → from ≤ x →
     OneLasts x (all_from step size prev under_way ts) → size ≤ fullness x ts (departures step prev ts) + level step (prev - x)
 unfolding Rises fullness departures
 no_room step size pos some [] prev from x under_way stands rises le one =
@@ -241,19 +252,21 @@ no_room step size pos some (t ∷ ts) prev from x under_way stands rises le one 
         let full = full_level step size prev x pos some (omega (arith, over_is step size prev t pos some over, before)) in
         omega (arith, full)
     | inr come ↦
-        let rest = no_room step size pos some ts (max t prev + step) t x (Some (grown step size prev under_way t)) (stands_grown step size prev from t under_way stands rises.0) rises.1 come
+        let rest = no_room step size pos some ts (max t prev + step) t x (Some (grown step size prev under_way t))
+        (stands_grown step size prev from t under_way stands rises.0) rises.1 come
         (rw (all_over step size prev t under_way ts over) at one) in
         omega (arith, rest, one_in step x t prev pos come)
   ]
-  | inr room ↦ elim (lasts_either x (option_to_list under_way) (all_from step size (max t prev + step) None ts) (rw (all_room step size prev t under_way ts room) at one)) [
-    | inl first ↦ omega (arith, stands_full step size prev from x under_way pos some stands first)
-    | inr rest ↦ elim (cases_lt x t) [
-      | inl before ↦ absurd (none_lasts step size x ts (max t prev + step) None (later_none x) (rises_after x t ts before rises.1) rest)
-      | inr come ↦
-          let full = no_room step size pos some ts (max t prev + step) t x None (stands_none step size (max t prev + step) t) rises.1 come rest in
-          omega (arith, full, one_in step x t prev pos come)
-    ]
-  ]
+  | inr room ↦ elim
+      (lasts_either x (option_to_list under_way) (all_from step size (max t prev + step) None ts) (rw (all_room step size prev t under_way ts room) at one)) [
+        | inl first ↦ omega (arith, stands_full step size prev from x under_way pos some stands first)
+        | inr rest ↦ elim (cases_lt x t) [
+          | inl before ↦ absurd (none_lasts step size x ts (max t prev + step) None (later_none x) (rises_after x t ts before rises.1) rest)
+          | inr come ↦
+              let full = no_room step size pos some ts (max t prev + step) t x None (stands_none step size (max t prev + step) t) rises.1 come rest in
+              omega (arith, full, one_in step x t prev pos come)
+        ]
+      ]
 ]
 
 pub full_law : FullLaw

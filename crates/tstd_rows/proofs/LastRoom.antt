@@ -1,5 +1,6 @@
 -- The current unit waits: with the last of the units that wait, or after them.
-use Rattle.std.proofs.Common.{◌≡◌, ◌∙◌, sym, ℕ, zero, suc, ◌+◌, ◌-◌, ◌<◌, ◌≤◌, Bool, true, false, if◌then◌else◌, List, [], ◌∷◌, ◌++◌, length, replicate, take, append_assoc, slice_index_or, slice_set, refl, ap, ap₂, arith}
+use Rattle.std.proofs.Common.{◌≡◌, ◌∙◌, sym, ℕ, zero, suc, ◌+◌, ◌-◌, ◌<◌, ◌≤◌, Bool, true, false, if◌then◌else◌, List, [], ◌∷◌, ◌++◌, length, replicate, take}
+use Rattle.std.proofs.Common.{append_assoc, slice_index_or, slice_set, refl, ap, ap₂, arith}
 use Rattle.std.proofs.lemmas.List.{append-nil, length-append, length-replicate, replicate-append-replicate}
 use Rattle.tstd.specs.declared.buffered_units.BufferedUnit.{BufferedUnit}
 use Rattle.tstd_rows.specs.RoomTimes.{raised, rooms_in, rooms_waiting}

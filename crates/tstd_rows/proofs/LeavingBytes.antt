@@ -51,7 +51,8 @@ first_same before until from (t ∷ ts) us climbs =
     omega (arith, none, first_same before until (suc t) ts us climbs.1)
 
 -- and at the later ones all of the first have
-later_same : (before middle : ℕ → ℕ) (until from : ℕ) (ts us vs : List ℕ) → Climbs from (ts ++ us) → ((x : ℕ) → All (λ t. t ≤ x) ts → middle x ≡ before x + entered until x ts) →
+later_same : (before middle : ℕ → ℕ) (until from : ℕ) (ts us vs : List ℕ) → Climbs from (ts ++ us) →
+    ((x : ℕ) → All (λ t. t ≤ x) ts → middle x ≡ before x + entered until x ts) →
     greatest_at (λ x. middle x + entered until x vs) us ≡ greatest_at (λ x. before x + entered until x (ts ++ vs)) us
 unfolding greatest_at
 later_same before middle until from ts [] vs climbs there = refl
@@ -60,7 +61,8 @@ later_same before middle until from ts (u ∷ us) vs climbs there =
     omega (arith, here, entered-append until u ts vs, later_same before middle until from ts us vs (climbs_without from u ts us climbs) there)
 
 -- the most at the entry of one of them
-pub most_of_two : (before middle : ℕ → ℕ) (until from : ℕ) (ts us : List ℕ) → Climbs from (ts ++ us) → ((x : ℕ) → All (λ t. t ≤ x) ts → middle x ≡ before x + entered until x ts) →
+pub most_of_two : (before middle : ℕ → ℕ) (until from : ℕ) (ts us : List ℕ) → Climbs from (ts ++ us) →
+    ((x : ℕ) → All (λ t. t ≤ x) ts → middle x ≡ before x + entered until x ts) →
     max (max 0 (greatest_at (λ x. before x + entered until x ts) ts)) (greatest_at (λ x. middle x + entered until x us) us)
     ≡ greatest_at (λ x. before x + entered until x (ts ++ us)) (ts ++ us)
 most_of_two before middle until from ts us climbs there =
@@ -74,11 +76,13 @@ most_of_two before middle until from ts us climbs there =
     first_of_two : (before : ℕ → ℕ) (until from : ℕ) (ts us : List ℕ) → Climbs from (ts ++ us) →
         greatest_at (λ x. before x + entered until x (ts ++ us)) ts ≡ greatest_at (λ x. before x + entered until x ts) ts
     first_of_two before until from ts us climbs =
-        greatest_ext (λ x. before x + entered until x (ts ++ us)) (λ x. before x + entered until x ts + entered until x us) ts (λ x. omega (arith, entered-append until x ts us))
+        greatest_ext (λ x. before x + entered until x (ts ++ us)) (λ x. before x + entered until x ts + entered until x us) ts
+        (λ x. omega (arith, entered-append until x ts us))
         ∙ first_same (λ x. before x + entered until x ts) until from ts us climbs
 
 -- and the least that one of them finds
-pub least_of_two : (before middle : ℕ → ℕ) (until from : ℕ) (ts us : List ℕ) → Climbs from (ts ++ us) → ((x : ℕ) → All (λ t. t ≤ x) ts → middle x ≡ before x + entered until x ts) →
+pub least_of_two : (before middle : ℕ → ℕ) (until from : ℕ) (ts us : List ℕ) → Climbs from (ts ++ us) →
+    ((x : ℕ) → All (λ t. t ≤ x) ts → middle x ≡ before x + entered until x ts) →
     least_found middle until 0 (least_found before until 0 None ts) us ≡ least_found before until 0 None (ts ++ us)
 unfolding least_found Rises
 least_of_two before middle until from ts [] climbs there = sym (found-append before until 0 None ts [])

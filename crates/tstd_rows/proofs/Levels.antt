@@ -11,7 +11,8 @@ use Rattle.clock27.proofs.Departures.{last_left-append}
 use Rattle.clock27.proofs.Fullness.{room_law, fullness_before, counted_one}
 use Rattle.tstd_rows.specs.TransportLaws.{EnteredLaw, LevelLaw, MostLaw, Rises}
 
-most_found-append : (step prev : ℕ) (ts us : List ℕ) → most_found step prev (ts ++ us) ≡ max (most_found step prev ts) (most_found step (last_left step prev ts) us)
+most_found-append : (step prev : ℕ) (ts us : List ℕ) →
+    most_found step prev (ts ++ us) ≡ max (most_found step prev ts) (most_found step (last_left step prev ts) us)
 unfolding most_found last_left
 most_found-append step prev [] us = omega arith
 most_found-append step prev (t ∷ ts) us = omega (arith, most_found-append step (max t prev + step) ts us)
@@ -110,7 +111,8 @@ next_later step t u prev ts pos le few = elim (cases_lt t u) [
       absurd (omega (arith, more, few))
 ]
 
-most_reached : (step : ℕ) → 0 < step → (t : ℕ) (ts : List ℕ) (prev from : ℕ) → Rises from (t ∷ ts) → Found step prev from (most_found step prev (t ∷ ts)) (t ∷ ts)
+most_reached : (step : ℕ) → 0 < step → (t : ℕ) (ts : List ℕ) (prev from : ℕ) → Rises from (t ∷ ts) →
+    Found step prev from (most_found step prev (t ∷ ts)) (t ∷ ts)
 unfolding Rises most_found departures fullness
 most_reached step pos t [] prev from rises =
     let same : t ≤ t = omega arith in

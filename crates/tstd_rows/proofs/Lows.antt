@@ -1,5 +1,6 @@
 -- The least that the bytes of a part of a stream find in the main buffer is its least fullness meanwhile.
-use Rattle.std.proofs.Common.{◌≡◌, sym, ℕ, zero, suc, ◌+◌, ◌*◌, ◌≤◌, ◌<◌, min, ◌⊎◌, List, [], ◌∷◌, ◌++◌, length, Option, Some, None, refl, ap, inl, inr, arith, All}
+use Rattle.std.proofs.Common.{◌≡◌, sym, ℕ, zero, suc, ◌+◌, ◌*◌, ◌≤◌, ◌<◌, min, ◌⊎◌, List, [], ◌∷◌, ◌++◌, length, Option, Some, None, refl, ap, inl, inr, arith}
+use Rattle.std.proofs.Common.{All}
 use Rattle.std.proofs.Math.Nat.{le_trans}
 use Rattle.std.proofs.lemmas.Bool.{cases_lt, lt-ltb, le-ltb}
 use Rattle.std.proofs.lemmas.List.Elements.{All-nil, All-cons, All-append, All-head, All-tail, All-weaker}
@@ -146,13 +147,15 @@ never_less step x n (Carries ts ∷ recent) before is all late =
         All (λ d. d ≤ x) (payload_left step (recent ++ before)) → least_of_both (least_of step recent before) row ≡ Some n →
         n ≤ main_fullness step (recent ++ before) x + entered (until_of (recent ++ before)) x (left_after step (recent ++ before) ts)
     by_row None e late there is =
-        absurd (late (none_found (λ d. d ≤ x) (main_fullness step (recent ++ before)) (until_of (recent ++ before)) 0 (left_after step (recent ++ before) ts) e))
+        absurd (late (none_found (λ d. d ≤ x) (main_fullness step (recent ++ before)) (until_of (recent ++ before)) 0 (left_after step (recent ++ before) ts)
+        e))
     by_row (Some r) e late there is =
         let row = row_never (main_fullness step (recent ++ before)) (until_of (recent ++ before)) 0 x r None (left_after step (recent ++ before) ts)
         (λ y le. falls step (recent ++ before) x y there le) late e in
         omega (arith, row, both_some (least_of step recent before) r n is)
 
-    by_first : (first : Option ℕ) → least_of step recent before ≡ first → ((m : ℕ) → first ≡ Some m → m ≤ main_fullness step (recent ++ before) x) → (All (λ d. d ≤ x) (payload_left step (recent ++ before)) → ⊥) →
+    by_first : (first : Option ℕ) → least_of step recent before ≡ first → ((m : ℕ) → first ≡ Some m → m ≤ main_fullness step (recent ++ before) x) →
+        (All (λ d. d ≤ x) (payload_left step (recent ++ before)) → ⊥) →
         least_of_both first (row_least step (recent ++ before) ts) ≡ Some n →
         n ≤ main_fullness step (recent ++ before) x + entered (until_of (recent ++ before)) x (left_after step (recent ++ before) ts)
     by_first None e low not_all is = absurd (not_all (no_payload (λ d. d ≤ x) step recent before e all))

@@ -99,7 +99,8 @@ fast_room step size prev from pace parts (suc a) first pos some part fast e room
     let last : a * (step * parts - pace) < from + (size - 1) * step * parts + 1 - first * parts = room a (omega arith) in
     let sum = gain_fast step pace parts a fast in
     let le : (first + a * step) * parts ≤ from + a * pace + (size - 1) * step * parts = omega (arith, last, sum) in
-    let near : first + a * step ≤ (from + a * pace) / parts + (size - 1) * step = parts_more (from + a * pace) (first + a * step) parts ((size - 1) * step) part le in
+    let near : first + a * step ≤ (from + a * pace) / parts + (size - 1) * step =
+    parts_more (from + a * pace) (first + a * step) parts ((size - 1) * step) part le in
     let few = room_found step size (first + a * step) ((from + a * pace) / parts) pos some near in
     let k : suc a - 1 ≡ a = omega arith in
     let most = row_most_fast step prev from pace parts (suc a) first pos part fast (omega arith) e in

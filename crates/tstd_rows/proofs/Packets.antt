@@ -1,5 +1,6 @@
 -- A packet enters: its first bytes, the rest of its header, the begin of a unit, and its payload, one after another.
-use Rattle.std.proofs.Common.{◌≡◌, ◌∙◌, sym, ℕ, ◌+◌, ◌-◌, ◌*◌, ◌≤◌, ◌<◌, max, ◌&&◌, nat_le, nat_lt, Bool, true, false, List, ◌++◌, Option, None, refl, subst, ap, arith}
+use Rattle.std.proofs.Common.{◌≡◌, ◌∙◌, sym, ℕ, ◌+◌, ◌-◌, ◌*◌, ◌≤◌, ◌<◌, max, ◌&&◌, nat_le, nat_lt, Bool, true, false, List, ◌++◌, Option, None, refl, subst}
+use Rattle.std.proofs.Common.{ap, arith}
 use Rattle.std.proofs.lemmas.Bool.Decides.{nat_tests}
 use Rattle.std.specs.Option.{option_to_list}
 use Rattle.arrival.specs.declared.arrival.Arrival.{Arrival}
@@ -17,7 +18,9 @@ use Rattle.tstd_rows.specs.declared.stream_buffers.StreamBuffers.{StreamBuffers}
 use Rattle.tstd_rows.specs.Held.{Held, IsHeld, begun, unit_before}
 use Rattle.tstd_rows.specs.HeldVideo.{HoldsVideoOf, VideoEnteredView, VideoSizes}
 use Rattle.tstd_rows.specs.EnteringVideo.{bytes_video, unit_with, video_first, video_first_of, video_unit_ended, video_unit_of}
-use Rattle.tstd_rows.specs.Entering.{EnteredView, after_begin, after_bytes, after_first, after_header, after_lead, after_part, after_unit, bytes_main, bytes_main_least, bytes_main_most, bytes_transport, bytes_transport_most, ended_first, ended_part, entered_first, entered_part, entered_view, lead_in, size_of, takes_in, takes_part, unit_ended, with_first}
+use Rattle.tstd_rows.specs.Entering.{EnteredView, after_begin, after_bytes, after_first, after_header, after_lead, after_part, after_unit, bytes_main}
+use Rattle.tstd_rows.specs.Entering.{bytes_main_least, bytes_main_most, bytes_transport, bytes_transport_most, ended_first, ended_part, entered_first}
+use Rattle.tstd_rows.specs.Entering.{entered_part, entered_view, lead_in, size_of, takes_in, takes_part, unit_ended, with_first}
 use Rattle.tstd_rows.proofs.Rows.{bytes_held}
 
 -- bytes among others that have times
@@ -47,7 +50,8 @@ entered_in : (h : Held) (arrival : Arrival) (p : Arriving) (count : ℕ) → tak
 unfolding entered_first
 entered_in h arrival p count e = rw e refl
 
-pub packet_held : (b0 b1 b2 b3 b4 : StreamBuffers) (h : Held) (arrival : Arrival) (p : Arriving) (size lead count : ℕ) → IsHeld b0 h → takes_in h arrival p ≡ true →
+pub packet_held : (b0 b1 b2 b3 b4 : StreamBuffers) (h : Held) (arrival : Arrival) (p : Arriving) (size lead count : ℕ) → IsHeld b0 h →
+    takes_in h arrival p ≡ true →
     size ≡ size_of p → lead ≡ lead_in arrival p →
     ((h : Held) → IsHeld b0 h → IsHeld b1 (after_lead h arrival p lead)) →
     ((h : Held) → IsHeld b1 h → IsHeld b2 (after_bytes h arrival false (188 * p.index + lead) (188 - size - lead))) →
@@ -59,18 +63,30 @@ packet_held b0 b1 b2 b3 b4 h arrival p size lead count k takes same same' first 
     let passed = header (after_lead h arrival p lead) led in
     let begun = begin (after_header h arrival p size lead) passed in
     let held : IsHeld b4 (with_first h arrival p size lead count) = payload (after_unit h arrival p size lead) begun in
-    subst (IsHeld b4) (ap (λ (n : ℕ). with_first h arrival p n lead count) same ∙ ap (λ (n : ℕ). with_first h arrival p (size_of p) n count) same' ∙ after_in h arrival p count takes) held
+    subst (IsHeld b4) (ap (λ (n : ℕ). with_first h arrival p n lead count) same ∙ ap (λ (n : ℕ). with_first h arrival p (size_of p) n count) same'
+    ∙ after_in h arrival p count takes) held
 
-same_view : (e : Entered) (lead header payload main : List Excess) (unit : Option UnitSeen) (most main_most : ℕ) (least : Option ℕ) → option_to_list e.lead ≡ lead →
-    option_to_list e.header ≡ header → option_to_list e.payload ≡ payload → option_to_list e.main ≡ main → e.unit ≡ unit → e.transport_most ≡ most → e.main_most ≡ main_most → e.main_least ≡ least →
-    entered_view e ≡ record { transport = lead ++ (header ++ payload); main = main; unit = unit; transport_most = most; main_most = main_most; main_least = least }
+same_view : (e : Entered) (lead header payload main : List Excess) (unit : Option UnitSeen) (most main_most : ℕ) (least : Option ℕ) →
+    option_to_list e.lead ≡ lead →
+    option_to_list e.header ≡ header → option_to_list e.payload ≡ payload → option_to_list e.main ≡ main → e.unit ≡ unit → e.transport_most ≡ most →
+    e.main_most ≡ main_most → e.main_least ≡ least →
+    entered_view e ≡ record {
+      transport = lead ++ (header ++ payload);
+      main = main;
+      unit = unit;
+      transport_most = most;
+      main_most = main_most;
+      main_least =
+          least;
+    }
 same_view e lead header payload main unit most main_most least p q r s t u v w = rw (p, q, r, s, t, u, v, w) refl
 
 same_most : (a b c d x y z : ℕ) → d ≡ max (max a b) c → a ≡ x → b ≡ y → c ≡ z → d ≡ max (max x y) z
 same_most a b c d x y z is p q r = rw (sym p, sym q, sym r) is
 
 -- what the parts of a packet are found to have ended, and to have held
-pub record Parts (b0 b1 b2 b3 : StreamBuffers) (arrival : Arrival) (p : Arriving) (e : Entered) (size front count front_most header_most payload_most : ℕ) : Type 0 where
+pub record Parts (b0 b1 b2 b3 : StreamBuffers) (arrival : Arrival) (p : Arriving) (e : Entered)
+    (size front count front_most header_most payload_most : ℕ) : Type 0 where
   pub first : (h : Held) → IsHeld b0 h → IsHeld b1 (after_lead h arrival p front)
   pub lead : (h : Held) → IsHeld b0 h → option_to_list e.lead ≡ bytes_transport h arrival (188 * p.index) front
   pub lead_found : (h : Held) → IsHeld b0 h → front_most ≡ bytes_transport_most h arrival (188 * p.index) front
@@ -86,8 +102,10 @@ pub record Parts (b0 b1 b2 b3 : StreamBuffers) (arrival : Arrival) (p : Arriving
   pub least_found : (h : Held) → IsHeld b3 h → e.main_least ≡ bytes_main_least h arrival p.enters (188 * p.index + (188 - size)) count
   pub most : e.transport_most ≡ max (max front_most header_most) payload_most
 
-pub packet_entered : (b0 b1 b2 b3 : StreamBuffers) (h : Held) (arrival : Arrival) (p : Arriving) (e : Entered) (size lead count lead_most header_most payload_most : ℕ) → IsHeld b0 h →
-    takes_in h arrival p ≡ true → size ≡ size_of p → lead ≡ lead_in arrival p → Parts b0 b1 b2 b3 arrival p e size lead count lead_most header_most payload_most →
+pub packet_entered : (b0 b1 b2 b3 : StreamBuffers) (h : Held) (arrival : Arrival) (p : Arriving) (e : Entered)
+    (size lead count lead_most header_most payload_most : ℕ) → IsHeld b0 h →
+    takes_in h arrival p ≡ true → size ≡ size_of p → lead ≡ lead_in arrival p →
+    Parts b0 b1 b2 b3 arrival p e size lead count lead_most header_most payload_most →
     entered_view e ≡ entered_first h arrival p count
 packet_entered b0 b1 b2 b3 h arrival p e size lead count lead_most header_most payload_most k takes same same' parts =
     let led = parts.first h k in
@@ -97,9 +115,11 @@ packet_entered b0 b1 b2 b3 h arrival p e size lead count lead_most header_most p
     (parts.lead_found h k) (parts.header_found (after_lead h arrival p lead) led) (parts.payload_found (after_unit h arrival p size lead) begun) in
     let view : entered_view e ≡ ended_first h arrival p size lead count =
     same_view e _ _ _ _ _ _ _ _ (parts.lead h k) (parts.header (after_lead h arrival p lead) led) (parts.transport (after_unit h arrival p size lead) begun)
-    (parts.main (after_unit h arrival p size lead) begun) (parts.unit (after_header h arrival p size lead) passed) most (parts.main_found (after_unit h arrival p size lead) begun)
+    (parts.main (after_unit h arrival p size lead) begun) (parts.unit (after_header h arrival p size lead) passed) most
+    (parts.main_found (after_unit h arrival p size lead) begun)
     (parts.least_found (after_unit h arrival p size lead) begun) in
-    view ∙ ap (λ (n : ℕ). ended_first h arrival p n lead count) same ∙ ap (λ (n : ℕ). ended_first h arrival p (size_of p) n count) same' ∙ entered_in h arrival p count takes
+    view ∙ ap (λ (n : ℕ). ended_first h arrival p n lead count) same ∙ ap (λ (n : ℕ). ended_first h arrival p (size_of p) n count) same'
+    ∙ entered_in h arrival p count takes
 
 -- up to the payload: what the buffers hold, and those of video
 pub record Steps (b0 b1 b2 b3 : StreamBuffers) (arrival : Arrival) (p : Arriving) (size lead : ℕ) : Type 0 where
@@ -112,9 +132,11 @@ pub record Steps (b0 b1 b2 b3 : StreamBuffers) (arrival : Arrival) (p : Arriving
   pub begin_video : (h : Held) (sizes : Option VideoSizes) → IsHeld b2 h → HoldsVideoOf b2 sizes h → HoldsVideoOf b3 sizes (after_begin h p.begins)
 
 -- and what the buffers of video hold after it
-pub packet_video : (b0 b1 b2 b3 b4 : StreamBuffers) (sizes : Option VideoSizes) (h : Held) (arrival : Arrival) (p : Arriving) (size lead count : ℕ) → IsHeld b0 h → HoldsVideoOf b0 sizes h →
+pub packet_video : (b0 b1 b2 b3 b4 : StreamBuffers) (sizes : Option VideoSizes) (h : Held) (arrival : Arrival) (p : Arriving) (size lead count : ℕ) →
+    IsHeld b0 h → HoldsVideoOf b0 sizes h →
     takes_in h arrival p ≡ true → size ≡ size_of p → lead ≡ lead_in arrival p → Steps b0 b1 b2 b3 arrival p size lead →
-    ((h : Held) (sizes : Option VideoSizes) → IsHeld b3 h → HoldsVideoOf b3 sizes h → HoldsVideoOf b4 sizes (after_bytes h arrival p.enters (188 * p.index + (188 - size)) count)) →
+    ((h : Held) (sizes : Option VideoSizes) → IsHeld b3 h → HoldsVideoOf b3 sizes h →
+    HoldsVideoOf b4 sizes (after_bytes h arrival p.enters (188 * p.index + (188 - size)) count)) →
     HoldsVideoOf b4 sizes (after_first h arrival p count)
 packet_video b0 b1 b2 b3 b4 sizes h arrival p size lead count k v takes same same' steps payload_video =
     let led = steps.first h k in
@@ -124,21 +146,25 @@ packet_video b0 b1 b2 b3 b4 sizes h arrival p size lead count k v takes same sam
     let begun = steps.begin (after_header h arrival p size lead) passed in
     let begun_video = steps.begin_video (after_header h arrival p size lead) sizes passed passed_video in
     let held : HoldsVideoOf b4 sizes (with_first h arrival p size lead count) = payload_video (after_unit h arrival p size lead) sizes begun begun_video in
-    subst (HoldsVideoOf b4 sizes) (ap (λ (n : ℕ). with_first h arrival p n lead count) same ∙ ap (λ (n : ℕ). with_first h arrival p (size_of p) n count) same' ∙ after_in h arrival p count takes) held
+    subst (HoldsVideoOf b4 sizes) (ap (λ (n : ℕ). with_first h arrival p n lead count) same ∙ ap (λ (n : ℕ). with_first h arrival p (size_of p) n count) same'
+    ∙ after_in h arrival p count takes) held
 
 video_in : (sizes : Option VideoSizes) (h : Held) (arrival : Arrival) (p : Arriving) (count : ℕ) → takes_in h arrival p ≡ true →
     video_first sizes h arrival p (size_of p) (lead_in arrival p) count ≡ video_first_of sizes h arrival p count
 unfolding video_first_of
 video_in sizes h arrival p count e = rw e refl
 
-unit_in : (sizes : Option VideoSizes) (h : Held) (arrival : Arrival) (p : Arriving) → takes_in h arrival p ≡ true → unit_with sizes h arrival p (size_of p) (lead_in arrival p) ≡ video_unit_of sizes h arrival p
+unit_in : (sizes : Option VideoSizes) (h : Held) (arrival : Arrival) (p : Arriving) → takes_in h arrival p ≡ true →
+    unit_with sizes h arrival p (size_of p) (lead_in arrival p) ≡ video_unit_of sizes h arrival p
 unfolding video_unit_of
 unit_in sizes h arrival p e = rw e refl
 
 -- and what it has ended in them
-pub packet_video_entered : (b0 b1 b2 b3 : StreamBuffers) (sizes : Option VideoSizes) (h : Held) (arrival : Arrival) (p : Arriving) (size lead count : ℕ) (found : VideoEnteredView) → IsHeld b0 h →
+pub packet_video_entered : (b0 b1 b2 b3 : StreamBuffers) (sizes : Option VideoSizes) (h : Held) (arrival : Arrival) (p : Arriving) (size lead count : ℕ)
+    (found : VideoEnteredView) → IsHeld b0 h →
     HoldsVideoOf b0 sizes h → takes_in h arrival p ≡ true → size ≡ size_of p → lead ≡ lead_in arrival p → Steps b0 b1 b2 b3 arrival p size lead →
-    ((h : Held) (sizes : Option VideoSizes) → IsHeld b3 h → HoldsVideoOf b3 sizes h → found ≡ bytes_video sizes h arrival p.enters (188 * p.index + (188 - size)) count) →
+    ((h : Held) (sizes : Option VideoSizes) → IsHeld b3 h → HoldsVideoOf b3 sizes h →
+    found ≡ bytes_video sizes h arrival p.enters (188 * p.index + (188 - size)) count) →
     found ≡ video_first_of sizes h arrival p count
 packet_video_entered b0 b1 b2 b3 sizes h arrival p size lead count found k v takes same same' steps payload =
     let led = steps.first h k in
@@ -148,22 +174,27 @@ packet_video_entered b0 b1 b2 b3 sizes h arrival p size lead count found k v tak
     let begun = steps.begin (after_header h arrival p size lead) passed in
     let begun_video = steps.begin_video (after_header h arrival p size lead) sizes passed passed_video in
     payload (after_unit h arrival p size lead) sizes begun begun_video
-    ∙ ap (λ (n : ℕ). video_first sizes h arrival p n lead count) same ∙ ap (λ (n : ℕ). video_first sizes h arrival p (size_of p) n count) same' ∙ video_in sizes h arrival p count takes
+    ∙ ap (λ (n : ℕ). video_first sizes h arrival p n lead count) same ∙ ap (λ (n : ℕ). video_first sizes h arrival p (size_of p) n count) same'
+    ∙ video_in sizes h arrival p count takes
 
-pub packet_video_unit : (b0 b1 b2 b3 : StreamBuffers) (sizes : Option VideoSizes) (h : Held) (arrival : Arrival) (p : Arriving) (size lead : ℕ) (unit : Option VideoUnit) → IsHeld b0 h →
+pub packet_video_unit : (b0 b1 b2 b3 : StreamBuffers) (sizes : Option VideoSizes) (h : Held) (arrival : Arrival) (p : Arriving) (size lead : ℕ)
+    (unit : Option VideoUnit) → IsHeld b0 h →
     HoldsVideoOf b0 sizes h → takes_in h arrival p ≡ true → size ≡ size_of p → lead ≡ lead_in arrival p → Steps b0 b1 b2 b3 arrival p size lead →
-    ((h : Held) (sizes : Option VideoSizes) → IsHeld b2 h → HoldsVideoOf b2 sizes h → unit ≡ video_unit_ended sizes h p.begins) → unit ≡ video_unit_of sizes h arrival p
+    ((h : Held) (sizes : Option VideoSizes) → IsHeld b2 h → HoldsVideoOf b2 sizes h → unit ≡ video_unit_ended sizes h p.begins) →
+    unit ≡ video_unit_of sizes h arrival p
 packet_video_unit b0 b1 b2 b3 sizes h arrival p size lead unit k v takes same same' steps ends =
     let led = steps.first h k in
     let led_video = steps.first_video h sizes k v in
     let passed = steps.header (after_lead h arrival p lead) led in
     let passed_video = steps.header_video (after_lead h arrival p lead) sizes led led_video in
     ends (after_header h arrival p size lead) sizes passed passed_video
-    ∙ ap (λ (n : ℕ). unit_with sizes h arrival p n lead) same ∙ ap (λ (n : ℕ). unit_with sizes h arrival p (size_of p) n) same' ∙ unit_in sizes h arrival p takes
+    ∙ ap (λ (n : ℕ). unit_with sizes h arrival p n lead) same ∙ ap (λ (n : ℕ). unit_with sizes h arrival p (size_of p) n) same'
+    ∙ unit_in sizes h arrival p takes
 
 -- ---- an access unit that begins within a payload
 
-pub part_taken : (b : StreamBuffers) (h : Held) (arrival : Arrival) (p : UnitPart) → IsHeld b h → p.byte ≤ last_bytes → b.view.transport.bytes ≤ last_bytes → p.size ≤ 188 →
+pub part_taken : (b : StreamBuffers) (h : Held) (arrival : Arrival) (p : UnitPart) → IsHeld b h → p.byte ≤ last_bytes → b.view.transport.bytes ≤ last_bytes →
+    p.size ≤ 188 →
     has_times arrival p.byte p.size ≡ true → takes_part h arrival p ≡ true
 part_taken b h arrival p k early few short times =
     let bytes : (transport_of h.rate h.parts).bytes ≤ last_bytes = omega (arith, bytes_held b h k, few) in
@@ -172,7 +203,8 @@ part_taken b h arrival p k early few short times =
     by_tests : (a b c d : ℕ) (e : Bool) → a ≤ c → b ≤ c → d ≤ 188 → e ≡ true → (nat_le a c && nat_le b c && (nat_le d 188 && e)) ≡ true
     by_tests a b c d e first second third is = rw is (grind (arith, nat_tests))
 
-part_after : (h : Held) (arrival : Arrival) (p : UnitPart) → takes_part h arrival p ≡ true → after_bytes (begun h p.due) arrival true p.byte p.size ≡ after_part h arrival p
+part_after : (h : Held) (arrival : Arrival) (p : UnitPart) → takes_part h arrival p ≡ true →
+    after_bytes (begun h p.due) arrival true p.byte p.size ≡ after_part h arrival p
 unfolding after_part
 part_after h arrival p e = rw e refl
 
@@ -181,10 +213,12 @@ unfolding entered_part
 part_found h arrival p e = rw e refl
 
 pub part_held : (b b' b'' : StreamBuffers) (h : Held) (arrival : Arrival) (p : UnitPart) → IsHeld b h → takes_part h arrival p ≡ true →
-    ((h : Held) → IsHeld b h → IsHeld b' (begun h p.due)) → ((h : Held) → IsHeld b' h → IsHeld b'' (after_bytes h arrival true p.byte p.size)) → IsHeld b'' (after_part h arrival p)
+    ((h : Held) → IsHeld b h → IsHeld b' (begun h p.due)) → ((h : Held) → IsHeld b' h → IsHeld b'' (after_bytes h arrival true p.byte p.size)) →
+    IsHeld b'' (after_part h arrival p)
 part_held b b' b'' h arrival p k takes begin payload = subst (IsHeld b'') (part_after h arrival p takes) (payload (begun h p.due) (begin h k))
 
-pub part_video : (b b' b'' : StreamBuffers) (sizes : Option VideoSizes) (h : Held) (arrival : Arrival) (p : UnitPart) → IsHeld b h → HoldsVideoOf b sizes h → takes_part h arrival p ≡ true →
+pub part_video : (b b' b'' : StreamBuffers) (sizes : Option VideoSizes) (h : Held) (arrival : Arrival) (p : UnitPart) → IsHeld b h → HoldsVideoOf b sizes h →
+    takes_part h arrival p ≡ true →
     ((h : Held) → IsHeld b h → IsHeld b' (begun h p.due)) →
     ((h : Held) (sizes : Option VideoSizes) → IsHeld b h → HoldsVideoOf b sizes h → HoldsVideoOf b' sizes (begun h p.due)) →
     ((h : Held) (sizes : Option VideoSizes) → IsHeld b' h → HoldsVideoOf b' sizes h → HoldsVideoOf b'' sizes (after_bytes h arrival true p.byte p.size)) →
@@ -192,22 +226,44 @@ pub part_video : (b b' b'' : StreamBuffers) (sizes : Option VideoSizes) (h : Hel
 part_video b b' b'' sizes h arrival p k v takes begin begin_video payload =
     subst (HoldsVideoOf b'' sizes) (part_after h arrival p takes) (payload (begun h p.due) sizes (begin h k) (begin_video h sizes k v))
 
-same_part : (lead header payload main : Option Excess) (unit before : Option UnitSeen) (most main_most m n : ℕ) (least l : Option ℕ) (transport mains : List Excess) → lead ≡ None → header ≡ None →
+same_part : (lead header payload main : Option Excess) (unit before : Option UnitSeen) (most main_most m n : ℕ) (least l : Option ℕ)
+    (transport mains : List Excess) → lead ≡ None → header ≡ None →
     option_to_list payload ≡ transport → option_to_list main ≡ mains → unit ≡ before → most ≡ m → main_most ≡ n → least ≡ l →
     ◌≡◌ {A = EnteredView}
-    (record { transport = option_to_list lead ++ (option_to_list header ++ option_to_list payload); main = option_to_list main; unit = unit; transport_most = most; main_most = main_most; main_least = least })
+    (record {
+      transport = option_to_list lead ++ (option_to_list header ++ option_to_list payload);
+      main = option_to_list main;
+      unit = unit;
+      transport_most =
+          most;
+      main_most = main_most;
+      main_least = least;
+    })
     (record { transport = transport; main = mains; unit = before; transport_most = m; main_most = n; main_least = l })
 same_part lead header payload main unit before most main_most m n least l transport mains a b c d e f g i = rw (a, b, c, d, e, f, g, i) refl
 
-pub part_entered : (b b' : StreamBuffers) (h : Held) (arrival : Arrival) (p : UnitPart) (lead header payload main : Option Excess) (unit : Option UnitSeen) (most main_most : ℕ) (least : Option ℕ) →
+pub part_entered : (b b' : StreamBuffers) (h : Held) (arrival : Arrival) (p : UnitPart) (lead header payload main : Option Excess) (unit : Option UnitSeen)
+    (most main_most : ℕ) (least : Option ℕ) →
     IsHeld b h → takes_part h arrival p ≡ true → lead ≡ None → header ≡ None → ((h : Held) → IsHeld b h → IsHeld b' (begun h p.due)) →
     ((h : Held) → IsHeld b h → unit ≡ unit_before h) → ((h : Held) → IsHeld b' h → option_to_list payload ≡ bytes_transport h arrival p.byte p.size) →
-    ((h : Held) → IsHeld b' h → option_to_list main ≡ bytes_main h arrival true p.byte p.size) → ((h : Held) → IsHeld b' h → most ≡ bytes_transport_most h arrival p.byte p.size) →
-    ((h : Held) → IsHeld b' h → main_most ≡ bytes_main_most h arrival true p.byte p.size) → ((h : Held) → IsHeld b' h → least ≡ bytes_main_least h arrival true p.byte p.size) →
-    record { transport = option_to_list lead ++ (option_to_list header ++ option_to_list payload); main = option_to_list main; unit = unit; transport_most = most; main_most = main_most; main_least = least }
+    ((h : Held) → IsHeld b' h → option_to_list main ≡ bytes_main h arrival true p.byte p.size) →
+    ((h : Held) → IsHeld b' h → most ≡ bytes_transport_most h arrival p.byte p.size) →
+    ((h : Held) → IsHeld b' h → main_most ≡ bytes_main_most h arrival true p.byte p.size) →
+    ((h : Held) → IsHeld b' h → least ≡ bytes_main_least h arrival true p.byte p.size) →
+    record {
+      transport = option_to_list lead ++ (option_to_list header ++ option_to_list payload);
+      main = option_to_list main;
+      unit = unit;
+      transport_most =
+          most;
+      main_most = main_most;
+      main_least = least;
+    }
     ≡ entered_part h arrival p
-part_entered b b' h arrival p lead header payload main unit most main_most least k takes no_lead no_header begin before transport mains found main_found least_found =
+part_entered b b' h arrival p lead header payload main unit most main_most least k takes no_lead no_header begin before transport mains found main_found
+    least_found =
     let h' : Held = begun h p.due in
     let k' = begin h k in
-    same_part lead header payload main unit (unit_before h) most main_most _ _ least _ _ _ no_lead no_header (transport h' k') (mains h' k') (before h k) (found h' k') (main_found h' k') (least_found h' k')
+    same_part lead header payload main unit (unit_before h) most main_most _ _ least _ _ _ no_lead no_header (transport h' k') (mains h' k') (before h k)
+    (found h' k') (main_found h' k') (least_found h' k')
     ∙ part_found h arrival p takes

@@ -1,5 +1,6 @@
 -- Bytes that enter a main buffer while none leaves it, and bytes that come too late.
-use Rattle.std.proofs.Common.{◌≡◌, ◌∙◌, sym, ℕ, zero, suc, ◌+◌, ◌-◌, ◌*◌, ◌/◌, ◌≤◌, ◌<◌, max, cond, List, [], ◌∷◌, ◌++◌, length, refl, ap, inl, inr, arith, All, true}
+use Rattle.std.proofs.Common.{◌≡◌, ◌∙◌, sym, ℕ, zero, suc, ◌+◌, ◌-◌, ◌*◌, ◌/◌, ◌≤◌, ◌<◌, max, cond, List, [], ◌∷◌, ◌++◌, length, refl, ap, inl, inr, arith, All}
+use Rattle.std.proofs.Common.{true}
 use Rattle.std.proofs.Math.Seq.{take-append_seam, drop-append_seam}
 use Rattle.std.proofs.lemmas.Bool.{cases_lt, lt-ltb, le-ltb}
 use Rattle.std.proofs.lemmas.Bool.Decides.{nat_tests}
@@ -144,9 +145,11 @@ entered_together before until limit peak now (t ∷ ts) us from rises le within 
     let after : ℕ → ℕ = λ x. before x + one_buffered until x in
     let peak' : ℕ = max peak (before t + one_buffered until t) in
     let rest = entered_together after until limit peak' (now + 1) ts us t rises.1 (omega (arith, here, one)) within
-    (λ x low high. omega (arith, same x (omega (arith, low, rises.0)) high, there_one until x (omega (arith, high, within)))) (All-tail (λ t. t < limit) t ts all) in
+    (λ x low high. omega (arith, same x (omega (arith, low, rises.0)) high, there_one until x (omega (arith, high, within))))
+    (All-tail (λ t. t < limit) t ts all) in
     let first = entered_one before after until peak peak' t (ts ++ us) rises.1 (λ x low. refl) refl in
-    let ext = greatest_ext (λ x. before x + suc (length ts) * one_buffered until x + entered until x us) (λ x. after x + length ts * one_buffered until x + entered until x us) us (λ x. omega arith) in
+    let ext = greatest_ext (λ x. before x + suc (length ts) * one_buffered until x + entered until x us)
+    (λ x. after x + length ts * one_buffered until x + entered until x us) us (λ x. omega arith) in
     omega (arith, rest, first, ext, here, one)
 
 -- ---- a piece of a row: its first byte, and those that enter with it
@@ -160,7 +163,8 @@ pub piece_peak : (before after after' : ℕ → ℕ) (until limit peak peak' pea
 piece_peak before after after' until limit peak peak' peak'' now t ts us rises within early there most same all more most' =
     let here : now ≤ peak' = omega (arith, there t (omega arith), most, same t early) in
     let together = entered_together after until limit peak' now ts us t rises here within (λ x low high. same x high) all in
-    let ext = greatest_ext (λ x. after' x + entered until x us) (λ x. after x + length ts * one_buffered until x + entered until x us) us (λ x. omega (arith, more x)) in
+    let ext = greatest_ext (λ x. after' x + entered until x us) (λ x. after x + length ts * one_buffered until x + entered until x us) us
+    (λ x. omega (arith, more x)) in
     let one = entered_one before after until peak peak' t (ts ++ us) rises there most in
     omega (arith, together, ext, one, most')
 

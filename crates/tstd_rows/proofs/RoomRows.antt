@@ -1,5 +1,6 @@
 -- Bytes that go to the elementary stream buffer, and the times at which it has room for those that come next.
-use Rattle.std.proofs.Common.{◌≡◌, ◌∙◌, sym, ℕ, zero, suc, ◌+◌, ◌-◌, ◌*◌, ◌<◌, ◌≤◌, ◌^◌, max, min, List, [], ◌∷◌, ◌++◌, length, replicate, take, drop, append_assoc, slice_index_or, refl, ap, ap₂, arith}
+use Rattle.std.proofs.Common.{◌≡◌, ◌∙◌, sym, ℕ, zero, suc, ◌+◌, ◌-◌, ◌*◌, ◌<◌, ◌≤◌, ◌^◌, max, min, List, [], ◌∷◌, ◌++◌, length, replicate, take, drop}
+use Rattle.std.proofs.Common.{append_assoc, slice_index_or, refl, ap, ap₂, arith}
 use Rattle.std.proofs.lemmas.List.{append-nil, drop-replicate, take-replicate, length-append, length-replicate, replicate-append-replicate}
 use Rattle.tstd.specs.declared.buffered_units.BufferedUnit.{BufferedUnit}
 use Rattle.clock27.specs.Departure.{last_left}
@@ -23,7 +24,8 @@ gone_none last until leak count none fits = rw none (omega (arith, fits))
 in_turn : (last until leak n : ℕ) → max last until + leak * suc n ≡ max until last + leak + n * leak
 in_turn last until leak n = omega arith
 
-pub gone_some : (last until leak count : ℕ) → 0 < count → min (max last until + leak * count) (2 ^ 128 - 1) ≡ capped (last_left leak last (replicate count until))
+pub gone_some : (last until leak count : ℕ) → 0 < count →
+    min (max last until + leak * count) (2 ^ 128 - 1) ≡ capped (last_left leak last (replicate count until))
 unfolding last_left
 gone_some last until leak zero some = absurd (omega (arith, some))
 gone_some last until leak (suc n) some =
@@ -50,7 +52,8 @@ settled from now free unit current waiting le past =
     let there : replicate unit.bytes unit.until ++ rest ≡ replicate unit.bytes unit.until ++ rooms_waiting waiting ++ replicate current.bytes current.until =
     none_before unit.bytes unit.until (rooms_waiting waiting) (replicate current.bytes current.until) in
     ap (raised from) both
-    ∙ raised_after from (replicate unit.bytes 0 ++ rest) (replicate unit.bytes unit.until ++ rest) (replicate free 0) (λ a more. raised_past a now unit.until unit.bytes rest (omega (arith, le, more)) past)
+    ∙ raised_after from (replicate unit.bytes 0 ++ rest) (replicate unit.bytes unit.until ++ rest) (replicate free 0)
+    (λ a more. raised_past a now unit.until unit.bytes rest (omega (arith, le, more)) past)
     ∙ ap (λ (l : List ℕ). raised from (replicate free 0 ++ l)) there
 
 pub as_many_settled : (free : ℕ) (unit current : BufferedUnit) (waiting : List BufferedUnit) →
@@ -59,8 +62,10 @@ unfolding rooms_waiting
 as_many_settled free unit current waiting =
     let rest : List ℕ = rooms_waiting waiting ++ replicate current.bytes current.until in
     let left = length-append (replicate (free + unit.bytes) 0) rest ∙ ap (λ (n : ℕ). n + length rest) (length-replicate (free + unit.bytes) 0) in
-    let there = ap (λ (l : List ℕ). length (replicate free 0 ++ l)) (sym (none_before unit.bytes unit.until (rooms_waiting waiting) (replicate current.bytes current.until))) in
-    let right = length-append (replicate free 0) (replicate unit.bytes unit.until ++ rest) ∙ ap (λ (n : ℕ). n + length (replicate unit.bytes unit.until ++ rest)) (length-replicate free 0) in
+    let there = ap (λ (l : List ℕ). length (replicate free 0 ++ l))
+    (sym (none_before unit.bytes unit.until (rooms_waiting waiting) (replicate current.bytes current.until))) in
+    let right = length-append (replicate free 0) (replicate unit.bytes unit.until ++ rest)
+    ∙ ap (λ (n : ℕ). n + length (replicate unit.bytes unit.until ++ rest)) (length-replicate free 0) in
     let more = length-append (replicate unit.bytes unit.until) rest ∙ ap (λ (n : ℕ). n + length rest) (length-replicate unit.bytes unit.until) in
     omega (arith, left, there, right, more)
 
@@ -76,13 +81,16 @@ at_least free waiting current =
     omega (arith, len)
 
 -- it joins those for which there is room
-pub joined_fits : (free most : ℕ) (unit current : BufferedUnit) (items : List BufferedUnit) → 0 < length items → unit ≡ slice_index_or items 0 unit → length (rooms_in free items current) < most →
+pub joined_fits : (free most : ℕ) (unit current : BufferedUnit) (items : List BufferedUnit) → 0 < length items → unit ≡ slice_index_or items 0 unit →
+    length (rooms_in free items current) < most →
     length (rooms_in (free + unit.bytes) (drop 1 items) current) < most
 joined_fits free most unit current items some is fits =
-    let same = as_many_settled free unit current (drop 1 items) ∙ ap (λ (us : List BufferedUnit). length (rooms_in free us current)) (sym (front_of items unit some is)) in
+    let same = as_many_settled free unit current (drop 1 items)
+    ∙ ap (λ (us : List BufferedUnit). length (rooms_in free us current)) (sym (front_of items unit some is)) in
     omega (arith, fits, same)
 
-pub sum_fits : (free most : ℕ) (unit current : BufferedUnit) (items : List BufferedUnit) → 0 < length items → unit ≡ slice_index_or items 0 unit → length (rooms_in free items current) < most →
+pub sum_fits : (free most : ℕ) (unit current : BufferedUnit) (items : List BufferedUnit) → 0 < length items → unit ≡ slice_index_or items 0 unit →
+    length (rooms_in free items current) < most →
     free + unit.bytes < most
 sum_fits free most unit current items some is fits =
     omega (arith, joined_fits free most unit current items some is fits, at_least (free + unit.bytes) (drop 1 items) current)
@@ -126,10 +134,13 @@ taken_all (suc count) (suc free) =
     let e : suc (min count free) ≡ min (suc count) (suc free) = omega arith in
     ap (λ (l : List ℕ). 0 ∷ l) (taken_all count free) ∙ ap (λ (k : ℕ). replicate {A = ℕ} k 0) e
 
-pub free_taken : (leak last count free m : ℕ) → m ≡ min count free → capped (last_left leak last (replicate m 0)) ≡ capped (last_left leak last (take {A = ℕ} count (replicate free 0)))
-free_taken leak last count free m is = ap (λ (l : List ℕ). capped (last_left leak last l)) (ap (λ (k : ℕ). replicate {A = ℕ} k 0) is ∙ sym (taken_all count free))
+pub free_taken : (leak last count free m : ℕ) → m ≡ min count free →
+    capped (last_left leak last (replicate m 0)) ≡ capped (last_left leak last (take {A = ℕ} count (replicate free 0)))
+free_taken leak last count free m is =
+    ap (λ (l : List ℕ). capped (last_left leak last l)) (ap (λ (k : ℕ). replicate {A = ℕ} k 0) is ∙ sym (taken_all count free))
 
-pub fits_free : (size : ℕ) (waiting : List BufferedUnit) → waiting ≡ [] → size < 2 ^ 64 → length (rooms_in size waiting (record { until = 0; bytes = 0 })) < 2 ^ 64
+pub fits_free : (size : ℕ) (waiting : List BufferedUnit) → waiting ≡ [] → size < 2 ^ 64 →
+    length (rooms_in size waiting (record { until = 0; bytes = 0 })) < 2 ^ 64
 fits_free size waiting none fits =
     let len : length (rooms_in size waiting (record { until = 0; bytes = 0 })) ≡ size =
     ap (λ (us : List BufferedUnit). length (rooms_in size us (record { until = 0; bytes = 0 }))) none ∙ ap length (all_free size) ∙ length-replicate size 0 in
@@ -189,8 +200,10 @@ last_gone leak free b until count rest rest' last last1 last2 last3 waiting is i
     let len : count - length {A = ℕ} (replicate free 0) ≡ rest = ap (λ (k : ℕ). count - k) (length-replicate {A = ℕ} free 0) ∙ sym is in
     let few : rest' ≤ b + count = omega (arith, is, is') in
     let inner : take rest (waiting ++ own) ≡ take rest waiting ++ replicate rest' until =
-    take_both rest waiting own ∙ ap (λ (k : ℕ). take rest waiting ++ take k own) (sym is') ∙ ap (λ (l : List ℕ). take rest waiting ++ l) (take-replicate rest' (b + count) until few) in
-    let all : take count ((replicate free 0 ++ (waiting ++ replicate b until)) ++ replicate count until) ≡ firsts ++ (take rest waiting ++ replicate rest' until) =
+    take_both rest waiting own ∙ ap (λ (k : ℕ). take rest waiting ++ take k own) (sym is')
+    ∙ ap (λ (l : List ℕ). take rest waiting ++ l) (take-replicate rest' (b + count) until few) in
+    let all : take count ((replicate free 0 ++ (waiting ++ replicate b until)) ++ replicate count until) ≡ firsts
+    ++ (take rest waiting ++ replicate rest' until) =
     ap (take count) (spread free b until count waiting) ∙ take_both count (replicate free 0) (waiting ++ own)
     ∙ ap (λ (k : ℕ). firsts ++ take k (waiting ++ own)) len ∙ ap (λ (l : List ℕ). firsts ++ l) inner in
     let p : ℕ = last_left leak last firsts in
@@ -200,14 +213,18 @@ last_gone leak free b until count rest rest' last last1 last2 last3 waiting is i
     three
     ∙ last_stopped leak cap last2 q (replicate rest' until) second
     ∙ ap (λ (m : ℕ). capped m)
-    (sym (last_left-append leak p (take rest waiting) (replicate rest' until)) ∙ sym (last_left-append leak last firsts (take rest waiting ++ replicate rest' until)) ∙ ap (last_left leak last) (sym all))
+    (sym (last_left-append leak p (take rest waiting) (replicate rest' until))
+    ∙ sym (last_left-append leak last firsts (take rest waiting ++ replicate rest' until)) ∙ ap (last_left leak last) (sym all))
   where
     stops_at : (cap m n : ℕ) → m ≡ min n cap → min m cap ≡ min n cap
     stops_at cap m n is = omega (arith, is)
 
-pub rooms_after : (old s1 s2 : EbRooms) (free : ℕ) (waiting : List BufferedUnit) (current : BufferedUnit) (count rest rest' : ℕ) → rest ≡ count - old.free → s1.free ≡ old.free - count →
-    s1.waiting ≡ old.waiting → s1.current ≡ old.current → rest' ≡ rest - length (rooms_waiting s1.waiting.items) → rooms_waiting s2.waiting.items ≡ drop rest (rooms_waiting s1.waiting.items) →
-    s2.free ≡ s1.free → s2.current ≡ s1.current → free ≡ s2.free → waiting ≡ s2.waiting.items → current.until ≡ s2.current.until → current.bytes ≡ s2.current.bytes + (count - rest') →
+pub rooms_after : (old s1 s2 : EbRooms) (free : ℕ) (waiting : List BufferedUnit) (current : BufferedUnit) (count rest rest' : ℕ) → rest ≡ count - old.free →
+    s1.free ≡ old.free - count →
+    s1.waiting ≡ old.waiting → s1.current ≡ old.current → rest' ≡ rest - length (rooms_waiting s1.waiting.items) →
+    rooms_waiting s2.waiting.items ≡ drop rest (rooms_waiting s1.waiting.items) →
+    s2.free ≡ s1.free → s2.current ≡ s1.current → free ≡ s2.free → waiting ≡ s2.waiting.items → current.until ≡ s2.current.until →
+    current.bytes ≡ s2.current.bytes + (count - rest') →
     rooms_in free waiting current ≡ drop count (rooms_now old ++ replicate count old.current.until)
 rooms_after old s1 s2 free waiting current count rest rest' is free1 waiting1 current1 is' waiting2 free2 current2 free3 waiting3 until3 bytes3 =
     let before : rooms_waiting s1.waiting.items ≡ rooms_waiting old.waiting.items = rw waiting1 refl in
@@ -217,15 +234,19 @@ rooms_after old s1 s2 free waiting current count rest rest' is free1 waiting1 cu
     let bytes : current.bytes ≡ old.current.bytes + (count - rest') = bytes3 ∙ ap (λ (u : BufferedUnit). u.bytes + (count - rest')) (current2 ∙ current1) in
     ap₂ (λ (f : ℕ) (l : List ℕ). replicate f 0 ++ l) frees
     (ap₂ (λ (l m : List ℕ). l ++ m) waits (ap₂ (λ (b u : ℕ). replicate b u) bytes until))
-    ∙ rooms_gone old.free old.current.bytes old.current.until count rest rest' (rooms_waiting old.waiting.items) is (is' ∙ ap (λ (l : List ℕ). rest - length l) before)
+    ∙ rooms_gone old.free old.current.bytes old.current.until count rest rest' (rooms_waiting old.waiting.items) is
+    (is' ∙ ap (λ (l : List ℕ). rest - length l) before)
 
 pub last_after : (old s1 s2 : EbRooms) (leak count rest rest' last until : ℕ) → rest ≡ count - old.free → s1.waiting ≡ old.waiting → s1.current ≡ old.current →
-    s1.last ≡ capped (last_left leak old.last (take {A = ℕ} count (replicate old.free 0))) → rest' ≡ rest - length (rooms_waiting s1.waiting.items) → s2.current ≡ s1.current →
-    capped s2.last ≡ capped (last_left leak s1.last (take rest (rooms_waiting s1.waiting.items))) → until ≡ s2.current.until → last ≡ capped (last_left leak s2.last (replicate rest' until)) →
+    s1.last ≡ capped (last_left leak old.last (take {A = ℕ} count (replicate old.free 0))) → rest' ≡ rest - length (rooms_waiting s1.waiting.items) →
+    s2.current ≡ s1.current →
+    capped s2.last ≡ capped (last_left leak s1.last (take rest (rooms_waiting s1.waiting.items))) → until ≡ s2.current.until →
+    last ≡ capped (last_left leak s2.last (replicate rest' until)) →
     last ≡ capped (last_left leak old.last (take count (rooms_now old ++ replicate count old.current.until)))
 last_after old s1 s2 leak count rest rest' last until is waiting1 current1 last1 is' current2 last2 same last3 =
     let before : rooms_waiting s1.waiting.items ≡ rooms_waiting old.waiting.items = rw waiting1 refl in
     let ends : until ≡ old.current.until = same ∙ ap (λ (u : BufferedUnit). u.until) (current2 ∙ current1) in
-    last_gone leak old.free old.current.bytes old.current.until count rest rest' old.last s1.last s2.last last (rooms_waiting old.waiting.items) is (is' ∙ ap (λ (l : List ℕ). rest - length l) before) last1
+    last_gone leak old.free old.current.bytes old.current.until count rest rest' old.last s1.last s2.last last (rooms_waiting old.waiting.items) is
+    (is' ∙ ap (λ (l : List ℕ). rest - length l) before) last1
     (last2 ∙ ap (λ (l : List ℕ). capped (last_left leak s1.last (take rest l))) before)
     (last3 ∙ ap (λ (u : ℕ). capped (last_left leak s2.last (replicate rest' u))) ends)

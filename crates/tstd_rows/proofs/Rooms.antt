@@ -1,5 +1,6 @@
 -- When the elementary stream buffer of video has room: what is kept of it says when each byte goes.
-use Rattle.std.proofs.Common.{◌≡◌, ◌∙◌, sym, ℕ, zero, suc, ◌+◌, ◌-◌, ◌<◌, ◌≤◌, ◌^◌, max, min, List, [], ◌∷◌, ◌++◌, length, replicate, take, drop, append_assoc, refl, ap, ap₂, arith}
+use Rattle.std.proofs.Common.{◌≡◌, ◌∙◌, sym, ℕ, zero, suc, ◌+◌, ◌-◌, ◌<◌, ◌≤◌, ◌^◌, max, min, List, [], ◌∷◌, ◌++◌, length, replicate, take, drop, append_assoc}
+use Rattle.std.proofs.Common.{refl, ap, ap₂, arith}
 use Rattle.std.proofs.lemmas.List.{append-nil, length-append, length-replicate, length-drop, drop-append-le, drop-drop}
 use Rattle.clock27.specs.Departure.{departures, last_left}
 use Rattle.clock27.proofs.Departures.{length-departures, last_left-append}
@@ -62,7 +63,8 @@ raised_past a now until (suc n) xs le past =
     let first : max a 0 ≡ max a until = omega (arith, le, past) in
     let stays : max a 0 ≡ a = omega arith in
     ap₂ (λ (m : ℕ) (l : List ℕ). m ∷ l) first
-    (ap (λ (m : ℕ). raised m (replicate n 0 ++ xs)) stays ∙ raised_past a now until n xs le past ∙ ap (λ (m : ℕ). raised m (replicate n until ++ xs)) (sym stays ∙ first))
+    (ap (λ (m : ℕ). raised m (replicate n 0 ++ xs)) stays ∙ raised_past a now until n xs le past
+    ∙ ap (λ (m : ℕ). raised m (replicate n until ++ xs)) (sym stays ∙ first))
 
 -- and a time that is no later than one before it
 raised_low : (a until low n : ℕ) (xs : List ℕ) → until ≤ a → low ≤ until → raised a (replicate n until ++ xs) ≡ raised a (replicate n low ++ xs)
@@ -72,7 +74,8 @@ raised_low a until low (suc n) xs le lower =
     let first : max a until ≡ max a low = omega (arith, le, lower) in
     let stays : max a until ≡ a = omega (arith, le) in
     ap₂ (λ (m : ℕ) (l : List ℕ). m ∷ l) first
-    (ap (λ (m : ℕ). raised m (replicate n until ++ xs)) stays ∙ raised_low a until low n xs le lower ∙ ap (λ (m : ℕ). raised m (replicate n low ++ xs)) (sym stays ∙ first))
+    (ap (λ (m : ℕ). raised m (replicate n until ++ xs)) stays ∙ raised_low a until low n xs le lower
+    ∙ ap (λ (m : ℕ). raised m (replicate n low ++ xs)) (sym stays ∙ first))
 
 pub raised_joined : (a until low m n : ℕ) (xs : List ℕ) → low ≤ until → 0 < m →
     raised a (replicate m until ++ (replicate n until ++ xs)) ≡ raised a (replicate m until ++ (replicate n low ++ xs))
@@ -82,7 +85,8 @@ raised_joined a until low (suc m) n xs lower some =
     ap (λ (l : List ℕ). max a until ∷ l)
     (raised_after_if m until (max a until) (omega arith) (replicate n until ++ xs) (replicate n low ++ xs) (λ b le. raised_low b until low n xs le lower))
   where
-    raised_after_if : (m until a : ℕ) → until ≤ a → (xs ys : List ℕ) → ((b : ℕ) → until ≤ b → raised b xs ≡ raised b ys) → raised a (replicate m until ++ xs) ≡ raised a (replicate m until ++ ys)
+    raised_after_if : (m until a : ℕ) → until ≤ a → (xs ys : List ℕ) → ((b : ℕ) → until ≤ b → raised b xs ≡ raised b ys) →
+        raised a (replicate m until ++ xs) ≡ raised a (replicate m until ++ ys)
     raised_after_if zero until a le xs ys h = h a le
     raised_after_if (suc m) until a le xs ys h = ap (λ (l : List ℕ). max a until ∷ l) (raised_after_if m until (max a until) (omega arith) xs ys h)
 
@@ -169,7 +173,8 @@ enough rate size parts = omega (arith, length-append (replicate size 0) (removed
 
 -- bytes that come: the last of them, and what comes next
 pub carried_next : (rate size : ℕ) (parts : List Part) (times : List ℕ) →
-    rooms_next rate size (Carries times ∷ parts) ≡ drop (length (left_after rate parts times)) (rooms_next rate size parts ++ replicate (length times) (until_of parts))
+    rooms_next rate size (Carries times ∷ parts) ≡ drop (length (left_after rate parts times))
+    (rooms_next rate size parts ++ replicate (length times) (until_of parts))
 unfolding removed_of payload_left
 carried_next rate size parts times =
     let paid = payload_left rate parts in
@@ -185,7 +190,8 @@ carried_next rate size parts times =
 
 pub carried_last : (rate leak size : ℕ) (parts : List Part) (times : List ℕ) →
     last_transferred rate leak size (Carries times ∷ parts)
-    ≡ last_transfer leak (last_transferred rate leak size parts) (left_after rate parts times) (rooms_next rate size parts ++ replicate (length times) (until_of parts))
+    ≡ last_transfer leak (last_transferred rate leak size parts) (left_after rate parts times)
+    (rooms_next rate size parts ++ replicate (length times) (until_of parts))
 unfolding removed_of payload_left
 carried_last rate leak size parts times =
     let paid = payload_left rate parts in
@@ -197,13 +203,15 @@ carried_last rate leak size parts times =
     let few : length paid ≤ length (rooms ++ more) = omega (arith, enough rate size parts, length-append rooms more) in
     ap (last_transfer leak 0 (paid ++ these)) all
     ∙ transfer_append leak 0 paid these (rooms ++ more) few
-    ∙ ap₂ (λ (p : ℕ) (l : List ℕ). last_transfer leak p these l) (transfer_longer leak 0 paid rooms more (enough rate size parts)) (drop-append-le (length paid) rooms more (enough rate size parts))
+    ∙ ap₂ (λ (p : ℕ) (l : List ℕ). last_transfer leak p these l) (transfer_longer leak 0 paid rooms more (enough rate size parts))
+    (drop-append-le (length paid) rooms more (enough rate size parts))
 
 -- MB alone is no later
 pub alone_first : (rate leak size : ℕ) (parts : List Part) → last_leaked rate leak parts ≤ last_transferred rate leak size parts
 alone_first rate leak size parts = omega (arith, last_both leak 0 0 (payload_left rate parts) (rooms_of size (removed_of parts)) (enough rate size parts))
 
-carried_alone : (rate leak : ℕ) (parts : List Part) (times : List ℕ) → last_leaked rate leak (Carries times ∷ parts) ≡ last_left leak (last_leaked rate leak parts) (left_after rate parts times)
+carried_alone : (rate leak : ℕ) (parts : List Part) (times : List ℕ) →
+    last_leaked rate leak (Carries times ∷ parts) ≡ last_left leak (last_leaked rate leak parts) (left_after rate parts times)
 unfolding payload_left
 carried_alone rate leak parts times = last_left-append leak 0 (payload_left rate parts) (left_after rate parts times)
 
@@ -212,11 +220,14 @@ carried_alone rate leak parts times = last_left-append leak 0 (payload_left rate
 later_stopped : (cap a p q : ℕ) → q ≡ min p cap → min (max a q) cap ≡ min (max a p) cap
 later_stopped cap a p q is = omega (arith, is)
 
-pub rooms_carried : (old settled new : EbRooms) (rate leak size n : ℕ) (parts : List Part) (times : List ℕ) → AreRooms old rate leak size parts → n ≡ length times →
-    ((from : ℕ) → last_leaked rate leak parts ≤ from → raised from (rooms_now settled) ≡ raised from (rooms_now old)) → length (rooms_now settled) ≡ length (rooms_now old) →
+pub rooms_carried : (old settled new : EbRooms) (rate leak size n : ℕ) (parts : List Part) (times : List ℕ) → AreRooms old rate leak size parts →
+    n ≡ length times →
+    ((from : ℕ) → last_leaked rate leak parts ≤ from → raised from (rooms_now settled) ≡ raised from (rooms_now old)) →
+    length (rooms_now settled) ≡ length (rooms_now old) →
     settled.last ≡ old.last → settled.current.until ≡ old.current.until →
     rooms_now new ≡ drop n (rooms_now settled ++ replicate n settled.current.until) →
-    new.last ≡ capped (last_left leak settled.last (take n (rooms_now settled ++ replicate n settled.current.until))) → new.current.until ≡ settled.current.until →
+    new.last ≡ capped (last_left leak settled.last (take n (rooms_now settled ++ replicate n settled.current.until))) →
+    new.current.until ≡ settled.current.until →
     AreRooms new rate leak size (Carries times ∷ parts)
 unfolding until_of
 rooms_carried old settled new rate leak size n parts times k many rooms len last until next goes stays =
@@ -229,8 +240,10 @@ rooms_carried old settled new rate leak size n parts times k many rooms len last
     let ends : settled.current.until ≡ until_of parts = until ∙ k.until in
     let same : raised so_far (rooms_now settled) ≡ raised so_far (rooms_next rate size parts) = rooms so_far (alone_first rate leak size parts) ∙ k.next in
     let alike : raised so_far mine ≡ raised so_far true_ones =
-    ap₂ (λ (m u : ℕ). raised so_far (rooms_now settled ++ replicate m u)) many ends ∙ raised_more so_far (rooms_now settled) (rooms_next rate size parts) (replicate (length times) (until_of parts)) same in
-    let long : length mine ≡ length (rooms_now settled) + n = length-append (rooms_now settled) (replicate n settled.current.until) ∙ ap (λ (m : ℕ). length (rooms_now settled) + m) (length-replicate n settled.current.until) in
+    ap₂ (λ (m u : ℕ). raised so_far (rooms_now settled ++ replicate m u)) many ends
+    ∙ raised_more so_far (rooms_now settled) (rooms_next rate size parts) (replicate (length times) (until_of parts)) same in
+    let long : length mine ≡ length (rooms_now settled) + n = length-append (rooms_now settled) (replicate n settled.current.until)
+    ∙ ap (λ (m : ℕ). length (rooms_now settled) + m) (length-replicate n settled.current.until) in
     let few : length these ≤ length mine = omega (arith, long, count) in
     let all : last_transferred rate leak size (Carries times ∷ parts) ≡ last_transfer leak so_far these mine =
     carried_last rate leak size parts times ∙ sym (transfer_same leak so_far these mine true_ones alike) in
@@ -255,7 +268,8 @@ rooms_carried old settled new rate leak size n parts times k many rooms len last
 
 -- a unit that begins, and bytes that go no further than the transport buffer
 pub rooms_begun : (old new : EbRooms) (rate leak size : ℕ) (parts : List Part) (due : DueTime) → AreRooms old rate leak size parts →
-    ((from : ℕ) → raised from (rooms_now new) ≡ raised from (rooms_now old)) → length (rooms_now new) ≡ length (rooms_now old) → new.last ≡ old.last → new.current.until ≡ due.until →
+    ((from : ℕ) → raised from (rooms_now new) ≡ raised from (rooms_now old)) → length (rooms_now new) ≡ length (rooms_now old) → new.last ≡ old.last →
+    new.current.until ≡ due.until →
     AreRooms new rate leak size (Begins due ∷ parts)
 unfolding removed_of payload_left until_of
 rooms_begun old new rate leak size parts due k rooms len last until = record {
@@ -265,12 +279,14 @@ rooms_begun old new rate leak size parts due k rooms len last until = record {
   until = until;
 }
 
-pub rooms_passed : (rooms : EbRooms) (rate leak size : ℕ) (parts : List Part) (times : List ℕ) → AreRooms rooms rate leak size parts → AreRooms rooms rate leak size (Passes times ∷ parts)
+pub rooms_passed : (rooms : EbRooms) (rate leak size : ℕ) (parts : List Part) (times : List ℕ) → AreRooms rooms rate leak size parts →
+    AreRooms rooms rate leak size (Passes times ∷ parts)
 unfolding removed_of payload_left until_of
 rooms_passed rooms rate leak size parts times k = record { last = k.last; next = k.next; many = k.many; until = k.until }
 
 -- nothing has come
-pub rooms_empty : (rooms : EbRooms) (rate leak size : ℕ) → rooms_now rooms ≡ replicate size 0 → rooms.last ≡ 0 → rooms.current.until ≡ 0 → AreRooms rooms rate leak size []
+pub rooms_empty : (rooms : EbRooms) (rate leak size : ℕ) → rooms_now rooms ≡ replicate size 0 → rooms.last ≡ 0 → rooms.current.until ≡ 0 →
+    AreRooms rooms rate leak size []
 unfolding removed_of payload_left until_of last_left last_transfer
 rooms_empty rooms rate leak size all last until = record {
   last = ap (λ (q : ℕ). capped (max 0 q)) last;

@@ -43,7 +43,8 @@ greatest_from f g from (t ∷ ts) rises same =
     omega (arith, same t rises.0, greatest_from f g t ts rises.1 (λ x le. same x (omega (arith, le, rises.0))))
 
 -- the bytes at the entry of one that shares its moment with others are those at theirs
-shared : (f : ℕ → ℕ) (until before t : ℕ) (ts : List ℕ) → Rises t ts → f t ≡ before + entered until t ts → max before (greatest_at f ts) ≡ max (f t) (greatest_at f ts)
+shared : (f : ℕ → ℕ) (until before t : ℕ) (ts : List ℕ) → Rises t ts → f t ≡ before + entered until t ts →
+    max before (greatest_at f ts) ≡ max (f t) (greatest_at f ts)
 unfolding Rises greatest_at
 shared f until before t [] rises is = omega (arith, is)
 shared f until before t (u ∷ ts) rises is = elim (cases_lt t u) [

@@ -23,7 +23,8 @@ use Rattle.tstd_rows.specs.Held.{Held, IsHeld, carried, last_entry, main_ended, 
 use Rattle.tstd_rows.specs.declared.stream_buffers.StreamBuffers.{StreamBuffers}
 
 -- the most in the main buffer when one of these bytes enters
-pub main_row : {A : Type 0} (view : StreamView A) (rate : ℕ) (parts : List Part) (ts : List ℕ) → IsViewOf view parts → view.transport.step ≡ rate → 0 < view.transport.step →
+pub main_row : {A : Type 0} (view : StreamView A) (rate : ℕ) (parts : List Part) (ts : List ℕ) → IsViewOf view parts → view.transport.step ≡ rate →
+    0 < view.transport.step →
     greatest_at (fullness_with view.main (departures view.transport.step view.transport.last ts)) (departures view.transport.step view.transport.last ts)
     ≡ greatest_at (main_fullness rate (Carries ts ∷ parts)) (left_after rate parts ts)
 main_row view rate parts ts v step pos =
@@ -34,7 +35,8 @@ main_row view rate parts ts v step pos =
     ∙ ap (λ (n : ℕ). greatest_at (main_fullness n (Carries ts ∷ parts)) (left_after n parts ts)) step
 
 -- and the least that one of them finds there
-pub least_row : {A : Type 0} (view : StreamView A) (rate : ℕ) (parts : List Part) (ts : List ℕ) → IsViewOf view parts → view.transport.step ≡ rate → 0 < view.transport.step →
+pub least_row : {A : Type 0} (view : StreamView A) (rate : ℕ) (parts : List Part) (ts : List ℕ) → IsViewOf view parts → view.transport.step ≡ rate →
+    0 < view.transport.step →
     least_in view.main None (departures view.transport.step view.transport.last ts) ≡ row_least rate parts ts
 least_row view rate parts ts v step pos =
     let s : ℕ = view.transport.step in
@@ -50,7 +52,8 @@ main_lowest_found old h ts times found k same pos is =
 
 -- the same of bytes that are told by when they arrive
 pub main_most_found : (old : StreamBuffers) (h : Held) (ts times : List ℕ) (found : ℕ) → IsHeld old h → ts ≡ times → 0 < old.view.transport.step →
-    found ≡ greatest_at (fullness_with old.view.main (departures old.view.transport.step old.view.transport.last ts)) (departures old.view.transport.step old.view.transport.last ts) →
+    found ≡ greatest_at (fullness_with old.view.main (departures old.view.transport.step old.view.transport.last ts))
+    (departures old.view.transport.step old.view.transport.last ts) →
     found ≡ main_found h times
 main_most_found old h ts times found k same pos is =
     is ∙ main_row old.view h.rate h.parts ts k.view k.step pos ∙ ap (λ (t : List ℕ). main_found h t) same
@@ -65,7 +68,8 @@ transport_most_found old h ts times found k same is =
     ∙ ap (λ (t : List ℕ). transport_found h t) same
 
 -- and when the last of them leaves the transport buffer
-pub last_row : {A : Type 0} (view : StreamView A) (after : TransportBuffer) (rate : ℕ) (parts : List Part) (ts : List ℕ) → IsViewOf view parts → view.transport.step ≡ rate →
+pub last_row : {A : Type 0} (view : StreamView A) (after : TransportBuffer) (rate : ℕ) (parts : List Part) (ts : List ℕ) → IsViewOf view parts →
+    view.transport.step ≡ rate →
     after ≡ buffer_entered view.transport ts → after.last ≡ last_of rate (Carries ts ∷ parts)
 unfolding arrivals_of
 last_row view after rate parts ts v step is =
@@ -78,8 +82,10 @@ last_row view after rate parts ts v step is =
 pub carried_held : (old new : StreamBuffers) (h : Held) (ts times : List ℕ) (most last : ℕ) → IsHeld old h → ts ≡ times → new.rx ≡ old.rx →
     ((parts : List Part) → IsViewOf old.view parts → IsViewOf new.view (Carries ts ∷ parts)) → new.view.transport ≡ buffer_entered old.view.transport ts →
     new.view.watch.size ≡ old.view.watch.size → 0 < old.view.transport.step →
-    most ≡ greatest_at (fullness_with old.view.main (departures old.view.transport.step old.view.transport.last ts)) (departures old.view.transport.step old.view.transport.last ts) →
-    last ≡ new.view.transport.last → new.main.size ≡ old.main.size → new.main.under_way ≡ after_row old.main.size old.main.under_way most last → new.busy ≡ old.busy →
+    most ≡ greatest_at (fullness_with old.view.main (departures old.view.transport.step old.view.transport.last ts))
+    (departures old.view.transport.step old.view.transport.last ts) →
+    last ≡ new.view.transport.last → new.main.size ≡ old.main.size → new.main.under_way ≡ after_row old.main.size old.main.under_way most last →
+    new.busy ≡ old.busy →
     IsHeld new (carried h times)
 unfolding busy_of
 carried_held old new h ts times most last k same rx views enters size pos most_is last_is main_size main busy =
@@ -124,9 +130,11 @@ busy_held b h k =
     ap₂ (λ (w : BusyWatch) (l : ℕ). busy_under_way w l) k.busy last
 
 -- and the excess of the main buffer that has ended
-pub carried_ended : (old : StreamBuffers) (after : TransportBuffer) (h : Held) (ts times : List ℕ) (most last : ℕ) (result : Option Excess) → IsHeld old h → ts ≡ times →
+pub carried_ended : (old : StreamBuffers) (after : TransportBuffer) (h : Held) (ts times : List ℕ) (most last : ℕ) (result : Option Excess) → IsHeld old h →
+    ts ≡ times →
     after ≡ buffer_entered old.view.transport ts → 0 < old.view.transport.step →
-    most ≡ greatest_at (fullness_with old.view.main (departures old.view.transport.step old.view.transport.last ts)) (departures old.view.transport.step old.view.transport.last ts) →
+    most ≡ greatest_at (fullness_with old.view.main (departures old.view.transport.step old.view.transport.last ts))
+    (departures old.view.transport.step old.view.transport.last ts) →
     last ≡ after.last → result ≡ ended_by old.main.size old.main.under_way most last → option_to_list result ≡ main_ended h times
 carried_ended old after h ts times most last result k same enters pos most_is last_is is =
     let found : most ≡ main_found h ts = most_is ∙ main_row old.view h.rate h.parts ts k.view k.step pos in

@@ -17,7 +17,8 @@ free_soon : (from pace parts step count rest n latest : ℕ) → from + count * 
     from + count * pace + step * parts + rest * pace ≤ (latest + (n + 1) * step) * parts
 free_soon from pace parts step count rest n latest early = omega (arith, early)
 
-pub rows_soon : (step prev latest count : ℕ) (row : Row) (leaving : Leaving) → leaving.waiting ≡ waiting_row step prev count → leaving.free ≡ free_row step row count →
+pub rows_soon : (step prev latest count : ℕ) (row : Row) (leaving : Leaving) → leaving.waiting ≡ waiting_row step prev count →
+    leaving.free ≡ free_row step row count →
     count ≤ row.bytes → prev ≤ latest → row.from + row.bytes * row.pace ≤ latest * row.parts → RowsSoon step latest row.bytes leaving
 rows_soon step prev latest count row leaving waits free le low early =
     rw (waits, free) (record {

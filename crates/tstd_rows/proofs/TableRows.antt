@@ -45,12 +45,17 @@ pub next_second : (b p : WatchedQueue) (from pace parts n j : ℕ) → j < n →
     all_entered (one_entered p (max ((from + j * pace) / parts) b.queue.last + b.queue.step))
     (left_at (one_entered b ((from + j * pace) / parts)) (times_in_row (from + (j + 1) * pace) pace parts (n - (j + 1))))
     ≡ all_entered p (left_at b (times_in_row (from + j * pace) pace parts (n - j)))
-next_second b p from pace parts n j below = rw (row_next from pace parts n j below, leaves_more b ((from + j * pace) / parts) (times_in_row (from + (j + 1) * pace) pace parts (n - (j + 1)))) (enters_more p _ _)
+next_second b p from pace parts n j below =
+    rw (row_next from pace parts n j below, leaves_more b ((from + j * pace) / parts) (times_in_row (from + (j + 1) * pace) pace parts (n - (j + 1))))
+    (enters_more p _ _)
 
 pub next_ended : (b : WatchedQueue) (es : List Excess) (from pace parts n j : ℕ) → j < n →
-    (es ++ ended_by b ((from + j * pace) / parts ∷ [])) ++ ended_by (one_entered b ((from + j * pace) / parts)) (times_in_row (from + (j + 1) * pace) pace parts (n - (j + 1)))
+    (es ++ ended_by b ((from + j * pace) / parts ∷ []))
+    ++ ended_by (one_entered b ((from + j * pace) / parts)) (times_in_row (from + (j + 1) * pace) pace parts (n - (j + 1)))
     ≡ es ++ ended_by b (times_in_row (from + j * pace) pace parts (n - j))
-next_ended b es from pace parts n j below = rw (row_next from pace parts n j below, ends_more b ((from + j * pace) / parts) (times_in_row (from + (j + 1) * pace) pace parts (n - (j + 1)))) (append_assoc es _ _)
+next_ended b es from pace parts n j below =
+    rw (row_next from pace parts n j below, ends_more b ((from + j * pace) / parts) (times_in_row (from + (j + 1) * pace) pace parts (n - (j + 1))))
+    (append_assoc es _ _)
 
 pub next_left : (b p : WatchedQueue) (es : List Excess) (from pace parts n j : ℕ) → j < n →
     (es ++ ended_by p ((max ((from + j * pace) / parts) b.queue.last + b.queue.step) ∷ []))
@@ -60,7 +65,8 @@ pub next_left : (b p : WatchedQueue) (es : List Excess) (from pace parts n j : �
 next_left b p es from pace parts n j below =
     let ts = times_in_row (from + (j + 1) * pace) pace parts (n - (j + 1)) in
     let t = (from + j * pace) / parts in
-    rw (row_next from pace parts n j below, leaves_more b t ts, ends_more p (max t b.queue.last + b.queue.step) (left_at (one_entered b t) ts)) (append_assoc es _ _)
+    rw (row_next from pace parts n j below, leaves_more b t ts, ends_more p (max t b.queue.last + b.queue.step) (left_at (one_entered b t) ts))
+    (append_assoc es _ _)
 
 -- none is left
 none_enters : (b : WatchedQueue) → b ≡ all_entered b []
@@ -74,7 +80,8 @@ pub end_second : (b p : WatchedQueue) (from pace parts n j : ℕ) → n ≤ j �
 unfolding departures
 end_second b p from pace parts n j over = rw (row_end from pace parts n j over) (none_enters p)
 
-pub end_ended : (b : WatchedQueue) (es : List Excess) (from pace parts n j : ℕ) → n ≤ j → es ≡ es ++ ended_by b (times_in_row (from + j * pace) pace parts (n - j))
+pub end_ended : (b : WatchedQueue) (es : List Excess) (from pace parts n j : ℕ) → n ≤ j →
+    es ≡ es ++ ended_by b (times_in_row (from + j * pace) pace parts (n - j))
 unfolding excesses_ended
 end_ended b es from pace parts n j over = rw (row_end from pace parts n j over) (sym (append-nil es))
 

@@ -8,7 +8,8 @@ use Rattle.clock27.specs.Peak.{greatest_at, most_found}
 use Rattle.unit_timing.specs.LeakMethod.{transfers}
 use Rattle.tstd_rows.specs.History.{Part, arrivals_of, payload_left, until_of}
 use Rattle.tstd_rows.specs.History.Part.{Passes, Carries, Begins}
-use Rattle.tstd_rows.specs.VideoViewed.{leak_step, multiplexing_left, multiplexing_buffer, multiplexing_held, elementary_held, elementary_peak, removed_of, transferred, last_transfer, last_transferred, room_left, cause_of, unit_cause, with_entry}
+use Rattle.tstd_rows.specs.VideoViewed.{leak_step, multiplexing_left, multiplexing_buffer, multiplexing_held, elementary_held, elementary_peak, removed_of}
+use Rattle.tstd_rows.specs.VideoViewed.{transferred, last_transfer, last_transferred, room_left, cause_of, unit_cause, with_entry}
 use Rattle.tstd_rows.specs.declared.late_causes.LateCause.TheVariants.{Multiplex, FullBuffer}
 
 -- by a clock S is 216,000,000. MPEG-2 main level: 18,000,000 bits a second into MB, 15,000,000 out of it. AVC and HEVC: both are the same. High
@@ -97,7 +98,8 @@ over_its_buffer : last_transferred 10 20 2 three_bytes ≡ 120
 unfolding three_bytes removed_of until_of last_transfer payload_left arrivals_of departures last_left
 over_its_buffer = refl
 
-over_cause : option_and_then unit_cause (with_entry (Some (record { due = record { until = 100; deadline = 100 }; bytes = 3; left = 90 })) 120) ≡ Some FullBuffer
+over_cause : option_and_then unit_cause (with_entry (Some (record { due = record { until = 100; deadline = 100 }; bytes = 3; left = 90 })) 120) ≡ Some
+    FullBuffer
 unfolding with_entry cause_of
 over_cause = refl
 

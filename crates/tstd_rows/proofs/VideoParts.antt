@@ -33,7 +33,8 @@ leaked_until step (Carries ts ∷ before) = leaked_until step before
 leaked_until step (Begins due ∷ before) = refl
 
 -- when bytes of one part leave MB
-pub leaked_leave : (step leak : ℕ) (before : List Part) (ts : List ℕ) → left_after leak (leaked step before) (left_after step before ts) ≡ leaked_after step leak before ts
+pub leaked_leave : (step leak : ℕ) (before : List Part) (ts : List ℕ) →
+    left_after leak (leaked step before) (left_after step before ts) ≡ leaked_after step leak before ts
 leaked_leave step leak before ts = ap (λ (us : List ℕ). departures leak (last_left leak 0 us) (left_after step before ts)) (leaked_arrive step before)
 
 leaked_left : (step leak : ℕ) (parts : List Part) → payload_left leak (leaked step parts) ≡ multiplexing_left step leak parts
@@ -56,7 +57,8 @@ leaked_held step leak (Begins due ∷ before) x = leaked_held step leak before x
 
 leaked_peak : (step leak : ℕ) (parts : List Part) → main_peak leak (leaked step parts) ≡ elementary_peak step leak parts
 leaked_peak step leak parts =
-    greatest_ext (main_fullness leak (leaked step parts)) (elementary_held step leak parts) (payload_left leak (leaked step parts)) (leaked_held step leak parts)
+    greatest_ext (main_fullness leak (leaked step parts)) (elementary_held step leak parts) (payload_left leak (leaked step parts))
+    (leaked_held step leak parts)
     ∙ ap (greatest_at (elementary_held step leak parts)) (leaked_left step leak parts)
 
 pub leaked_parts : LeakedPartsLaw
@@ -77,7 +79,8 @@ payload_rises step (Passes ts ∷ before) pos = payload_rises step before pos
 payload_rises step (Carries ts ∷ before) pos =
     let last = last_of step before in
     let climbs = climbs_low last (suc last) (departures step last ts) (omega arith) (departures_climb step last ts pos) in
-    rises_appended 0 last (payload_left step before) (left_after step before ts) (payload_rises step before pos) (omega arith) (payload_by step before) (climbs_rises last (departures step last ts) climbs)
+    rises_appended 0 last (payload_left step before) (left_after step before ts) (payload_rises step before pos) (omega arith) (payload_by step before)
+    (climbs_rises last (departures step last ts) climbs)
 payload_rises step (Begins due ∷ before) pos = payload_rises step before pos
 
 pub video_figures : VideoFiguresLaw

@@ -1,5 +1,6 @@
 -- Bytes of video that enter its two buffers.
-use Rattle.std.proofs.Common.{◌≡◌, ◌∙◌, sym, Global, ℕ, ◌+◌, ◌*◌, ◌^◌, ◌≤◌, max, List, [], ◌∷◌, ◌++◌, length, replicate, take, drop, Option, Some, None, Result, Ok, Err, IfOk, OnOk, refl, subst, ap, ap₂, arith}
+use Rattle.std.proofs.Common.{◌≡◌, ◌∙◌, sym, Global, ℕ, ◌+◌, ◌*◌, ◌^◌, ◌≤◌, max, List, [], ◌∷◌, ◌++◌, length, replicate, take, drop, Option, Some, None, Result}
+use Rattle.std.proofs.Common.{Ok, Err, IfOk, OnOk, refl, subst, ap, ap₂, arith}
 use Rattle.std.specs.Option.{option_to_list}
 use Rattle.std.proofs.Math.Nat.{mul-le-mul, mul-le-mul_right}
 use Rattle.clock27.specs.Departure.{departures, last_left}
@@ -41,10 +42,12 @@ use Rattle.tstd_rows.specs.declared.video_buffers.VideoEntered.{VideoEntered}
 
 -- what a view of them says of one row, in the words of EB
 found_leaked : (rate leak : ℕ) (parts : List Part) (times : List ℕ) →
-    greatest_at (main_fullness leak (Carries (left_after rate parts times) ∷ leaked rate parts)) (left_after leak (leaked rate parts) (left_after rate parts times)) ≡ elementary_found rate leak parts times
+    greatest_at (main_fullness leak (Carries (left_after rate parts times) ∷ leaked rate parts))
+    (left_after leak (leaked rate parts) (left_after rate parts times)) ≡ elementary_found rate leak parts times
 unfolding leaked
 found_leaked rate leak parts times =
-    greatest_ext (main_fullness leak (leaked rate (Carries times ∷ parts))) (elementary_held rate leak (Carries times ∷ parts)) (left_after leak (leaked rate parts) (left_after rate parts times))
+    greatest_ext (main_fullness leak (leaked rate (Carries times ∷ parts))) (elementary_held rate leak (Carries times ∷ parts))
+    (left_after leak (leaked rate parts) (left_after rate parts times))
     (leaked_held rate leak (Carries times ∷ parts))
     ∙ ap (greatest_at (elementary_held rate leak (Carries times ∷ parts))) (leaked_leave rate leak parts times)
 
@@ -64,25 +67,29 @@ unfolding leaked
 empty_view view rate v = v
 
 -- when the last byte leaves MB
-pub leaked_last : {A : Type 0} (view : StreamView A) (leak rate : ℕ) (parts : List Part) → view.transport.step ≡ leak → IsViewOf view (leaked rate parts) → view.transport.last ≡ last_leaked rate leak parts
+pub leaked_last : {A : Type 0} (view : StreamView A) (leak rate : ℕ) (parts : List Part) → view.transport.step ≡ leak → IsViewOf view (leaked rate parts) →
+    view.transport.last ≡ last_leaked rate leak parts
 leaked_last view leak rate parts step v =
     ap (λ (b : TransportBuffer). b.last) v.arrived
     ∙ ap₂ (λ (s : ℕ) (ts : List ℕ). last_left s 0 ts) step (leaked_arrive rate parts)
 
 -- and the excess of MB under way
-pub leaked_excess : {A : Type 0} (view : StreamView A) (leak size rate : ℕ) (parts : List Part) → view.transport.step ≡ leak → view.watch.size ≡ size → IsViewOf view (leaked rate parts) →
+pub leaked_excess : {A : Type 0} (view : StreamView A) (leak size rate : ℕ) (parts : List Part) → view.transport.step ≡ leak → view.watch.size ≡ size →
+    IsViewOf view (leaked rate parts) →
     view.watch.under_way ≡ multiplexing_under_way rate leak size parts
 leaked_excess view leak size rate parts step same v =
     v.watched ∙ ap (λ (s : ℕ). excess_after s view.watch.size 0 None (arrivals_of (leaked rate parts))) step
     ∙ ap₂ (λ (z : ℕ) (ts : List ℕ). excess_after leak z 0 None ts) same (leaked_arrive rate parts)
 
 grown : (rate leak size : ℕ) (parts : List Part) (times : List ℕ) →
-    after_row size (elementary_under_way rate leak size parts) (elementary_found rate leak parts times) (last_entry rate leak parts times) ≡ elementary_under_way rate leak size (Carries times ∷ parts)
+    after_row size (elementary_under_way rate leak size parts) (elementary_found rate leak parts times) (last_entry rate leak parts times) ≡
+    elementary_under_way rate leak size (Carries times ∷ parts)
 unfolding elementary_under_way
 grown rate leak size parts times = refl
 
 -- the most in EB when one of the bytes enters, as a view has it
-elementary_is : (old : VideoBuffers) (sizes : VideoSizes) (rate : ℕ) (parts : List Part) (ls times : List ℕ) (most : ℕ) → IsVideoHeld old sizes rate parts → ls ≡ left_after rate parts times →
+elementary_is : (old : VideoBuffers) (sizes : VideoSizes) (rate : ℕ) (parts : List Part) (ls times : List ℕ) (most : ℕ) → IsVideoHeld old sizes rate parts →
+    ls ≡ left_after rate parts times →
     most ≡ greatest_at (main_fullness old.view.transport.step (Carries ls ∷ leaked rate parts)) (left_after old.view.transport.step (leaked rate parts) ls) →
     most ≡ elementary_found rate sizes.leak parts times
 elementary_is old sizes rate parts ls times most k is found =
@@ -91,11 +98,14 @@ elementary_is old sizes rate parts ls times most k is found =
     ∙ found_leaked rate sizes.leak parts times
 
 -- bytes enter buffers that hold what came
-pub video_held : (old new : VideoBuffers) (sizes : VideoSizes) (rate : ℕ) (parts : List Part) (ls times : List ℕ) (most last : ℕ) → IsVideoHeld old sizes rate parts → ls ≡ left_after rate parts times →
+pub video_held : (old new : VideoBuffers) (sizes : VideoSizes) (rate : ℕ) (parts : List Part) (ls times : List ℕ) (most last : ℕ) →
+    IsVideoHeld old sizes rate parts → ls ≡ left_after rate parts times →
     IsViewOf new.view (Carries ls ∷ leaked rate parts) → new.view.transport.step ≡ old.view.transport.step → new.view.watch.size ≡ old.view.watch.size →
     most ≡ greatest_at (main_fullness old.view.transport.step (Carries ls ∷ leaked rate parts)) (left_after old.view.transport.step (leaked rate parts) ls) →
-    last ≡ new.view.transport.last → new.elementary.size ≡ old.elementary.size → new.elementary.under_way ≡ after_row old.elementary.size old.elementary.under_way most last →
-    new.busy ≡ busy_with old.busy old.view.transport.last ls → AreRooms new.rooms rate sizes.leak sizes.elementary (Carries times ∷ parts) → IsVideoHeld new sizes rate (Carries times ∷ parts)
+    last ≡ new.view.transport.last → new.elementary.size ≡ old.elementary.size →
+    new.elementary.under_way ≡ after_row old.elementary.size old.elementary.under_way most last →
+    new.busy ≡ busy_with old.busy old.view.transport.last ls → AreRooms new.rooms rate sizes.leak sizes.elementary (Carries times ∷ parts) →
+    IsVideoHeld new sizes rate (Carries times ∷ parts)
 unfolding leak_busy
 video_held old new sizes rate parts ls times most last k is view step size found last_is main_size main busy rooms =
     let viewed = leaked_view new.view rate parts ls times is view in
@@ -120,15 +130,19 @@ video_held old new sizes rate parts ls times most last k is view step size found
 pub many_left : (l : Leaving) → l.waiting.bytes + l.free.bytes ≡ length (times_left l)
 many_left l =
     sym (length-append (times_of l.waiting) (times_of l.free)
-    ∙ ap₂ (λ (m n : ℕ). m + n) (length-row l.waiting.from l.waiting.pace l.waiting.parts l.waiting.bytes) (length-row l.free.from l.free.pace l.free.parts l.free.bytes))
+    ∙ ap₂ (λ (m n : ℕ). m + n) (length-row l.waiting.from l.waiting.pace l.waiting.parts l.waiting.bytes)
+    (length-row l.free.from l.free.pace l.free.parts l.free.bytes))
 
 -- and when EB has room for what comes next
-pub rooms_taken : (old : VideoBuffers) (settled new : EbRooms) (sizes : VideoSizes) (rate step n : ℕ) (parts : List Part) (ls times : List ℕ) → IsVideoHeld old sizes rate parts → ls ≡ left_after rate parts times →
+pub rooms_taken : (old : VideoBuffers) (settled new : EbRooms) (sizes : VideoSizes) (rate step n : ℕ) (parts : List Part) (ls times : List ℕ) →
+    IsVideoHeld old sizes rate parts → ls ≡ left_after rate parts times →
     n ≡ length ls → step ≡ sizes.leak →
-    ((from : ℕ) → old.view.transport.last ≤ from → raised from (rooms_now settled) ≡ raised from (rooms_now old.rooms)) → length (rooms_now settled) ≡ length (rooms_now old.rooms) →
+    ((from : ℕ) → old.view.transport.last ≤ from → raised from (rooms_now settled) ≡ raised from (rooms_now old.rooms)) →
+    length (rooms_now settled) ≡ length (rooms_now old.rooms) →
     settled.last ≡ old.rooms.last → settled.current ≡ old.rooms.current →
     rooms_now new ≡ drop n (rooms_now settled ++ replicate n settled.current.until) →
-    new.last ≡ capped (last_left step settled.last (take n (rooms_now settled ++ replicate n settled.current.until))) → new.current.until ≡ settled.current.until →
+    new.last ≡ capped (last_left step settled.last (take n (rooms_now settled ++ replicate n settled.current.until))) →
+    new.current.until ≡ settled.current.until →
     AreRooms new rate sizes.leak sizes.elementary (Carries times ∷ parts)
 rooms_taken old settled new sizes rate step n parts ls times k is many leak rooms len last current next goes stays =
     rooms_carried old.rooms settled new rate sizes.leak sizes.elementary n parts times k.rooms
@@ -137,18 +151,22 @@ rooms_taken old settled new sizes rate step n parts ls times k is many leak room
     (ap (λ (u : BufferedUnit). u.until) current) next
     (goes ∙ ap (λ (s : ℕ). capped (last_left s settled.last (take n (rooms_now settled ++ replicate n settled.current.until)))) leak) stays
 
-same_video : (e : VideoEntered) (multiplexing : List Excess) (elementary : Option Excess) (most elementary_most : ℕ) → option_to_list e.waiting ++ option_to_list e.free ≡ multiplexing →
+same_video : (e : VideoEntered) (multiplexing : List Excess) (elementary : Option Excess) (most elementary_most : ℕ) →
+    option_to_list e.waiting ++ option_to_list e.free ≡ multiplexing →
     e.elementary ≡ elementary → e.multiplexing_most ≡ most → e.elementary_most ≡ elementary_most →
     video_view e ≡ record { multiplexing = multiplexing; elementary = elementary; multiplexing_most = most; elementary_most = elementary_most }
 same_video e multiplexing elementary most elementary_most p q r s = rw (p, q, r, s) refl
 
 -- and what has ended
-pub video_found : (old : VideoBuffers) (new : StreamView Global) (sizes : VideoSizes) (rate : ℕ) (parts : List Part) (ls times : List ℕ) (most last : ℕ) (e : VideoEntered) → IsVideoHeld old sizes rate parts →
+pub video_found : (old : VideoBuffers) (new : StreamView Global) (sizes : VideoSizes) (rate : ℕ) (parts : List Part) (ls times : List ℕ) (most last : ℕ)
+    (e : VideoEntered) → IsVideoHeld old sizes rate parts →
     ls ≡ left_after rate parts times → IsViewOf new (Carries ls ∷ leaked rate parts) → new.transport.step ≡ old.view.transport.step →
     most ≡ greatest_at (main_fullness old.view.transport.step (Carries ls ∷ leaked rate parts)) (left_after old.view.transport.step (leaked rate parts) ls) →
     last ≡ new.transport.last → e.elementary ≡ ended_by old.elementary.size old.elementary.under_way most last →
-    option_to_list e.waiting ++ option_to_list e.free ≡ excesses_ended old.view.transport.step old.view.watch.size old.view.transport.last old.view.watch.under_way ls →
-    e.multiplexing_most ≡ most_found old.view.transport.step old.view.transport.last ls → e.elementary_most ≡ most → video_view e ≡ video_entered sizes rate parts times
+    option_to_list e.waiting ++ option_to_list e.free ≡ excesses_ended old.view.transport.step old.view.watch.size old.view.transport.last
+    old.view.watch.under_way ls →
+    e.multiplexing_most ≡ most_found old.view.transport.step old.view.transport.last ls → e.elementary_most ≡ most →
+    video_view e ≡ video_entered sizes rate parts times
 video_found old new sizes rate parts ls times most last e k is view step found last_is ended excesses multiplexing elementary =
     let viewed = leaked_view new rate parts ls times is view in
     let most_is : most ≡ elementary_found rate sizes.leak parts times = elementary_is old sizes rate parts ls times most k is found in
@@ -160,7 +178,8 @@ video_found old new sizes rate parts ls times most last e k is view step found l
     (excesses
     ∙ ap₂ (λ (s z : ℕ). excesses_ended s z old.view.transport.last old.view.watch.under_way ls) k.leak k.size
     ∙ ap₂ (λ (l : ℕ) (u : Option Excess). excesses_ended sizes.leak sizes.multiplexing l u ls) before under_way
-    ∙ ap (λ (ts : List ℕ). excesses_ended sizes.leak sizes.multiplexing (last_leaked rate sizes.leak parts) (multiplexing_under_way rate sizes.leak sizes.multiplexing parts) ts) is)
+    ∙ ap (λ (ts : List ℕ). excesses_ended sizes.leak sizes.multiplexing (last_leaked rate sizes.leak parts)
+    (multiplexing_under_way rate sizes.leak sizes.multiplexing parts) ts) is)
     (ended
     ∙ ap₂ (λ (n : ℕ) (u : Option Excess). ended_by n u most last) k.main_size k.under_way
     ∙ ap₂ (λ (m l : ℕ). ended_by sizes.elementary (elementary_under_way rate sizes.leak sizes.elementary parts) m l) most_is ends)
@@ -170,7 +189,8 @@ video_found old new sizes rate parts ls times most last e k is view step found l
     (elementary ∙ most_is)
 
 -- a unit begins
-pub video_begun : (old new : VideoBuffers) (sizes : VideoSizes) (rate : ℕ) (parts : List Part) (due : DueTime) → IsVideoHeld old sizes rate parts → IsViewOf new.view (leaked rate (Begins due ∷ parts)) →
+pub video_begun : (old new : VideoBuffers) (sizes : VideoSizes) (rate : ℕ) (parts : List Part) (due : DueTime) → IsVideoHeld old sizes rate parts →
+    IsViewOf new.view (leaked rate (Begins due ∷ parts)) →
     new.view.transport ≡ old.view.transport → new.view.watch ≡ old.view.watch → new.elementary ≡ old.elementary → new.busy ≡ old.busy →
     AreRooms new.rooms rate sizes.leak sizes.elementary (Begins due ∷ parts) → IsVideoHeld new sizes rate (Begins due ∷ parts)
 unfolding elementary_under_way leak_busy
@@ -191,15 +211,27 @@ pub entry_in : (v : VideoBuffers) (sizes : VideoSizes) (rate : ℕ) (parts : Lis
 entry_in v sizes rate parts k = ap (λ (l : ℕ). capped (max l v.rooms.last)) (leaked_last v.view sizes.leak rate parts k.leak k.view) ∙ k.rooms.last
 
 -- bytes that go no further than the transport buffer
-pub video_passed : (video : Option VideoBuffers) (sizes : Option VideoSizes) (rate : ℕ) (parts : List Part) (times : List ℕ) → HoldsVideo video sizes rate parts → HoldsVideo video sizes rate (Passes times ∷ parts)
+pub video_passed : (video : Option VideoBuffers) (sizes : Option VideoSizes) (rate : ℕ) (parts : List Part) (times : List ℕ) →
+    HoldsVideo video sizes rate parts → HoldsVideo video sizes rate (Passes times ∷ parts)
 unfolding elementary_under_way leaked leak_busy
 video_passed None None rate parts times k = tt
 video_passed None (Some s) rate parts times k = absurd k
 video_passed (Some v) None rate parts times k = absurd k
-video_passed (Some v) (Some s) rate parts times k = record { leak = k.leak; size = k.size; view = k.view; main_size = k.main_size; under_way = k.under_way; busy = k.busy; rooms = rooms_passed v.rooms rate s.leak s.elementary parts times k.rooms }
+video_passed (Some v) (Some s) rate parts times k =
+    record {
+      leak = k.leak;
+      size = k.size;
+      view = k.view;
+      main_size = k.main_size;
+      under_way = k.under_way;
+      busy = k.busy;
+      rooms =
+          rooms_passed v.rooms rate s.leak s.elementary parts times k.rooms;
+    }
 
 -- nothing has come
-pub video_empty : (video : VideoBuffers) (sizes : VideoSizes) (rate : ℕ) → video.view.transport.step ≡ sizes.leak → video.view.watch.size ≡ sizes.multiplexing → IsViewOf video.view [] →
+pub video_empty : (video : VideoBuffers) (sizes : VideoSizes) (rate : ℕ) → video.view.transport.step ≡ sizes.leak → video.view.watch.size ≡ sizes.multiplexing →
+    IsViewOf video.view [] →
     video.elementary ≡ record { size = sizes.elementary; under_way = None } → video.busy ≡ never_busy sizes.second →
     AreRooms video.rooms rate sizes.leak sizes.elementary [] → IsVideoHeld video sizes rate []
 unfolding elementary_under_way leak_busy
@@ -224,7 +256,8 @@ unfolding arrivals_of
 no_bytes view v = ap (λ (b : TransportBuffer). b.bytes) v.arrived
 
 -- how bytes leave the transport buffer of buffers that hold what came
-pub left_held : (old : StreamBuffers) (h : Held) (ls ts times : List ℕ) → IsHeld old h → ts ≡ times → ls ≡ departures old.view.transport.step old.view.transport.last ts → ls ≡ left_after h.rate h.parts times
+pub left_held : (old : StreamBuffers) (h : Held) (ls ts times : List ℕ) → IsHeld old h → ts ≡ times →
+    ls ≡ departures old.view.transport.step old.view.transport.last ts → ls ≡ left_after h.rate h.parts times
 left_held old h ls ts times k same is =
     let last : old.view.transport.last ≡ last_of old.view.transport.step h.parts = ap (λ (b : TransportBuffer). b.last) k.view.arrived in
     is ∙ ap (λ (l : ℕ). departures old.view.transport.step l ts) last

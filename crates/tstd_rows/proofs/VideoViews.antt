@@ -42,16 +42,20 @@ left_joined step a b parts =
 plus : (a b c : ℕ) → a + b + c ≡ a + (b + c)
 plus a b c = omega arith
 
-held_joined : (step : ℕ) (a b : List ℕ) (parts : List Part) (x : ℕ) → main_fullness step (Carries b ∷ Carries a ∷ parts) x ≡ main_fullness step (Carries (a ++ b) ∷ parts) x
+held_joined : (step : ℕ) (a b : List ℕ) (parts : List Part) (x : ℕ) →
+    main_fullness step (Carries b ∷ Carries a ∷ parts) x ≡ main_fullness step (Carries (a ++ b) ∷ parts) x
 unfolding main_fullness until_of
 held_joined step a b parts x =
     let both = entered-append (until_of parts) x (left_after step parts a) (left_after step (Carries a ∷ parts) b) in
-    let all : entered (until_of parts) x (left_after step parts (a ++ b)) ≡ entered (until_of parts) x (left_after step parts a ++ left_after step (Carries a ∷ parts) b) =
+    let all : entered (until_of parts) x (left_after step parts (a ++ b)) ≡ entered (until_of parts) x
+    (left_after step parts a ++ left_after step (Carries a ∷ parts) b) =
     ap (entered (until_of parts) x) (left_joined step a b parts) in
-    plus (main_fullness step parts x) (entered (until_of parts) x (left_after step parts a)) (entered (until_of parts) x (left_after step (Carries a ∷ parts) b))
+    plus (main_fullness step parts x) (entered (until_of parts) x (left_after step parts a))
+    (entered (until_of parts) x (left_after step (Carries a ∷ parts) b))
     ∙ ap (λ (n : ℕ). main_fullness step parts x + n) (sym both ∙ sym all)
 
-payload_joined : (step : ℕ) (a b : List ℕ) (parts : List Part) → payload_left step (Carries b ∷ Carries a ∷ parts) ≡ payload_left step (Carries (a ++ b) ∷ parts)
+payload_joined : (step : ℕ) (a b : List ℕ) (parts : List Part) →
+    payload_left step (Carries b ∷ Carries a ∷ parts) ≡ payload_left step (Carries (a ++ b) ∷ parts)
 unfolding payload_left
 payload_joined step a b parts =
     append_assoc (payload_left step parts) (left_after step parts a) (left_after step (Carries a ∷ parts) b)
@@ -59,10 +63,12 @@ payload_joined step a b parts =
 
 peak_joined : (step : ℕ) (a b : List ℕ) (parts : List Part) → main_peak step (Carries b ∷ Carries a ∷ parts) ≡ main_peak step (Carries (a ++ b) ∷ parts)
 peak_joined step a b parts =
-    greatest_ext (main_fullness step (Carries b ∷ Carries a ∷ parts)) (main_fullness step (Carries (a ++ b) ∷ parts)) (payload_left step (Carries b ∷ Carries a ∷ parts)) (held_joined step a b parts)
+    greatest_ext (main_fullness step (Carries b ∷ Carries a ∷ parts)) (main_fullness step (Carries (a ++ b) ∷ parts))
+    (payload_left step (Carries b ∷ Carries a ∷ parts)) (held_joined step a b parts)
     ∙ ap (greatest_at (main_fullness step (Carries (a ++ b) ∷ parts))) (payload_joined step a b parts)
 
-bytes_joined : (unit : Option UnitSeen) (m n k left left' last : ℕ) → k ≡ m + n → left' ≡ last → with_bytes (with_bytes unit m left) n left' ≡ with_bytes unit k last
+bytes_joined : (unit : Option UnitSeen) (m n k left left' last : ℕ) → k ≡ m + n → left' ≡ last →
+    with_bytes (with_bytes unit m left) n left' ≡ with_bytes unit k last
 bytes_joined None m n k left left' last many same = refl
 bytes_joined (Some u) m n k left left' last many same =
     ap₂ (λ (b l : ℕ). Some (record { due = u.due; bytes = b; left = l })) (omega (arith, many)) same
@@ -74,7 +80,8 @@ unit_joined step a b parts =
     (last_of step (Carries (a ++ b) ∷ parts)) (length-append a b) (ap (last_left step 0) (arrivals_joined a b parts))
 
 -- a view of two rows is one of both
-pub joined_view : {A : Type 0} (view : StreamView A) (a b : List ℕ) (parts : List Part) → IsViewOf view (Carries b ∷ Carries a ∷ parts) → IsViewOf view (Carries (a ++ b) ∷ parts)
+pub joined_view : {A : Type 0} (view : StreamView A) (a b : List ℕ) (parts : List Part) → IsViewOf view (Carries b ∷ Carries a ∷ parts) →
+    IsViewOf view (Carries (a ++ b) ∷ parts)
 unfolding until_of
 joined_view view a b parts v = record {
   arrived = v.arrived ∙ ap (λ (ts : List ℕ). buffer_entered (empty view.transport.step) ts) (arrivals_joined a b parts);
@@ -87,7 +94,8 @@ joined_view view a b parts v = record {
 
 -- the most when one of a row enters, by all that came
 pub row_found : {A : Type 0} (view : StreamView A) (parts : List Part) (ts : List ℕ) (found : ℕ) → IsViewOf view parts → 0 < view.transport.step →
-    found ≡ greatest_at (fullness_with view.main (departures view.transport.step view.transport.last ts)) (departures view.transport.step view.transport.last ts) →
+    found ≡ greatest_at (fullness_with view.main (departures view.transport.step view.transport.last ts))
+    (departures view.transport.step view.transport.last ts) →
     found ≡ greatest_at (main_fullness view.transport.step (Carries ts ∷ parts)) (left_after view.transport.step parts ts)
 row_found view parts ts found v pos is =
     let s : ℕ = view.transport.step in
@@ -127,9 +135,11 @@ pub most_found_joined : (buffer buffer' : TransportBuffer) (a b : List ℕ) → 
     max (most_found buffer.step buffer.last a) (most_found buffer'.step buffer'.last b) ≡ most_found buffer.step buffer.last (a ++ b)
 most_found_joined buffer buffer' a b is = rw is (sym (most_found-append buffer.step buffer.last a b))
 
-pub ended_joined : (buffer buffer' : TransportBuffer) (size size' : ℕ) (under_way under_way' : Option Excess) (a b : List ℕ) → buffer' ≡ buffer_entered buffer a → size' ≡ size →
+pub ended_joined : (buffer buffer' : TransportBuffer) (size size' : ℕ) (under_way under_way' : Option Excess) (a b : List ℕ) →
+    buffer' ≡ buffer_entered buffer a → size' ≡ size →
     under_way' ≡ excess_after buffer.step size buffer.last under_way a →
-    excesses_ended buffer.step size buffer.last under_way a ++ excesses_ended buffer'.step size' buffer'.last under_way' b ≡ excesses_ended buffer.step size buffer.last under_way (a ++ b)
+    excesses_ended buffer.step size buffer.last under_way a ++ excesses_ended buffer'.step size' buffer'.last under_way' b ≡ excesses_ended buffer.step size
+    buffer.last under_way (a ++ b)
 ended_joined buffer buffer' size size' under_way under_way' a b is same grows =
     rw (is, same) (in_two_ended buffer.step size buffer.last (last_left buffer.step buffer.last a) under_way under_way' a b (a ++ b) refl refl grows)
 

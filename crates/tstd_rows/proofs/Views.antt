@@ -72,12 +72,18 @@ greatest_from : (f g : ℕ → ℕ) (until from : ℕ) (ds us : List ℕ) → Cl
 unfolding greatest_at Climbs
 greatest_from f g until from [] us climbs same = refl
 greatest_from f g until from (d ∷ ds) us climbs same =
-    omega (arith, same d (omega (arith, climbs.0)), greatest_from f g until from ds us (climbs_low (suc from) (suc d) ds (omega (arith, climbs.0)) climbs.1) same)
+    omega (
+      arith,
+      same d (omega (arith, climbs.0)),
+      greatest_from f g until from ds us (climbs_low (suc from) (suc d) ds (omega (arith, climbs.0)) climbs.1)
+          same,
+    )
 
 -- the most with bytes that enter after the others
 most_more : (step peak : ℕ) (held : ℕ → ℕ) (before : List Part) (ts : List ℕ) → 0 < step →
     ((x : ℕ) → last_of step before ≤ x → held x ≡ main_fullness step before x) → peak ≡ main_peak step before →
-    max peak (greatest_at (λ x. held x + entered (until_of before) x (left_after step before ts)) (left_after step before ts)) ≡ main_peak step (Carries ts ∷ before)
+    max peak (greatest_at (λ x. held x + entered (until_of before) x (left_after step before ts)) (left_after step before ts)) ≡ main_peak step
+    (Carries ts ∷ before)
 unfolding main_fullness payload_left
 most_more step peak held before ts pos same is =
     let ds = left_after step before ts in
@@ -92,7 +98,8 @@ most_more step peak held before ts pos same is =
     omega (arith, ext, both, first, later, is)
 
 -- the most when one of these enters
-pub row_most : (step : ℕ) (held : ℕ → ℕ) (before : List Part) (ts : List ℕ) → 0 < step → ((x : ℕ) → last_of step before ≤ x → held x ≡ main_fullness step before x) →
+pub row_most : (step : ℕ) (held : ℕ → ℕ) (before : List Part) (ts : List ℕ) → 0 < step →
+    ((x : ℕ) → last_of step before ≤ x → held x ≡ main_fullness step before x) →
     greatest_at (λ x. held x + entered (until_of before) x (left_after step before ts)) (left_after step before ts)
     ≡ greatest_at (main_fullness step (Carries ts ∷ before)) (left_after step before ts)
 unfolding main_fullness
@@ -104,7 +111,8 @@ row_most step held before ts pos same =
     ∙ sym (greatest_ext (main_fullness step (Carries ts ∷ before)) (λ x. f x + entered until x ds) ds (λ x. refl))
 
 -- the least that one of these finds
-pub row_lowest : (step : ℕ) (held : ℕ → ℕ) (before : List Part) (ts : List ℕ) → 0 < step → ((x : ℕ) → last_of step before ≤ x → held x ≡ main_fullness step before x) →
+pub row_lowest : (step : ℕ) (held : ℕ → ℕ) (before : List Part) (ts : List ℕ) → 0 < step →
+    ((x : ℕ) → last_of step before ≤ x → held x ≡ main_fullness step before x) →
     least_found held (until_of before) 0 None (left_after step before ts) ≡ row_least step before ts
 row_lowest step held before ts pos same =
     let ds = left_after step before ts in
@@ -118,13 +126,15 @@ held_more : (step x last last' until until' now here before : ℕ) (ts : List �
 held_more step x last last' until until' now here before ts at stays same is = is ∙ rw (at, stays, same) refl
 
 watched_more : (step size last : ℕ) (under_way under_way' : Option Excess) (earlier ts : List ℕ) → last ≡ last_left step 0 earlier →
-    under_way ≡ excess_after step size 0 None earlier → under_way' ≡ excess_after step size last under_way ts → under_way' ≡ excess_after step size 0 None (earlier ++ ts)
+    under_way ≡ excess_after step size 0 None earlier → under_way' ≡ excess_after step size last under_way ts →
+    under_way' ≡ excess_after step size 0 None (earlier ++ ts)
 watched_more step size last under_way under_way' earlier ts at is is' = is' ∙ rw (at, is) (sym (after-append step size 0 None earlier ts))
 
 -- ---- one part more
 
 -- bytes that enter after others
-entered_more : (buffer buffer' : TransportBuffer) (earlier ts : List ℕ) → buffer ≡ buffer_entered (empty buffer.step) earlier → buffer' ≡ buffer_entered buffer ts →
+entered_more : (buffer buffer' : TransportBuffer) (earlier ts : List ℕ) → buffer ≡ buffer_entered (empty buffer.step) earlier →
+    buffer' ≡ buffer_entered buffer ts →
     buffer' ≡ buffer_entered (empty buffer'.step) (earlier ++ ts)
 entered_more buffer buffer' earlier ts is is' =
     let same : buffer'.step ≡ buffer.step = ap (λ (b : TransportBuffer). b.step) is' in
@@ -145,7 +155,8 @@ passed {A = A} view view' before ts v enters grows size main unit =
     let last' : view'.transport.last ≡ last_left view.transport.step view.transport.last ts = ap (λ (b : TransportBuffer). b.last) enters in
     record {
       arrived = entered_more view.transport view'.transport (arrivals_of before) ts v.arrived enters;
-      watched = watched_more view.transport.step view.watch.size view.transport.last view.watch.under_way view'.watch.under_way (arrivals_of before) ts last v.watched grows
+      watched = watched_more view.transport.step view.watch.size view.transport.last view.watch.under_way view'.watch.under_way (arrivals_of before) ts last
+          v.watched grows
           ∙ ap₂ (λ (n z : ℕ). excess_after n z 0 None (arrivals_of before ++ ts)) (sym step) (sym size);
       held = λ x le. ap (λ (m : MainBuffer A). fullness_at m x) main
           ∙ v.held x (omega (arith, le, last', prev_le view.transport.step view.transport.last ts))
@@ -161,7 +172,9 @@ pub carried : {A : Type 0} (view view' : StreamView A) (before : List Part) (ts 
     ((x : ℕ) → All (λ d. d ≤ x) (departures view.transport.step view.transport.last ts) →
     fullness_at view'.main x ≡ fullness_with view.main (departures view.transport.step view.transport.last ts) x) →
     view'.main.current.until ≡ view.main.current.until →
-    view'.main.peak ≡ max view.main.peak (greatest_at (fullness_with view.main (departures view.transport.step view.transport.last ts)) (departures view.transport.step view.transport.last ts)) →
+    view'.main.peak ≡ max view.main.peak
+    (greatest_at (fullness_with view.main (departures view.transport.step view.transport.last ts)) (departures view.transport.step view.transport.last ts))
+    →
     view'.unit ≡ with_bytes view.unit (length ts) view'.transport.last → IsViewOf view' (Carries ts ∷ before)
 unfolding arrivals_of payload_left main_fullness until_of unit_of
 carried {A = A} view view' before ts v pos enters grows size held until most unit =
@@ -176,13 +189,16 @@ carried {A = A} view view' before ts v pos enters grows size held until most uni
       watched = watched_more s view.watch.size view.transport.last view.watch.under_way view'.watch.under_way (arrivals_of before) ts last v.watched grows
           ∙ ap₂ (λ (n z : ℕ). excess_after n z 0 None (arrivals_of before ++ ts)) (sym step) (sym size);
       held = λ x le.
-          let all = All-weaker (λ d. d ≤ last_left s view.transport.last ts) (λ d. d ≤ x) (λ d h. omega (arith, h, le, last')) (departures s view.transport.last ts) by in
+          let all = All-weaker (λ d. d ≤ last_left s view.transport.last ts) (λ d. d ≤ x) (λ d h. omega (arith, h, le, last'))
+          (departures s view.transport.last ts) by in
           let here = v.held x (omega (arith, le, last', prev_le s view.transport.last ts)) in
-          held_more s x view.transport.last (last_of s before) view.main.current.until (until_of before) (fullness_at view'.main x) (fullness_at view.main x) (main_fullness s before x) ts
+          held_more s x view.transport.last (last_of s before) view.main.current.until (until_of before) (fullness_at view'.main x) (fullness_at view.main x)
+          (main_fullness s before x) ts
           last v.until here (held x all)
           ∙ ap (λ (n : ℕ). main_fullness n (Carries ts ∷ before) x) (sym step);
       most = most
-          ∙ ap₂ (λ (u l : ℕ). max view.main.peak (greatest_at (λ x. fullness_at view.main x + entered u x (departures s l ts)) (departures s l ts))) v.until last
+          ∙ ap₂ (λ (u l : ℕ). max view.main.peak (greatest_at (λ x. fullness_at view.main x + entered u x (departures s l ts)) (departures s l ts))) v.until
+          last
           ∙ most_more s view.main.peak (fullness_at view.main) before ts pos (λ x le. v.held x (omega (arith, le, last))) v.most
           ∙ ap (λ (n : ℕ). main_peak n (Carries ts ∷ before)) (sym step);
       until = until ∙ v.until;
@@ -191,7 +207,8 @@ carried {A = A} view view' before ts v pos enters grows size held until most uni
     }
 
 -- no part has come
-pub nothing : {A : Type 0} (view : StreamView A) (step : ℕ) → view.transport ≡ empty step → view.watch.under_way ≡ None → ((x : ℕ) → fullness_at view.main x ≡ 0) →
+pub nothing : {A : Type 0} (view : StreamView A) (step : ℕ) → view.transport ≡ empty step → view.watch.under_way ≡ None →
+    ((x : ℕ) → fullness_at view.main x ≡ 0) →
     view.main.peak ≡ 0 → view.main.current.until ≡ 0 → view.unit ≡ None → IsViewOf view []
 unfolding arrivals_of payload_left main_fullness until_of unit_of excess_after last_left greatest_at most_found
 nothing view step transport none held peak until unit =
@@ -207,7 +224,8 @@ nothing view step transport none held peak until unit =
 
 -- a unit begins
 pub unit_begun : {A : Type 0} (view view' : StreamView A) (before : List Part) (due : DueTime) → IsViewOf view before →
-    view'.transport ≡ view.transport → view'.watch ≡ view.watch → ((x : ℕ) → fullness_at view'.main x ≡ fullness_at view.main x) → view'.main.peak ≡ view.main.peak →
+    view'.transport ≡ view.transport → view'.watch ≡ view.watch → ((x : ℕ) → fullness_at view'.main x ≡ fullness_at view.main x) →
+    view'.main.peak ≡ view.main.peak →
     view'.main.current.until ≡ due.until → view'.unit ≡ Some (record { due = due; bytes = 0; left = 0 }) → IsViewOf view' (Begins due ∷ before)
 unfolding arrivals_of payload_left main_fullness until_of unit_of
 unit_begun view view' before due v transport watch held peak until unit =
@@ -226,7 +244,8 @@ unit_begun view view' before due v transport watch held peak until unit =
 -- ---- numbers of bytes
 
 -- all that arrive leave
-pub left_bytes : (step last : ℕ) (leaving : Leaving) (row : Row) → times_left leaving ≡ departures step last (times_of row) → leaving.waiting.bytes + leaving.free.bytes ≡ row.bytes
+pub left_bytes : (step last : ℕ) (leaving : Leaving) (row : Row) → times_left leaving ≡ departures step last (times_of row) →
+    leaving.waiting.bytes + leaving.free.bytes ≡ row.bytes
 left_bytes step last leaving row is =
     let w : Row = leaving.waiting in
     let f : Row = leaving.free in

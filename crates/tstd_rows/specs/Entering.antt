@@ -36,7 +36,19 @@ entered_view e = record {
 }
 
 abbrev pub nothing_entered : Entered
-nothing_entered = record { lead = None; header = None; payload = None; main = None; unit = None; transport_most = 0; main_most = 0; main_least = None; video = nothing_of_video }
+nothing_entered =
+    record {
+      lead = None;
+      header = None;
+      payload = None;
+      main = None;
+      unit = None;
+      transport_most = 0;
+      main_most = 0;
+      main_least = None;
+      video =
+          nothing_of_video;
+    }
 
 abbrev pub nothing : EnteredView
 nothing = record { transport = []; main = []; unit = None; transport_most = 0; main_most = 0; main_least = None }
@@ -132,7 +144,8 @@ ended_first h arrival p size lead count = record {
   main = bytes_main (after_unit h arrival p size lead) arrival p.enters (188 * p.index + (188 - size)) count;
   unit = unit_ended (after_header h arrival p size lead) p.begins;
   transport_most = max
-      (max (bytes_transport_most h arrival (188 * p.index) lead) (bytes_transport_most (after_lead h arrival p lead) arrival (188 * p.index + lead) (188 - size - lead)))
+      (max (bytes_transport_most h arrival (188 * p.index) lead)
+      (bytes_transport_most (after_lead h arrival p lead) arrival (188 * p.index + lead) (188 - size - lead)))
       (bytes_transport_most (after_unit h arrival p size lead) arrival (188 * p.index + (188 - size)) count);
   main_most = bytes_main_most (after_unit h arrival p size lead) arrival p.enters (188 * p.index + (188 - size)) count;
   main_least = bytes_main_least (after_unit h arrival p size lead) arrival p.enters (188 * p.index + (188 - size)) count;

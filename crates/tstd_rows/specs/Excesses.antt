@@ -33,7 +33,8 @@ excess_after step size prev under_way (t ∷ ts) = excess_after step size (max t
 unfoldable pub excesses_ended : ℕ → ℕ → ℕ → Option Excess → List ℕ → List Excess
 excesses_ended step size prev under_way [] = []
 excesses_ended step size prev under_way (t ∷ ts) =
-    (if is_over step size prev t then [] else option_to_list under_way) ++ excesses_ended step size (max t prev + step) (after_byte step size prev under_way t) ts
+    (if is_over step size prev t then [] else option_to_list under_way) ++ excesses_ended step size (max t prev + step) (after_byte step size prev under_way t)
+    ts
 
 -- each of these bytes finds no room, or each finds room
 unfoldable pub AreOver : Bool → ℕ → ℕ → ℕ → List ℕ → Type 0

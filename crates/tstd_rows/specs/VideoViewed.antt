@@ -3,7 +3,8 @@
 --
 -- Lists of parts have the last one first. Times are those at the stream's transport buffer, which a byte takes `step` to leave: units
 -- of 8 / (S * Rx) seconds, where `step` is S. A byte takes `leak` to leave MB.
-use Rattle.std.specs.Prelude.{◌≡◌, ℕ, ◌+◌, ◌-◌, ◌*◌, ◌/◌, ◌<◌, ◌^◌, ◌==◌, max, min, nat_lt, List, [], ◌∷◌, ◌++◌, length, replicate, Option, Some, None, is_some, if◌then◌else◌}
+use Rattle.std.specs.Prelude.{◌≡◌, ℕ, ◌+◌, ◌-◌, ◌*◌, ◌/◌, ◌<◌, ◌^◌, ◌==◌, max, min, nat_lt, List, [], ◌∷◌, ◌++◌, length, replicate, Option, Some, None, is_some}
+use Rattle.std.specs.Prelude.{if◌then◌else◌}
 use Rattle.clock27.specs.Departure.{departures, last_left}
 use Rattle.clock27.specs.Fullness.{fullness}
 use Rattle.clock27.specs.Peak.{IsPeak, greatest_at}
@@ -92,7 +93,8 @@ LeakedPartsLaw = (step leak : ℕ) (parts : List Part) → LeakedParts step leak
 -- and its figures are the greatest fullness of MB and of EB over all moments
 abbrev pub VideoFiguresLaw : Type 0
 VideoFiguresLaw = (step leak : ℕ) (parts : List Part) → 0 < step → 0 < leak →
-    IsPeak (multiplexing_held step leak parts) (multiplexing_buffer step leak parts).most × IsPeak (elementary_held step leak parts) (elementary_peak step leak parts)
+    IsPeak (multiplexing_held step leak parts) (multiplexing_buffer step leak parts).most × IsPeak (elementary_held step leak parts)
+    (elementary_peak step leak parts)
 
 -- ---- where EB is full
 

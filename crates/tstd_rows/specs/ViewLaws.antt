@@ -18,6 +18,8 @@ FiguresLaw = (step : ℕ) (parts : List Part) → 0 < step → Rises 0 (arrivals
 
 -- and so are those of a program's tables, which pass one buffer after the other
 abbrev pub TablesLaw : Type 0
-TablesLaw = (view : SystemView) (step system_step : ℕ) (times : List ℕ) → 0 < step → 0 < system_step → Rises 0 times → IsSystemViewOf view step system_step times →
+TablesLaw = (view : SystemView) (step system_step : ℕ) (times : List ℕ) → 0 < step → 0 < system_step → Rises 0 times →
+    IsSystemViewOf view step system_step times →
     IsPeak (λ x. fullness x times (departures (2 * step) 0 times)) (bytes_within view.transport.queue.step view.transport.queue.longest_residence)
-    × IsPeak (λ x. fullness x (departures (2 * step) 0 times) (departures system_step 0 (departures (2 * step) 0 times))) (bytes_within view.system.queue.step view.system.queue.longest_residence)
+    × IsPeak (λ x. fullness x (departures (2 * step) 0 times) (departures system_step 0 (departures (2 * step) 0 times)))
+    (bytes_within view.system.queue.step view.system.queue.longest_residence)

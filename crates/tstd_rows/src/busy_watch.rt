@@ -14,7 +14,8 @@ pub struct Stay {
     pub end: u128,
 }
 
-/// How long a buffer may be not empty, since when it is not, how many times it was not empty for longer, and the last of these.
+/// How long a buffer may be not empty, since when it is not, how many times it was not empty for longer, and the last
+/// of these.
 #[derive(Clone, Copy)]
 pub struct BusyWatch {
     pub limit: u128,
@@ -36,7 +37,8 @@ impl BusyWatch {
         }
     }
 
-    // The buffer was empty before bytes that arrive from `first` on. A call of its own: few times are longer than they may be.
+    // The buffer was empty before bytes that arrive from `first` on. A call of its own: few times are longer than they
+    // may be.
     #[inline(never)]
     fn note(&mut self, prev: u128)
         ensures { self.new ≡ record self.old {
@@ -91,7 +93,8 @@ impl BusyWatch {
         }
     }
 
-    /// Returns the time since when the buffer is not empty, if it is longer than it may be once the last byte has left at `last`.
+    /// Returns the time since when the buffer is not empty, if it is longer than it may be once the last byte has left
+    /// at `last`.
     pub fn under_way(&self, last: u128) -> Option<Stay>
         ensures { result ≡ spec.busy_under_way self.now last }
     {

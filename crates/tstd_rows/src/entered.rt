@@ -6,10 +6,11 @@ use crate::excess::Excess;
 use crate::unit_seen::UnitSeen;
 use crate::video_buffers::VideoEntered;
 
-/// What has ended with a packet: an excess of the transport buffer before a byte at its front, which may lie on an earlier line than the
-/// rest, before another byte of its header, or before a payload byte; an excess of the main buffer; and the unit before a unit that
-/// begins. And the most bytes that were in each buffer when any byte of the packet entered it, itself included (0 if none did), and the
-/// least that any of them found in the main buffer, itself not counted.
+/// What has ended with a packet: an excess of the transport buffer before a byte at its front, which may lie on an
+/// earlier line than the rest, before another byte of its header, or before a payload byte; an excess of the main
+/// buffer; and the unit before a unit that begins. And the most bytes that were in each buffer when any byte of the
+/// packet entered it, itself included (0 if none did), and the least that any of them found in the main buffer, itself
+/// not counted.
 #[derive(Clone, Copy)]
 pub struct Entered {
     pub lead: Option<Excess>,

@@ -116,8 +116,8 @@ impl StreamBuffers {
         self.busy.under_way(self.view.transport.last)
     }
 
-    // Bytes of the stream that go no further than the transport buffer, from byte `byte` on: the most that one of them found. The excess that
-    // has ended is written where none is yet.
+    // Bytes of the stream that go no further than the transport buffer, from byte `byte` on: the most that one of them
+    // found. The excess that has ended is written where none is yet.
     #[inline(always)]
     fn pass(&mut self, arrival: &Arrival, byte: u64, count: u64, ended: &mut Option<Excess>) -> u128
         requires some { 0 < count }
@@ -266,8 +266,8 @@ impl StreamBuffers {
         }
     }
 
-    // Bytes of a payload from byte `byte` on, none where there are none: what they found. The excesses that have ended are written where
-    // none are yet.
+    // Bytes of a payload from byte `byte` on, none where there are none: what they found. The excesses that have ended
+    // are written where none are yet.
     #[inline(always)]
     #[tactic(auto, unfolding(crate::specs::Entering::after_payload, crate::specs::Entering::payload_transport, crate::specs::Entering::payload_main, crate::specs::Entering::payload_transport_most, crate::specs::Entering::payload_main_most, crate::specs::Entering::payload_main_least, crate::specs::EnteringVideo::payload_video))]
     pub(crate) fn take(

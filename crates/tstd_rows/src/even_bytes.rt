@@ -11,8 +11,8 @@ use crate::excess::Excess;
 use crate::watched_queue::WatchedQueue;
 use arrival::Row;
 
-/// Bytes one after another, one at least: when the first arrives and when the last does, and that each comes `pace` of `parts` after the
-/// one before it.
+/// Bytes one after another, one at least: when the first arrives and when the last does, and that each comes `pace` of
+/// `parts` after the one before it.
 #[derive(Clone, Copy)]
 pub(crate) struct EvenBytes {
     pub first: u128,
@@ -42,8 +42,9 @@ pub(crate) fn even_bytes(row: &Row) -> Option<EvenBytes>
     })
 }
 
-// How bytes leave a buffer which a byte takes `step` to leave, and the last one before them leaves at `prev`, if they leave at an even pace:
-// where they come no slower than they leave, all wait for the first; where they come no faster and the first does not wait, none does.
+// How bytes leave a buffer which a byte takes `step` to leave, and the last one before them leaves at `prev`, if they
+// leave at an even pace: where they come no slower than they leave, all wait for the first; where they come no faster
+// and the first does not wait, none does.
 fn leave_evenly(step: u64, prev: u128, even: &EvenBytes) -> Option<EvenBytes>
     requires step { step ≤ 2 ^ 33 }
     requires prev { prev < 2 ^ 100 }

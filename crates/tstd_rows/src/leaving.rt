@@ -6,8 +6,8 @@ ghost use Rattle.tstd_rows.specs.Buffers.{IsSoon, RowsSoon, times_left, waiting_
 
 use arrival::{Row, multiples_below};
 
-/// The bytes of a row as they leave a buffer: first the waiting bytes, which leave a step apart, then the bytes that find
-/// the buffer empty, which leave a step after they arrive. Either part may be empty.
+/// The bytes of a row as they leave a buffer: first the waiting bytes, which leave a step apart, then the bytes that
+/// find the buffer empty, which leave a step after they arrive. Either part may be empty.
 #[derive(Clone, Copy)]
 pub struct Leaving {
     pub waiting: Row,

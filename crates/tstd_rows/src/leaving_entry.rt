@@ -21,7 +21,8 @@ pub struct MainFound {
     pub least: Option<u64>,
 }
 
-/// Takes the current unit's bytes, which leave the transport buffer, into the main buffer; returns what they found there.
+/// Takes the current unit's bytes, which leave the transport buffer, into the main buffer; returns what they found
+/// there.
 pub fn enter_leaving<A: Allocator>(buffer: &mut MainBuffer<A>, leaving: &Leaving) -> MainFound
     requires sound { IsSound buffer.old }
     requires timed { IsTimed leaving.now.waiting × IsTimed leaving.now.free }

@@ -1,5 +1,6 @@
-//! The buffers of the transport stream system target decoder (ISO/IEC 13818-1, 2.4.2.3), row by row, as the bytes of any
-//! stream arrive: what they hold, each excess, and each unit with its time, in a few steps a row whatever its length.
+//! The buffers of the transport stream system target decoder (ISO/IEC 13818-1, 2.4.2.3), row by row, as the bytes of
+//! any stream arrive: what they hold, each excess, and each unit with its time, in a few steps a row whatever its
+//! length.
 //!
 //! - [`Leaving`]: the bytes of a row as they leave, one row or two.
 //! - [`TransportBuffer`]: the transport buffer of a stream. Its state is when the last byte leaves, which determines its
@@ -23,10 +24,11 @@
 //! - [`transport_laws`]: what the state of a transport buffer says of its fullness over all moments. [`view_laws`]: what the
 //!   figures are over all moments, and that at a constant rate they are the figures of `tstd`.
 //!
-//! All bytes of a PID's packets enter the transport buffer as they arrive (the rows of the crate `arrival`), and each takes one
-//! `step` to leave it, on any scale of times; the bytes of their payloads then enter the main buffer, PES headers too, until their
-//! unit is decoded. The history of the stream says what the buffers hold (`specs/History`, `specs/Held`). The answer for a row
-//! is large: calls that hand it on are inlined into their callers, so that it is not moved.
+//! All bytes of a PID's packets enter the transport buffer as they arrive (the rows of the crate `arrival`), and each
+//! takes one `step` to leave it, on any scale of times; the bytes of their payloads then enter the main buffer, PES
+//! headers too, until their unit is decoded. The history of the stream says what the buffers hold (`specs/History`,
+//! `specs/Held`). The answer for a row is large: calls that hand it on are inlined into their callers, so that it is
+//! not moved.
 #![tactic(auto)]
 
 mod arriving;

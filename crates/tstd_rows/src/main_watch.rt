@@ -23,9 +23,10 @@ impl MainWatch {
         }
     }
 
-    /// Notes a row that `carry` took into the buffer, its last byte at `last`; a byte of it found `most` bytes there, itself included.
-    /// Returns the excess that has ended. An excess begins with the last byte of the first row with a byte that finds no room, and ends
-    /// with the last byte of the next row whose bytes find room. A call of its own: few rows begin or end an excess.
+    /// Notes a row that `carry` took into the buffer, its last byte at `last`; a byte of it found `most` bytes there,
+    /// itself included. Returns the excess that has ended. An excess begins with the last byte of the first row with a
+    /// byte that finds no room, and ends with the last byte of the next row whose bytes find room. A call of its own:
+    /// few rows begin or end an excess.
     #[inline(never)]
     #[tactic(auto, unfolding(crate::specs::MainExcess::grown, crate::specs::MainExcess::ended_at))]
     pub fn see(&mut self, most: u64, last: u128) -> Option<Excess>

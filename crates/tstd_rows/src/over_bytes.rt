@@ -1,4 +1,5 @@
-//! Which bytes of a row find no room in a buffer: the last bytes if they arrive no slower than they leave, otherwise the first.
+//! Which bytes of a row find no room in a buffer: the last bytes if they arrive no slower than they leave, otherwise
+//! the first.
 ghost use Rattle.std.specs.Prelude.{◌≡◌, ◌+◌, ◌*◌, ◌<◌, ◌≤◌, ◌^◌, max, true, false, ◌++◌};
 ghost use Rattle.clock27.specs.Departure.{last_left};
 ghost use Rattle.arrival.specs.Rows.{IsTimed, first_bytes, other_bytes, times_of};

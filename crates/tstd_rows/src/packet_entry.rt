@@ -67,8 +67,8 @@ impl StreamBuffers {
         Ok(())
     }
 
-    /// Takes a packet of the stream; what has ended, and what was in the buffers, is written where nothing is yet, so that it is not moved. If
-    /// no memory is left for one unit more, drop the buffers.
+    /// Takes a packet of the stream; what has ended, and what was in the buffers, is written where nothing is yet, so
+    /// that it is not moved. If no memory is left for one unit more, drop the buffers.
     #[tactic(auto, unfolding(crate::specs::Entering::after, crate::specs::Entering::after_first, crate::specs::Entering::entered, crate::specs::Entering::entered_first, crate::specs::EnteringVideo::video_of, crate::specs::EnteringVideo::video_first_of))]
     pub fn enter_into(
         &mut self,
@@ -90,8 +90,8 @@ impl StreamBuffers {
         self.enter_first(arrival, packet, packet.size.min(184), into)
     }
 
-    /// Takes a packet of the stream with at most the first `count` bytes of its payload: those before an access unit that begins within it.
-    /// Take the rest of its payload by `enter_part`.
+    /// Takes a packet of the stream with at most the first `count` bytes of its payload: those before an access unit
+    /// that begins within it. Take the rest of its payload by `enter_part`.
     pub fn enter_front(
         &mut self,
         arrival: &Arrival,
@@ -110,7 +110,8 @@ impl StreamBuffers {
         self.enter_first(arrival, packet, count.min(packet.size.min(184)), into)
     }
 
-    /// Takes the bytes of an access unit that begins within the payload of a packet, as far as they are in that payload.
+    /// Takes the bytes of an access unit that begins within the payload of a packet, as far as they are in that
+    /// payload.
     #[tactic(auto, unfolding(crate::specs::Entering::after_part, crate::specs::Entering::entered_part))]
     pub fn enter_part(
         &mut self,
@@ -148,8 +149,8 @@ impl StreamBuffers {
         Ok(())
     }
 
-    /// Takes a packet of the stream, and returns what has ended, and what was in the buffers. If no memory is left for one unit more, drop the
-    /// buffers.
+    /// Takes a packet of the stream, and returns what has ended, and what was in the buffers. If no memory is left for
+    /// one unit more, drop the buffers.
     pub fn enter(&mut self, arrival: &Arrival, packet: &Arriving) -> Result<Entered, AllocError>
         ensures held { (h : Held) → IsHeld self.old h → OnOk result (IsHeld self.new (after h arrival.now packet.now)) }
         ensures video { (h : Held) (sizes : Option VideoSizes) → IsHeld self.old h → HoldsVideoOf self.old sizes h →

@@ -42,8 +42,8 @@ fn see_over(
     *ended = watch.enter(buffer, row);
 }
 
-// The excess that has ended is written where none is yet; `most` is the most that one of the bytes finds. Where no byte finds too many and
-// none is under way, nothing is written.
+// The excess that has ended is written where none is yet; `most` is the most that one of the bytes finds. Where no byte
+// finds too many and none is under way, nothing is written.
 #[inline(always)]
 fn see(
     watch: &mut ExcessWatch,

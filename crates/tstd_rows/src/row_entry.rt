@@ -68,8 +68,8 @@ struct FirstFound {
     others: Row,
 }
 
-// The first bytes of a row of the unit under way enter the buffer, up to the next moment at which bytes leave it; or they come
-// too late, all but the last one at once.
+// The first bytes of a row of the unit under way enter the buffer, up to the next moment at which bytes leave it; or
+// they come too late, all but the last one at once.
 fn enter_first<A: Allocator>(buffer: &mut MainBuffer<A>, row: &Row) -> FirstFound
     requires sound { IsSound buffer.old }
     requires timed { IsTimed row.now }
@@ -107,8 +107,8 @@ fn enter_first<A: Allocator>(buffer: &mut MainBuffer<A>, row: &Row) -> FirstFoun
     FirstFound { found, others }
 }
 
-/// Takes the bytes of a row of the current unit into the buffer, each at its time, unless it is too late for it. Returns the least
-/// that any of them finds there, itself not counted, or the least so far.
+/// Takes the bytes of a row of the current unit into the buffer, each at its time, unless it is too late for it.
+/// Returns the least that any of them finds there, itself not counted, or the least so far.
 pub fn enter_row<A: Allocator>(
     buffer: &mut MainBuffer<A>,
     row: &Row,

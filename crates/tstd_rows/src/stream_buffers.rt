@@ -8,8 +8,8 @@ use crate::video_buffers::VideoBuffers;
 use crate::viewed_buffers::StreamView;
 use std::alloc::Global;
 
-/// The buffers of an elementary stream: the transport buffer is drained at `rx` bits a second. Times are in units of 8 / (S * rx)
-/// seconds, where S is the step of the arrivals: the stream's constant rate, or 216,000,000 by a clock.
+/// The buffers of an elementary stream: the transport buffer is drained at `rx` bits a second. Times are in units of 8
+/// / (S * rx) seconds, where S is the step of the arrivals: the stream's constant rate, or 216,000,000 by a clock.
 #[derive(Drop)]
 pub struct StreamBuffers {
     pub rx: u32,

@@ -11,8 +11,8 @@ pub const TABLE_TRANSPORT_BYTES: u64 = 512;
 
 pub const SYSTEM_BYTES: u64 = 1_536;
 
-/// The buffers of a program's tables, and what they have held so far: all bytes of their packets enter a transport buffer, and
-/// from there a system buffer (ISO/IEC 13818-1, 2.4.2.3).
+/// The buffers of a program's tables, and what they have held so far: all bytes of their packets enter a transport
+/// buffer, and from there a system buffer (ISO/IEC 13818-1, 2.4.2.3).
 #[derive(Drop)]
 pub struct SystemView {
     pub transport: WatchedQueue,

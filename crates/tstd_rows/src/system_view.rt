@@ -17,8 +17,8 @@ use crate::watched_queue::WatchedQueue;
 use arrival::Row;
 use std::alloc::AllocError;
 
-// The bytes of a row arrive one by one and go from one buffer into the other; `before` have arrived before them. The excesses that have
-// ended are appended.
+// The bytes of a row arrive one by one and go from one buffer into the other; `before` have arrived before them. The
+// excesses that have ended are appended.
 fn pass_bytes(
     transport: &mut WatchedQueue,
     system: &mut WatchedQueue,
@@ -40,8 +40,8 @@ fn pass_bytes(
     Ok(())
 }
 
-// The bytes of a row as they come, as they go from one buffer into the other, and as they leave, if they do so at an even pace and each finds
-// room in both.
+// The bytes of a row as they come, as they go from one buffer into the other, and as they leave, if they do so at an
+// even pace and each finds room in both.
 fn ways_of(
     transport: &WatchedQueue,
     system: &WatchedQueue,
@@ -79,8 +79,8 @@ fn append(ended: &mut Vec<Excess>, excess: Option<Excess>) -> Result<(), AllocEr
     Ok(())
 }
 
-// The bytes of a row arrive and go from one buffer into the other; `before` have arrived before them. The excesses that have
-// ended are appended.
+// The bytes of a row arrive and go from one buffer into the other; `before` have arrived before them. The excesses that
+// have ended are appended.
 fn pass_row(
     transport: &mut WatchedQueue,
     system: &mut WatchedQueue,
@@ -105,9 +105,10 @@ fn pass_row(
 }
 
 impl SystemView {
-    /// Returns empty buffers, on the scale of a buffer drained at 2,000,000 bits a second: at a buffer of the stream's own rate a
-    /// byte takes `step`, so that it takes two steps to leave the first, which is drained at 1,000,000 bits a second; it takes
-    /// `system_step` to leave the second. At a constant rate `step` is that rate, by clock references 216,000,000.
+    /// Returns empty buffers, on the scale of a buffer drained at 2,000,000 bits a second: at a buffer of the stream's
+    /// own rate a byte takes `step`, so that it takes two steps to leave the first, which is drained at 1,000,000 bits
+    /// a second; it takes `system_step` to leave the second. At a constant rate `step` is that rate, by clock
+    /// references 216,000,000.
     pub fn new(step: u64, system_step: u64) -> SystemView
         requires some { 0 < step }
         requires slow { step ≤ 2 ^ 28 }
@@ -125,7 +126,8 @@ impl SystemView {
         }
     }
 
-    /// Takes the bytes of packets of the program's tables: all bytes of their packets. Appends the excesses that have ended.
+    /// Takes the bytes of packets of the program's tables: all bytes of their packets. Appends the excesses that have
+    /// ended.
     pub fn pass(&mut self, row: &Row, ended: &mut EndedExcesses) -> Result<(), AllocError>
         requires timed { IsTimed row.now }
         requires count { self.old.bytes + row.now.bytes ≤ 2 ^ 40 }

@@ -14,8 +14,8 @@ pub struct DueTime {
 }
 
 impl DueTime {
-    /// Returns the due time `tick` ticks of 27 MHz after a stream's first byte, if a byte takes `step` to leave a buffer at its own rate, at a
-    /// buffer drained at `rx` bits a second; in units of `8 / (step * rx)` seconds.
+    /// Returns the due time `tick` ticks of 27 MHz after a stream's first byte, if a byte takes `step` to leave a
+    /// buffer at its own rate, at a buffer drained at `rx` bits a second; in units of `8 / (step * rx)` seconds.
     pub fn on_tick(step: u64, rx: u32, tick: u128) -> DueTime
         requires step { step < 2 ^ 32 }
         requires tick { tick < 2 ^ 61 }
@@ -47,8 +47,8 @@ impl UnitSeen {
         self.due.deadline.saturating_sub(self.left)
     }
 
-    /// Returns how long after its deadline its last byte leaves the transport buffer, 0 where it is in time. A late unit is not whole in the
-    /// main buffer when it is decoded.
+    /// Returns how long after its deadline its last byte leaves the transport buffer, 0 where it is in time. A late
+    /// unit is not whole in the main buffer when it is decoded.
     pub fn lateness(&self) -> u128
         ensures { result ≡ self.now.left - self.now.due.deadline }
     {

@@ -33,8 +33,8 @@ pub struct VideoRates {
     pub elementary: u64,
 }
 
-/// The multiplexing buffer and the elementary stream buffer of a stream: the first is the transport buffer of the view, the second its main
-/// buffer. Times are times of the stream's transport buffer.
+/// The multiplexing buffer and the elementary stream buffer of a stream: the first is the transport buffer of the view,
+/// the second its main buffer. Times are times of the stream's transport buffer.
 #[derive(Drop)]
 pub struct VideoBuffers {
     pub view: StreamView<Global>,
@@ -46,9 +46,10 @@ pub struct VideoBuffers {
     pub rooms: EbRooms,
 }
 
-/// What has ended with a packet of video: an excess of the multiplexing buffer before a byte that waited in the transport buffer, or
-/// before another byte; an excess of the elementary stream buffer; and the unit before a unit that begins. And the most bytes that were
-/// in each buffer when any byte of the packet entered it, itself included; 0 if none did.
+/// What has ended with a packet of video: an excess of the multiplexing buffer before a byte that waited in the
+/// transport buffer, or before another byte; an excess of the elementary stream buffer; and the unit before a unit that
+/// begins. And the most bytes that were in each buffer when any byte of the packet entered it, itself included; 0 if
+/// none did.
 #[derive(Clone, Copy)]
 pub struct VideoEntered {
     pub waiting: Option<Excess>,
@@ -77,7 +78,8 @@ impl VideoEntered {
 }
 
 impl VideoBuffers {
-    /// Returns empty ones, behind a transport buffer that a byte takes `step` to leave and that is drained at `rx` bits a second.
+    /// Returns empty ones, behind a transport buffer that a byte takes `step` to leave and that is drained at `rx` bits
+    /// a second.
     pub fn new(alloc: Global, step: u64, rx: u32, rates: &VideoRates) -> VideoBuffers
         requires some { 0 < step }
         requires slow { step ≤ 2 ^ 28 }
@@ -98,7 +100,8 @@ impl VideoBuffers {
         }
     }
 
-    /// Takes payload bytes that leave the transport buffer; what has ended, and what was in the buffers, is written into an empty place.
+    /// Takes payload bytes that leave the transport buffer; what has ended, and what was in the buffers, is written
+    /// into an empty place.
     pub fn take(&mut self, leaving: &Leaving, into: &mut VideoEntered)
         requires timed { IsTimed leaving.now.waiting × IsTimed leaving.now.free }
         requires soon { IsSoon leaving.now.waiting × IsSoon leaving.now.free }
@@ -130,7 +133,8 @@ impl VideoBuffers {
         into.elementary_most = found.elementary;
     }
 
-    /// Begins a unit with the next payload byte, and returns the unit before it. If no memory is left, drop the buffers.
+    /// Begins a unit with the next payload byte, and returns the unit before it. If no memory is left, drop the
+    /// buffers.
     pub fn begin(&mut self, due: DueTime) -> Result<Option<VideoUnit>, AllocError>
         ensures held { (sizes : VideoSizes) (rate : ℕ) (parts : List Part) → IsVideoHeld self.old sizes rate parts →
             OnOk result (IsVideoHeld self.new sizes rate (Begins due ∷ parts)) }

@@ -17,8 +17,8 @@ use crate::viewed_buffers::StreamView;
 use arrival::Row;
 use std::alloc::Allocator;
 
-/// Returns the time that a byte takes to leave a multiplexing buffer that leaks `rbx` bits a second, behind a transport buffer that is
-/// drained at `rx` bits a second and that a byte takes `step` to leave.
+/// Returns the time that a byte takes to leave a multiplexing buffer that leaks `rbx` bits a second, behind a transport
+/// buffer that is drained at `rx` bits a second and that a byte takes `step` to leave.
 #[tactic(auto, using(crate::proofs::LeakSteps::leaks, crate::proofs::LeakSteps::leak_slow))]
 pub fn leak_step(step: u64, rx: u32, rbx: u32) -> u64
     requires some { 0 < step }
@@ -62,10 +62,10 @@ impl<A: Allocator> StreamView<A> {
         }
     }
 
-    /// Takes the bytes of a row of video as they leave its transport buffer. They enter the multiplexing buffer, which is this view's
-    /// transport buffer, and then the elementary stream buffer, which is its main buffer. Returns what they found. The excesses of
-    /// the multiplexing buffer that have ended are written into empty places: before a byte that waited in the transport buffer, and
-    /// before a byte that found it empty.
+    /// Takes the bytes of a row of video as they leave its transport buffer. They enter the multiplexing buffer, which
+    /// is this view's transport buffer, and then the elementary stream buffer, which is its main buffer. Returns what
+    /// they found. The excesses of the multiplexing buffer that have ended are written into empty places: before a byte
+    /// that waited in the transport buffer, and before a byte that found it empty.
     pub fn leak(
         &mut self,
         leaving: &Leaving,

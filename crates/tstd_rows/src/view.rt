@@ -56,8 +56,9 @@ impl<A: Allocator> StreamView<A> {
         }
     }
 
-    /// Takes bytes that go no further than the transport buffer: headers of packets, adaptation fields, and payload of no unit. Returns the
-    /// most that any of them finds. The excess that has ended is written into an empty place, so that it is not moved.
+    /// Takes bytes that go no further than the transport buffer: headers of packets, adaptation fields, and payload of
+    /// no unit. Returns the most that any of them finds. The excess that has ended is written into an empty place, so
+    /// that it is not moved.
     #[inline(always)]
     pub fn pass(&mut self, row: &Row, ended: &mut Option<Excess>) -> u128
         requires timed { IsTimed row.now }
@@ -79,9 +80,10 @@ impl<A: Allocator> StreamView<A> {
         arrive(&mut self.transport, &mut self.watch, row, ended).most
     }
 
-    /// Takes payload bytes of the current unit, its PES header too, and returns what they find. They enter the main buffer as they leave the
-    /// transport buffer, and stay there until the unit is due; before the first unit none enters. The excess of the transport buffer that has
-    /// ended is written into an empty place, so that it is not moved.
+    /// Takes payload bytes of the current unit, its PES header too, and returns what they find. They enter the main
+    /// buffer as they leave the transport buffer, and stay there until the unit is due; before the first unit none
+    /// enters. The excess of the transport buffer that has ended is written into an empty place, so that it is not
+    /// moved.
     #[inline(always)]
     pub fn carry(&mut self, row: &Row, ended: &mut Option<Excess>) -> Carried
         requires timed { IsTimed row.now }
@@ -123,8 +125,8 @@ impl<A: Allocator> StreamView<A> {
         }
     }
 
-    /// Begins a unit with the next payload byte; returns the unit before it, which is whole. If memory runs out, the current unit
-    /// continues.
+    /// Begins a unit with the next payload byte; returns the unit before it, which is whole. If memory runs out, the
+    /// current unit continues.
     pub fn begin(&mut self, due: DueTime) -> Result<Option<UnitSeen>, AllocError>
         ensures view { OnOk result ((parts : List Part) → IsViewOf self.old parts → IsViewOf self.new (Begins due ∷ parts)) }
         ensures before { IfOk result (λ unit. unit ≡ self.old.unit) }

@@ -1,5 +1,5 @@
-//! Laws of a view. Each is a function that does nothing: its contract is the law, over the definitions of `specs/` alone, and a
-//! caller may cite it.
+//! Laws of a view. Each is a function that does nothing: its contract is the law, over the definitions of `specs/`
+//! alone, and a caller may cite it.
 ghost use Rattle.tstd_rows.specs.ConstantRate.{ConstantRateLaw, InTimeLaw};
 ghost use Rattle.tstd_rows.specs.ViewLaws.{FiguresLaw, TablesLaw};
 ghost use Rattle.tstd_rows.specs.Lows.{LowsLaw};
@@ -15,22 +15,24 @@ pub fn tables()
     ensures { TablesLaw }
 {}
 
-/// States that the least that the bytes of a part of a stream find in the main buffer is its least fullness while that part comes.
+/// States that the least that the bytes of a part of a stream find in the main buffer is its least fullness while that
+/// part comes.
 pub fn lows()
     ensures { LowsLaw }
 {}
 
-/// States for a stream at a constant rate that the figures of its view are the figures of the model of finished bytes, and that a
-/// unit's deadline is its stamp.
+/// States for a stream at a constant rate that the figures of its view are the figures of the model of finished bytes,
+/// and that a unit's deadline is its stamp.
 pub fn constant_rate()
     ensures figures { ConstantRateLaw }
     ensures in_time { InTimeLaw }
 {}
 
-/// States that the two buffers of video after its transport buffer are the buffers of a stream that arrives as the video leaves it,
-/// and that the figures of a view of that stream are the greatest fullness of both over all moments. By the leak method a byte of
-/// video enters the elementary stream buffer at the later of two times: when the multiplexing buffer alone would release it, and when
-/// the elementary stream buffer has room; so a late unit has either cause.
+/// States that the two buffers of video after its transport buffer are the buffers of a stream that arrives as the
+/// video leaves it, and that the figures of a view of that stream are the greatest fullness of both over all moments.
+/// By the leak method a byte of video enters the elementary stream buffer at the later of two times: when the
+/// multiplexing buffer alone would release it, and when the elementary stream buffer has room; so a late unit has
+/// either cause.
 pub fn video()
     ensures parts { LeakedPartsLaw }
     ensures figures { VideoFiguresLaw }

@@ -1,5 +1,5 @@
-//! `tsview`: the content of an MPEG-2 transport stream, and what a receiver's buffers hold, line by line (ISO/IEC 13818-1,
-//! TR 101 290).
+//! `tsview`: the content of an MPEG-2 transport stream, and what a receiver's buffers hold, line by line (ISO/IEC
+//! 13818-1, TR 101 290).
 //!
 //! The program is `tsview_cli::run` over any reader and two writers; `devices::run_program` runs it over the real ones.
 #![tactic(auto)]

@@ -1,5 +1,6 @@
 -- What the finished bytes carry of a stream.
-use Rattle.std.proofs.Common.{◌≡◌, ℕ, zero, suc, ◌+◌, ◌-◌, ◌*◌, ◌%◌, nat_eq, Bool, true, false, Option, Some, None, List, [], ◌∷◌, ◌++◌, length, map, take, drop, refl, sym, ap, ◌∙◌, inl, inr, arith, append-nil}
+use Rattle.std.proofs.Common.{◌≡◌, ℕ, zero, suc, ◌+◌, ◌-◌, ◌*◌, ◌%◌, nat_eq, Bool, true, false, Option, Some, None, List, [], ◌∷◌, ◌++◌, length, map, take}
+use Rattle.std.proofs.Common.{drop, refl, sym, ap, ◌∙◌, inl, inr, arith, append-nil}
 use Rattle.std.specs.Prelude.{slice_get}
 use Rattle.std.specs.List.{concat, flat_map, starts_with}
 use Rattle.std.proofs.lemmas.Bool.{cases_lt, lt-ltb, le-ltb}
@@ -56,7 +57,8 @@ all_bytes l (u ∷ us) =
     ap (λ (ps : List Piece). concat (map bytes_of ps)) (pieces_cons l u us)
     ∙ ap (λ (xs : List (List ℕ)). concat xs) (map-append bytes_of (pes_pieces (has_access u) pes) (all_pieces l us))
     ∙ concat-append (map bytes_of (pes_pieces (has_access u) pes)) (map bytes_of (all_pieces l us))
-    ∙ ap (λ (xs : List (List ℕ)). concat xs ++ concat (map bytes_of (all_pieces l us))) (marked_bytes (start_by true (has_access u)) (unit_pieces (has_access u) pes))
+    ∙ ap (λ (xs : List (List ℕ)). concat xs ++ concat (map bytes_of (all_pieces l us)))
+    (marked_bytes (start_by true (has_access u)) (unit_pieces (has_access u) pes))
     ∙ ap (λ (xs : List ℕ). xs ++ concat (map bytes_of (all_pieces l us))) (unit_pieces_join (has_access u) pes).joined
     ∙ ap (λ (xs : List ℕ). pes ++ xs) (all_bytes l us)
     ∙ sym (concat_cons pes (map (pes_bytes l) us))
@@ -70,7 +72,8 @@ map_bytes : (es : List Entry) → map bytes_of (map (λ (e : Entry). piece_in (p
 map_bytes [] = refl
 map_bytes (e ∷ es) = ap (λ l. payload_of e.packet ∷ l) (map_bytes es)
 
-joined_is : (l : OwnedStream) (us : List AccessUnit) (es : List Entry) → ((j : ℕ) (e : Entry) → slice_get es j ≡ Some e → slice_get (all_pieces l us) j ≡ Some (piece_in (payload_at e))) →
+joined_is : (l : OwnedStream) (us : List AccessUnit) (es : List Entry) →
+    ((j : ℕ) (e : Entry) → slice_get es j ≡ Some e → slice_get (all_pieces l us) j ≡ Some (piece_in (payload_at e))) →
     starts_with nat_eq (concat (map (pes_bytes l) us)) (concat (map (λ (e : Entry). payload_of e.packet) es)) ≡ true
 joined_is l us es each =
     let view = λ (e : Entry). piece_in (payload_at e) in
@@ -118,7 +121,8 @@ place_size l free number (u ∷ us) i =
               length-take (184 - (field - 184 * (i - first))) (drop (184 * (i - first) - field) pes),
               length-drop (184 * (i - first) - field) pes,
             ) refl
-        | inr over ↦ rw (le-ltb i first from, le-ltb i (first + packet_count l u) over) (place_size l (first + packet_count l u) (number + packet_count l u) us i)
+        | inr over ↦ rw (le-ltb i first from, le-ltb i (first + packet_count l u) over)
+            (place_size l (first + packet_count l u) (number + packet_count l u) us i)
       ]
     ]
 
@@ -139,10 +143,13 @@ picked_is l us (s ∷ slots) =
     let o = place_at l 0 0 us (own_before l.own s) in
     ap (λ (ps : List Payload). map timed_packet ps) (flat_map-cons g s slots)
     ∙ map-append timed_packet (put s (piece_of l o)) (flat_map g slots)
-    ∙ ap (λ (ps : List Packet). ps ++ map timed_packet (flat_map g slots)) (put_packet l s o ∙ ap (λ (x : Option ℕ). packet_in s x) (place_size l 0 0 us (own_before l.own s)))
-    ∙ ap (λ (ps : List Packet). packet_in s (payload_size_at l.own l.parameters.rate l.parameters.lead 0 (map (timed l) us) (own_before l.own s)) ++ ps) (picked_is l us slots)
+    ∙ ap (λ (ps : List Packet). ps ++ map timed_packet (flat_map g slots))
+    (put_packet l s o ∙ ap (λ (x : Option ℕ). packet_in s x) (place_size l 0 0 us (own_before l.own s)))
+    ∙ ap (λ (ps : List Packet). packet_in s (payload_size_at l.own l.parameters.rate l.parameters.lead 0 (map (timed l) us) (own_before l.own s)) ++ ps)
+    (picked_is l us slots)
 
-entry_packets : (es : List Entry) → map timed_packet (map payload_at es) ≡ map (λ (e : Entry). record { slot = e.index; size = length (payload_of e.packet) }) es
+entry_packets : (es : List Entry) → map timed_packet (map payload_at es) ≡ map (λ (e : Entry). record { slot = e.index; size = length (payload_of e.packet) })
+    es
 entry_packets [] = refl
 entry_packets (e ∷ es) = ap (λ l. record { slot = e.index; size = length (payload_of e.packet) } ∷ l) (entry_packets es)
 
@@ -150,7 +157,8 @@ pub carried_law : CarriedLaw
 carried_law l us content n alone =
     let ps = stream_payloads l us n in
     let es = pid_list l.parameters.pid (run_bytes content 0 n) in
-    let each : (j : ℕ) (e : Entry) → slice_get (pid_list l.parameters.pid (run_bytes content 0 n)) j ≡ Some e → slice_get (all_pieces l us) j ≡ Some (piece_in (payload_at e)) =
+    let each : (j : ℕ) (e : Entry) → slice_get (pid_list l.parameters.pid (run_bytes content 0 n)) j ≡ Some e →
+    slice_get (all_pieces l us) j ≡ Some (piece_in (payload_at e)) =
     λ j e is. found_piece l us j (payload_at e) (found_at l us content n j e alone is) in
     record {
       counters = λ j e is. let whole : 0 + j ≡ j = omega arith in (listed_at l us content n j e alone is).counter ∙ ap (λ (m : ℕ). m % 16) whole;

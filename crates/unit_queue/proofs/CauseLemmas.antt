@@ -1,5 +1,6 @@
 -- What is known of a unit that no cause refuses.
-use Rattle.std.proofs.Common.{◌≡◌, ℕ, zero, suc, ◌+◌, ◌^◌, ◌<◌, ◌≤◌, ◌==◌, ◌||◌, nat_lt, nat_le, Bool, true, false, if◌then◌else◌, Option, Some, None, List, length, IsTrue, refl, sym, ◌∙◌, inl, inr, arith}
+use Rattle.std.proofs.Common.{◌≡◌, ℕ, zero, suc, ◌+◌, ◌^◌, ◌<◌, ◌≤◌, ◌==◌, ◌||◌, nat_lt, nat_le, Bool, true, false, if◌then◌else◌, Option, Some, None, List}
+use Rattle.std.proofs.Common.{length, IsTrue, refl, sym, ◌∙◌, inl, inr, arith}
 use Rattle.std.proofs.lemmas.Bool.{cases_Bool, cases_lt, lt-ltb, le-leb}
 use Rattle.std.proofs.lemmas.List.{length-append}
 use Rattle.pes_packet.specs.AccessUnits.{AccessUnit}
@@ -92,7 +93,8 @@ pub room_facts : (a : Allowance) (full over : Bool) → room_cause full (packets
 unfolding room_cause
 room_facts a full over is = let b = test_none full Full (packets_cause a over) is in (b.0, packets_none a over b.1)
 
-pub unit_is : (r : StreamParameters) (min_next_dts : ℕ) (late : Bool) (u : AccessUnit) → None ≡ or_cause (own_cause r.size r.pts_limit min_next_dts u) (time_cause late u.dts) → IsUnit r u
+pub unit_is : (r : StreamParameters) (min_next_dts : ℕ) (late : Bool) (u : AccessUnit) →
+    None ≡ or_cause (own_cause r.size r.pts_limit min_next_dts u) (time_cause late u.dts) → IsUnit r u
 unit_is r min_next_dts late u is =
     let both = or_none (own_cause r.size r.pts_limit min_next_dts u) (time_cause late u.dts) (sym is) in
     let own = own_facts r.size r.pts_limit min_next_dts u both.0 in
@@ -102,7 +104,8 @@ unit_is r min_next_dts late u is =
 greatest_most : (id : ℕ) → greatest_size id ≤ 4_000_000
 greatest_most id = elim (cases_Bool (is_video id)) [ inl v ↦ rw v (omega arith) | inr o ↦ rw o (omega arith) ]
 
-unit_fits : (r : StreamParameters) (u : AccessUnit) → ParametersInRange r → IsUnit r u → length u.bytes ≤ r.size → IsTrue (fits_packet r.stream_id (length u.bytes))
+unit_fits : (r : StreamParameters) (u : AccessUnit) → ParametersInRange r → IsUnit r u → length u.bytes ≤ r.size →
+    IsTrue (fits_packet r.stream_id (length u.bytes))
 unit_fits r u rules unit most = search (rules, arith)
 
 pub fits_unit : (r : StreamParameters) (u : AccessUnit) → ParametersInRange r → IsUnit r u → IsTrue (fits_packet r.stream_id (length u.bytes))
@@ -118,8 +121,10 @@ not_le a b is = elim (cases_lt b a) [
 ]
 
 -- what is found of a unit is its DTS and size, with what is in front of it, and why it is refused
-pub timed_is : (r s : StreamParameters) (u : AccessUnit) (d size front : ℕ) (header : List ℕ) → s ≡ r → d ≡ u.dts → front ≡ field_size (has_access u) → size ≡ length header + length u.bytes →
-    header ≡ pes_header_bytes s.stream_id (length u.bytes) u.marks (u.pts + s.base0) (u.dts + s.base0) → record { dts = d; size = size; front = front } ≡ timed_by r u
+pub timed_is : (r s : StreamParameters) (u : AccessUnit) (d size front : ℕ) (header : List ℕ) → s ≡ r → d ≡ u.dts → front ≡ field_size (has_access u) →
+    size ≡ length header + length u.bytes →
+    header ≡ pes_header_bytes s.stream_id (length u.bytes) u.marks (u.pts + s.base0) (u.dts + s.base0) →
+    record { dts = d; size = size; front = front } ≡ timed_by r u
 unfolding pes_packet_bytes
 timed_is r s u d size front header same due field parts is =
     rw (due, field, parts, is, same, length-append (pes_header_bytes r.stream_id (length u.bytes) u.marks (u.pts + r.base0) (u.dts + r.base0)) u.bytes) refl
@@ -135,5 +140,6 @@ pub queued_is : (r s : StreamParameters) (u : AccessUnit) (slot : ℕ) (header :
     record { release = slot; header = header; access = has_access u; bytes = u.bytes } ≡ queued r u
 queued_is r s u slot header same a b = rw (a, b, same) refl
 
-pub accepted_is : (q : Queue) (u : AccessUnit) (unit : PesPacket) (x : Queued) → unit ≡ timed_by q.parameters u → x ≡ queued q.parameters u → joined q unit x ≡ accepted q u
+pub accepted_is : (q : Queue) (u : AccessUnit) (unit : PesPacket) (x : Queued) → unit ≡ timed_by q.parameters u → x ≡ queued q.parameters u →
+    joined q unit x ≡ accepted q u
 accepted_is q u unit x a b = rw (a, b) refl

@@ -1,5 +1,6 @@
 -- What own slots carry, and what is left before them.
-use Rattle.std.proofs.Common.{◌≡◌, ℕ, ◌+◌, ◌-◌, ◌<◌, ◌≤◌, ◌==◌, Bool, true, false, cond, Some, None, List, [], ◌∷◌, ◌++◌, length, refl, sym, ◌∙◌, inl, inr, arith}
+use Rattle.std.proofs.Common.{◌≡◌, ℕ, ◌+◌, ◌-◌, ◌<◌, ◌≤◌, ◌==◌, Bool, true, false, cond, Some, None, List, [], ◌∷◌, ◌++◌, length, refl, sym, ◌∙◌, inl, inr}
+use Rattle.std.proofs.Common.{arith}
 use Rattle.std.proofs.lemmas.Bool.{cases_lt, lt-ltb, le-ltb}
 use Rattle.std.proofs.lemmas.List.{length-append}
 use Rattle.clock27.specs.Release.{release}
@@ -28,9 +29,11 @@ most_by false true more = omega arith
 most_by false false more = omega arith
 
 -- with what is in front of it, it has at most 19 bytes, and what the marks take
-pub header_most : (id size : ℕ) (marks : Marks) (pts dts : ℕ) → field_size marks.random_access + length (pes_header_bytes id size marks pts dts) ≤ 19 + marks_size marks
+pub header_most : (id size : ℕ) (marks : Marks) (pts dts : ℕ) → field_size marks.random_access + length (pes_header_bytes id size marks pts dts) ≤ 19
+    + marks_size marks
 header_most id size marks pts dts =
-    let most : header_size marks pts dts ≤ 19 + cond marks.long 26 (extension_size marks) = most_by marks.long (on_wire pts == on_wire dts) (extension_size marks) in
+    let most : header_size marks pts dts ≤ 19 + cond marks.long 26 (extension_size marks) =
+    most_by marks.long (on_wire pts == on_wire dts) (extension_size marks) in
     omega (arith, header_sizes id size marks pts dts, most)
 
 pub text_some : (l : OwnedStream) (u : AccessUnit) → 14 ≤ length (pes_bytes l u)
@@ -52,7 +55,8 @@ pub first_released : (l : OwnedStream) (free : ℕ) (u : AccessUnit) → own_bef
 unfolding first_slot first_own_slot
 first_released l free u = omega arith
 
-pub first_least : (l : OwnedStream) (free m : ℕ) (u : AccessUnit) → free ≤ m → own_before l.own (release l.parameters.rate l.parameters.lead u.dts) ≤ m → first_slot l free u ≤ m
+pub first_least : (l : OwnedStream) (free m : ℕ) (u : AccessUnit) → free ≤ m → own_before l.own (release l.parameters.rate l.parameters.lead u.dts) ≤ m →
+    first_slot l free u ≤ m
 unfolding first_slot first_own_slot
 first_least l free m u a b = omega arith
 
@@ -117,7 +121,8 @@ unfoldable pub Unfinished : OwnedStream → ℕ → ℕ → List AccessUnit → 
 Unfinished l p free [] = Unit {0}
 Unfinished l p free (u ∷ us) = p < end_slot l free u
 
-pub left_unfinished : (l : OwnedStream) (p free number : ℕ) (us : List AccessUnit) → Unfinished l p (left_at l p free number us).free (left_at l p free number us).units
+pub left_unfinished : (l : OwnedStream) (p free number : ℕ) (us : List AccessUnit) →
+    Unfinished l p (left_at l p free number us).free (left_at l p free number us).units
 unfolding Unfinished
 left_unfinished l p free number [] = unfold left_at in tt
 left_unfinished l p free number (u ∷ us) = elim (cases_lt p (end_slot l free u)) [

@@ -1,5 +1,6 @@
 -- The payloads on the PID of a stream that is alone there, one by one.
-use Rattle.std.proofs.Common.{◌≡◌, ℕ, zero, suc, ◌+◌, ◌-◌, ◌*◌, ◌%◌, ◌≤◌, ◌==◌, true, false, cond, Option, Some, None, List, [], ◌∷◌, ◌++◌, length, refl, sym, ap, ◌∙◌, subst, inl, inr, arith, eq-eqb}
+use Rattle.std.proofs.Common.{◌≡◌, ℕ, zero, suc, ◌+◌, ◌-◌, ◌*◌, ◌%◌, ◌≤◌, ◌==◌, true, false, cond, Option, Some, None, List, [], ◌∷◌, ◌++◌, length, refl, sym}
+use Rattle.std.proofs.Common.{ap, ◌∙◌, subst, inl, inr, arith, eq-eqb}
 use Rattle.std.specs.Prelude.{slice_get}
 use Rattle.std.specs.List.{flat_map}
 use Rattle.std.proofs.lemmas.Bool.{cases_lt, cases_Bool}
@@ -11,7 +12,8 @@ use Rattle.own_slots.specs.Slots.{own_before, own_slots}
 use Rattle.own_slots.proofs.Counts.{own_before_own, own_before_other, own_before_lt}
 use Rattle.pes_packet.specs.AccessUnits.{AccessUnit}
 use Rattle.ts_packet.specs.PidList.{Entry, is_of_pid, pid_list}
-use Rattle.slot_contents.specs.Contents.{Content, PayloadContent, PcrContent, NullContent, view_of, run_bytes, Payload, payload_in, payloads_in, Numbered, HasNumber, payload_entry, payload_entries, payload_at, Piece, put}
+use Rattle.slot_contents.specs.Contents.{Content, PayloadContent, PcrContent, NullContent, view_of, run_bytes, Payload, payload_in, payloads_in, Numbered}
+use Rattle.slot_contents.specs.Contents.{HasNumber, payload_entry, payload_entries, payload_at, Piece, put}
 use Rattle.slot_contents.proofs.Counts.{payload_again, payload_count_law, run_payload_entries, run_by_number}
 use Rattle.unit_queue.specs.OwnedStreams.{OwnedStream}
 use Rattle.unit_queue.specs.Places.{UnitPlace, place_at, piece_bytes, piece_start, content_of}
@@ -42,7 +44,8 @@ off_number pid m (PcrContent other pcr) off = elim (cases_Bool (other == pid)) [
 ]
 off_number pid m NullContent off = tt
 
-own_number : (l : OwnedStream) (us : List AccessUnit) (i sent : ℕ) (o : Option UnitPlace) → PlaceHas l 0 us i sent o → HasNumber l.parameters.pid (content_of l o) sent
+own_number : (l : OwnedStream) (us : List AccessUnit) (i sent : ℕ) (o : Option UnitPlace) → PlaceHas l 0 us i sent o →
+    HasNumber l.parameters.pid (content_of l o) sent
 own_number l us i sent None h = tt
 own_number l us i sent (Some x) h = λ y. h.number_is
 
@@ -73,9 +76,12 @@ count_more l us content s alone =
           rw (own_before_other l.own s k, slot_payload l us content s alone, k) (omega arith)
     ]
 
-has_number : (l : OwnedStream) (us : List AccessUnit) (content : ℕ → Content) (s : ℕ) → StreamIsAlone l us content → HasNumber l.parameters.pid (content s) (count_at l us s)
+has_number : (l : OwnedStream) (us : List AccessUnit) (content : ℕ → Content) (s : ℕ) → StreamIsAlone l us content →
+    HasNumber l.parameters.pid (content s) (count_at l us s)
 has_number l us content s alone = elim (cases_Bool (l.own s)) [
-  | inl y ↦ rw (alone.own s y) (own_number l us (own_before l.own s) (sent_before l 0 0 us (own_before l.own s)) (place_at l 0 0 us (own_before l.own s)) (place_has l 0 0 us (own_before l.own s)))
+  | inl y ↦ rw (alone.own s y)
+      (own_number l us (own_before l.own s) (sent_before l 0 0 us (own_before l.own s)) (place_at l 0 0 us (own_before l.own s))
+      (place_has l 0 0 us (own_before l.own s)))
   | inr k ↦ off_number l.parameters.pid (sent_before l 0 0 us (own_before l.own s)) (content s) (alone.others s k)
 ]
 
@@ -85,7 +91,8 @@ numbered l us content n alone =
     (record { none = unfold own_before in (sent_fresh l 0 0 us 0 (omega arith)); more = λ s lt. count_more l us content s alone })
     (λ s lt. has_number l us content s alone)
 
-payloads_are : (l : OwnedStream) (us : List AccessUnit) (content : ℕ → Content) (n : ℕ) → StreamIsAlone l us content → payloads_in l.parameters.pid content 0 n ≡ stream_payloads l us n
+payloads_are : (l : OwnedStream) (us : List AccessUnit) (content : ℕ → Content) (n : ℕ) → StreamIsAlone l us content →
+    payloads_in l.parameters.pid content 0 n ≡ stream_payloads l us n
 payloads_are l us content n alone =
     run_by_number l.parameters.pid n content l.own (λ i. piece_of l (place_at l 0 0 us i)) (λ t lt. slot_payload l us content t alone)
 
@@ -126,10 +133,12 @@ found_in l us s (suc n) j p is =
     elim (cases_Bool (l.own s)) [
       | inl y ↦
           let next : own_before l.own (suc s) ≡ suc (own_before l.own s) = omega (arith, own_before_own l.own s y) in
-          let count : sent_before l 0 0 us (own_before l.own (suc s)) ≡ sent_before l 0 0 us (own_before l.own s) + one_of (place_at l 0 0 us (own_before l.own s)) =
+          let count : sent_before l 0 0 us (own_before l.own (suc s)) ≡ sent_before l 0 0 us (own_before l.own s)
+          + one_of (place_at l 0 0 us (own_before l.own s)) =
           ap (λ (k : ℕ). sent_before l 0 0 us k) next ∙ sent_next l 0 0 us i in
           let cons = flat_map-cons (λ (t : ℕ). put t (piece_of l (place_at l 0 0 us (own_before l.own t)))) s (own_slots l.own (suc s) n) in
-          found_first l us s (sent_before l 0 0 us i) j o (flat_map (λ (t : ℕ). put t (piece_of l (place_at l 0 0 us (own_before l.own t)))) (own_slots l.own (suc s) n)) p y (place_has l 0 0 us i)
+          found_first l us s (sent_before l 0 0 us i) j o
+          (flat_map (λ (t : ℕ). put t (piece_of l (place_at l 0 0 us (own_before l.own t)))) (own_slots l.own (suc s) n)) p y (place_has l 0 0 us i)
           (λ k at'. subst (λ (m : ℕ). Found l us (m + k) p) count (found_in l us (suc s) n k p at'))
           (rw cons at (rw y at is))
       | inr k ↦
@@ -196,7 +205,8 @@ found_released l us number p u f is =
     ] in
     subst (λ (v : AccessUnit). IsReleased l v p.index) same (release_reached l.parameters.rate l.parameters.lead f.place.unit.dts p.index reached)
 
-pub found_piece : (l : OwnedStream) (us : List AccessUnit) (number : ℕ) (p : Payload) → Found l us number p → slice_get (all_pieces l us) number ≡ Some (piece_in p)
+pub found_piece : (l : OwnedStream) (us : List AccessUnit) (number : ℕ) (p : Payload) → Found l us number p →
+    slice_get (all_pieces l us) number ≡ Some (piece_in p)
 found_piece l us number p f =
     let place : f.place.number - 0 ≡ number = omega (arith, f.has.number_is) in
     (rw place at f.has.piece) ∙ ap (λ (x : Piece). Some x) (sym f.is)

@@ -1,5 +1,6 @@
 -- The pieces of a PES packet: its header, then the unit.
-use Rattle.std.proofs.Common.{◌≡◌, ◌≤◌, ◌<◌, ◌+◌, ◌-◌, ◌*◌, ◌==◌, ℕ, zero, suc, Bool, true, false, List, ◌++◌, length, take, drop, min, take_all, arith, ap, sym, refl, subst, ◌∙◌, inl, inr}
+use Rattle.std.proofs.Common.{◌≡◌, ◌≤◌, ◌<◌, ◌+◌, ◌-◌, ◌*◌, ◌==◌, ℕ, zero, suc, Bool, true, false, List, ◌++◌, length, take, drop, min, take_all, arith, ap}
+use Rattle.std.proofs.Common.{sym, refl, subst, ◌∙◌, inl, inr}
 use Rattle.std.proofs.lemmas.Bool.{cases_lt, ne_eqb}
 use Rattle.std.proofs.lemmas.List.{length-drop, length-take}
 use Rattle.std.proofs.Math.Seq.{take-append-add, drop-append-add}
@@ -58,7 +59,8 @@ part_most access q pes =
     omega (arith, room, length-take (184 - (field_size access - 184 * q)) (drop (184 * q - field_size access) pes))
 
 -- and is not empty where something is left
-pub part_some : (access : Bool) (sent : ℕ) (pes : List ℕ) → 0 < length pes → sent < field_size access + length pes → 0 < length (part_of (field_size access) sent pes)
+pub part_some : (access : Bool) (sent : ℕ) (pes : List ℕ) → 0 < length pes → sent < field_size access + length pes →
+    0 < length (part_of (field_size access) sent pes)
 part_some access sent pes some inside =
     omega (
       arith,

@@ -1,5 +1,6 @@
 -- What a queue stands for, slot by slot and unit by unit.
-use Rattle.std.proofs.Common.{◌≡◌, ℕ, suc, ◌+◌, ◌-◌, ◌/◌, ◌^◌, ◌<◌, ◌≤◌, nat_lt, nat_le, Bool, false, Option, None, List, [], ◌∷◌, ◌++◌, length, map, refl, sym, ap, ◌∙◌, subst, arith}
+use Rattle.std.proofs.Common.{◌≡◌, ℕ, suc, ◌+◌, ◌-◌, ◌/◌, ◌^◌, ◌<◌, ◌≤◌, nat_lt, nat_le, Bool, false, Option, None, List, [], ◌∷◌, ◌++◌, length, map, refl, sym}
+use Rattle.std.proofs.Common.{ap, ◌∙◌, subst, arith}
 use Rattle.std.proofs.lemmas.List.{length-append, length-map, map-append, drop_all}
 use Rattle.std.proofs.lemmas.List.Elements.{All-nil, All-cons, All-append}
 use Rattle.clock27.specs.Release.{release}
@@ -57,18 +58,23 @@ own_slot_law l slots capacity us q mine holds =
     let p = own_before l.own slots in
     let left = left_before l slots us in
     let tally = tally_of l.parameters.allowance (map (timed l) us) in
-    let one = step l slots left.free left.number left.units capacity (min_next_dts_of l us) tally mine (left_free l p 0 0 us (omega arith)) (left_unfinished l p 0 0 us) in
+    let one = step l slots left.free left.number left.units capacity (min_next_dts_of l us) tally mine (left_free l p 0 0 us (omega arith))
+    (left_unfinished l p 0 0 us) in
     let next : own_before l.own (suc slots) ≡ suc (own_before l.own slots) = omega (arith, own_before_own l.own slots mine) in
-    let on : left_before l (suc slots) us ≡ left_at l (suc (own_before l.own slots)) (left_before l slots us).free (left_before l slots us).number (left_before l slots us).units =
+    let on : left_before l (suc slots) us ≡ left_at l (suc (own_before l.own slots)) (left_before l slots us).free (left_before l slots us).number
+    (left_before l slots us).units =
     ap (λ (n : ℕ). left_at l n 0 0 us) next ∙ left_left l p 0 0 (suc p) us (omega arith) in
     let begun_on : begun_before l (suc slots) us
-    ≡ begun l (suc (own_before l.own slots)) (left_at l (suc (own_before l.own slots)) (left_before l slots us).free (left_before l slots us).number (left_before l slots us).units).free
+    ≡ begun l (suc (own_before l.own slots))
+    (left_at l (suc (own_before l.own slots)) (left_before l slots us).free (left_before l slots us).number (left_before l slots us).units).free
     (left_at l (suc (own_before l.own slots)) (left_before l slots us).free (left_before l slots us).number (left_before l slots us).units).units =
-    ap (λ (n : ℕ). begun l n (left_before l (suc slots) us).free (left_before l (suc slots) us).units) next ∙ ap (λ (x : Left). begun l (suc p) x.free x.units) on in
+    ap (λ (n : ℕ). begun l n (left_before l (suc slots) us).free (left_before l (suc slots) us).units) next
+    ∙ ap (λ (x : Left). begun l (suc p) x.free x.units) on in
     let state : sent_in slots (queue_of l slots capacity us) ≡ queue_of l (suc slots) capacity us =
     one.state
     ∙ sym (ap (λ (x : Left). queue_at l x.number (begun_before l (suc slots) us) x.units capacity (min_next_dts_of l us) tally) on
-    ∙ ap (λ (b : ℕ). queue_at l (left_at l (suc p) left.free left.number left.units).number b (left_at l (suc p) left.free left.number left.units).units capacity (min_next_dts_of l us) tally) begun_on) in
+    ∙ ap (λ (b : ℕ). queue_at l (left_at l (suc p) left.free left.number left.units).number b (left_at l (suc p) left.free left.number left.units).units
+    capacity (min_next_dts_of l us) tally) begun_on) in
     record {
       packet = ap (λ (x : Queue). packet_of (queue_content slots x)) holds.state ∙ one.packet
           ∙ ap (λ (x : Option _). packet_of (content_of l x)) (sym (place_left l p 0 0 p us (omega arith)));
@@ -121,7 +127,8 @@ cause_law l slots capacity us q u holds =
     (room_cause (nat_le capacity n) (packets_cause l.parameters.allowance
     (exceeds l.parameters.allowance (tally_of l.parameters.allowance (map (timed l) us)) (min_next_dts_of l us - l.parameters.interval) (timed l u))))))
     (length-map (left_before l slots us).units (queued l.parameters))
-    ∙ ap (λ (over : Bool). or_cause (own_cause l.parameters.size l.parameters.pts_limit (min_next_dts_of l us) u) (or_cause (time_cause (is_late l slots u) u.dts)
+    ∙ ap (λ (over : Bool). or_cause (own_cause l.parameters.size l.parameters.pts_limit (min_next_dts_of l us) u)
+    (or_cause (time_cause (is_late l slots u) u.dts)
     (room_cause (is_full l slots capacity us) (packets_cause l.parameters.allowance over))))
     (over_after l us u)
 
@@ -133,7 +140,8 @@ pub record Accepted (l : OwnedStream) (slots : ℕ) (us : List AccessUnit) (u : 
   pub last : u.dts ≤ 2 ^ 52
   pub within : is_over l.parameters.allowance (map (timed l) us) (timed l u) ≡ false
 
-pub accepted_facts : (l : OwnedStream) (slots capacity : ℕ) (us : List AccessUnit) (u : AccessUnit) → unit_cause l slots capacity us u ≡ None → Accepted l slots us u
+pub accepted_facts : (l : OwnedStream) (slots capacity : ℕ) (us : List AccessUnit) (u : AccessUnit) → unit_cause l slots capacity us u ≡ None →
+    Accepted l slots us u
 accepted_facts l slots capacity us u none =
     let own = own_cause l.parameters.size l.parameters.pts_limit (min_next_dts_of l us) u in
     let time = time_cause (is_late l slots u) u.dts in
@@ -157,7 +165,12 @@ text_most : (l : OwnedStream) (u : AccessUnit) → length u.bytes + marks_size u
 unfolding pes_packet_bytes
 text_most l u most =
     let header = pes_header_bytes l.parameters.stream_id (length u.bytes) u.marks (u.pts + l.parameters.base0) (u.dts + l.parameters.base0) in
-    omega (arith, most, length-append header u.bytes, header_most l.parameters.stream_id (length u.bytes) u.marks (u.pts + l.parameters.base0) (u.dts + l.parameters.base0))
+    omega (
+      arith,
+      most,
+      length-append header u.bytes,
+      header_most l.parameters.stream_id (length u.bytes) u.marks (u.pts + l.parameters.base0) (u.dts + l.parameters.base0),
+    )
 
 pub kept_law : KeptLaw
 kept_law l slots capacity us u rules none kept =
@@ -167,19 +180,23 @@ kept_law l slots capacity us u rules none kept =
     let filled = text_most l u facts.own.most in
     let most : length (pes_bytes l u) ≤ 19 + l.parameters.size = omega (arith, filled) in
     let pieces : packets_of_unit (timed l u) ≤ max_packets_per_unit l.parameters = omega (arith, filled) in
-    let spaced = spaced_more_law.more l.parameters.interval l.parameters.lead texts (timed l u) kept.spaced (next_from l.parameters.interval l.parameters.lead u.dts texts facts.own.spaced facts.lead) in
-    let unit : IsUnit l.parameters u = record { some = facts.own.some; most = facts.own.most; later = facts.own.later; soon = facts.own.soon; last = facts.last } in
+    let spaced = spaced_more_law.more l.parameters.interval l.parameters.lead texts (timed l u) kept.spaced
+    (next_from l.parameters.interval l.parameters.lead u.dts texts facts.own.spaced facts.lead) in
+    let unit : IsUnit l.parameters u =
+    record { some = facts.own.some; most = facts.own.most; later = facts.own.later; soon = facts.own.soon; last = facts.last } in
     record {
       units = All-append (IsUnit l.parameters) us (u ∷ []) kept.units (All-cons (IsUnit l.parameters) u [] unit (All-nil (IsUnit l.parameters)));
       spaced = subst (λ (t : List PesPacket). Spaced l.parameters.interval l.parameters.lead t) (sym more) spaced;
-      sized = subst (λ (t : List PesPacket). Sized (19 + l.parameters.size) t) (sym more) (sized_more_law.more (19 + l.parameters.size) texts (timed l u) kept.sized most);
+      sized = subst (λ (t : List PesPacket). Sized (19 + l.parameters.size) t) (sym more)
+          (sized_more_law.more (19 + l.parameters.size) texts (timed l u) kept.sized most);
       allowed = subst (λ (t : List PesPacket). KeepsAllowance l.parameters.allowance (max_packets_per_unit l.parameters) t) (sym more)
           (allowance_more_law.more l.parameters.allowance (max_packets_per_unit l.parameters) l.parameters.interval l.parameters.lead texts (timed l u)
           rules.rows spaced kept.allowed pieces facts.within);
     }
 
 -- it begins no earlier than the slots that are written
-later_first : (l : OwnedStream) (slots free : ℕ) (u : AccessUnit) → slots ≤ release l.parameters.rate l.parameters.lead u.dts → own_before l.own slots ≤ first_slot l free u
+later_first : (l : OwnedStream) (slots free : ℕ) (u : AccessUnit) → slots ≤ release l.parameters.rate l.parameters.lead u.dts →
+    own_before l.own slots ≤ first_slot l free u
 later_first l slots free u released =
     omega (arith, first_released l free u, own_before_le l.own slots (release l.parameters.rate l.parameters.lead u.dts) released)
 
@@ -202,14 +219,16 @@ fed_law l slots capacity us q u rules none holds =
     let begun_on : begun_before l slots (us ++ u ∷ []) ≡ begun_before l slots us =
     ap (λ (x : Left). begun l p x.free x.units) on ∙ begun_fed l p left.free left.units u (first left.free) in
     let min_next_dts : min_next_dts_of l (us ++ u ∷ []) ≡ u.dts + l.parameters.interval =
-    ap (λ (t : List PesPacket). next_due l.parameters.interval 0 t) (map-append (timed l) us (u ∷ [])) ∙ next_last l.parameters.interval 0 (map (timed l) us) (timed l u) in
+    ap (λ (t : List PesPacket). next_due l.parameters.interval 0 t) (map-append (timed l) us (u ∷ []))
+    ∙ next_last l.parameters.interval 0 (map (timed l) us) (timed l u) in
     let all = tally_of l.parameters.allowance (map (timed l) (us ++ u ∷ [])) in
     let next = counted l.parameters.allowance tally (min_next_dts_of l us - l.parameters.interval) (timed l u) in
     let state : queue_of l slots capacity (us ++ u ∷ []) ≡ accepted (queue_of l slots capacity us) u =
     ap (λ (x : Left). queue_at l x.number (begun_before l slots (us ++ u ∷ [])) x.units capacity (min_next_dts_of l (us ++ u ∷ [])) all) on
     ∙ ap (λ (b : ℕ). queue_at l left.number b (left.units ++ u ∷ []) capacity (min_next_dts_of l (us ++ u ∷ [])) all) begun_on
     ∙ ap (λ (e : ℕ). queue_at l left.number (begun_before l slots us) (left.units ++ u ∷ []) capacity e all) min_next_dts
-    ∙ ap (λ (t : Tally). queue_at l left.number (begun_before l slots us) (left.units ++ u ∷ []) capacity (u.dts + l.parameters.interval) t) (tally_after l us u)
+    ∙ ap (λ (t : Tally). queue_at l left.number (begun_before l slots us) (left.units ++ u ∷ []) capacity (u.dts + l.parameters.interval) t)
+    (tally_after l us u)
     ∙ ap (λ (xs : List Queued). record (queue_at l left.number (begun_before l slots us) [] capacity (u.dts + l.parameters.interval) next) { units = xs })
     (map-append (queued l.parameters) left.units (u ∷ [])) in
     record { state = ap (λ (x : Queue). accepted x u) holds.state ∙ sym state; kept = kept_law l slots capacity us u rules none holds.kept }

@@ -21,7 +21,8 @@ use Rattle.unit_queue.proofs.Leftover.{text_some, count_some, first_free, first_
 
 -- what an own slot makes of the queue, and the packet in it
 pub record Steps (l : OwnedStream) (slots p free number : ℕ) (us : List AccessUnit) (capacity min_next_dts : ℕ) (tally : Tally) : Type 0 where
-  pub packet : packet_of (queue_content slots (queue_at l number (begun l p free us) us capacity min_next_dts tally)) ≡ packet_of (content_of l (place_at l free number us p))
+  pub packet : packet_of (queue_content slots (queue_at l number (begun l p free us) us capacity min_next_dts tally)) ≡ packet_of
+      (content_of l (place_at l free number us p))
   pub state : sent_in slots (queue_at l number (begun l p free us) us capacity min_next_dts tally)
       ≡ queue_at l (left_at l (suc p) free number us).number (begun l (suc p) (left_at l (suc p) free number us).free (left_at l (suc p) free number us).units)
       (left_at l (suc p) free number us).units capacity min_next_dts tally
@@ -45,7 +46,8 @@ step_idle l slots p free number u us capacity min_next_dts tally early before =
     }
 
 -- a piece at `begun` pieces
-pub some_is : (pid number : ℕ) (start : Start) (bytes : List ℕ) → 0 < length bytes → payload_or_null pid number start bytes ≡ PayloadContent pid number start bytes
+pub some_is : (pid number : ℕ) (start : Start) (bytes : List ℕ) → 0 < length bytes →
+    payload_or_null pid number start bytes ≡ PayloadContent pid number start bytes
 unfolding payload_or_null
 some_is pid number start bytes some =
     let not_empty : length bytes ≡ 0 → ⊥ = λ e. omega (arith, e, some) in
@@ -59,7 +61,8 @@ counter_next n b = omega arith
 
 piece_packet : (l : OwnedStream) (u : AccessUnit) (number b : ℕ) → 184 * b < field_size (has_access u) + length (pes_bytes l u) →
     packet_of (part_content l.parameters.pid ((number + b) % 256) (has_access u) (pes_bytes l u) (184 * b))
-    ≡ packet_of (PayloadContent l.parameters.pid (number + b) (start_by (b == 0) (has_access u)) (part_of (field_size (has_access u)) (184 * b) (pes_bytes l u)))
+    ≡ packet_of (PayloadContent l.parameters.pid (number + b) (start_by (b == 0) (has_access u))
+    (part_of (field_size (has_access u)) (184 * b) (pes_bytes l u)))
 unfolding packet_of
 piece_packet l u number b inside =
     let part = part_of (field_size (has_access u)) (184 * b) (pes_bytes l u) in
@@ -92,7 +95,8 @@ fresh_begun l p (u ∷ us) = omega (arith, first_free l p u)
 
 -- the first unit is released
 step_busy : (l : OwnedStream) (slots p free number : ℕ) (u : AccessUnit) (us : List AccessUnit) (capacity min_next_dts : ℕ) (tally : Tally) →
-    release l.parameters.rate l.parameters.lead u.dts ≤ slots → first_slot l free u ≤ p → p < end_slot l free u → Steps l slots p free number (u ∷ us) capacity min_next_dts tally
+    release l.parameters.rate l.parameters.lead u.dts ≤ slots → first_slot l free u ≤ p → p < end_slot l free u →
+    Steps l slots p free number (u ∷ us) capacity min_next_dts tally
 unfolding front_content front_sent begun pes_packet_bytes
 step_busy l slots p free number u us capacity min_next_dts tally released from below =
     let b = p - first_slot l free u in
@@ -110,13 +114,21 @@ step_busy l slots p free number u us capacity min_next_dts tally released from b
             let last : field_size (has_access u) + length (pes_bytes l u) - 184 * (p - first_slot l free u) ≤ 184 = omega arith in
             let ends : (p - first_slot l free u) + 1 ≡ packet_count l u = omega arith in
             let here : end_slot l free u ≡ suc p = omega arith in
-            rw (left_on l (suc p) free number u us end, here, fresh_left l (suc p) (number + packet_count l u) us, fresh_begun l (suc p) us, sent, le-ltb 184 (all - 184 * b) last)
+            rw (
+              left_on l (suc p) free number u us end,
+              here,
+              fresh_left l (suc p) (number + packet_count l u) us,
+              fresh_begun l (suc p) us,
+              sent,
+              le-ltb 184 (all - 184 * b) last,
+            )
             (step_last l number b u us capacity min_next_dts tally ends)
       ];
     }
 
 pub step : (l : OwnedStream) (slots free number : ℕ) (us : List AccessUnit) (capacity min_next_dts : ℕ) (tally : Tally) → l.own slots ≡ true →
-    free ≤ own_before l.own slots → Unfinished l (own_before l.own slots) free us → Steps l slots (own_before l.own slots) free number us capacity min_next_dts tally
+    free ≤ own_before l.own slots → Unfinished l (own_before l.own slots) free us →
+    Steps l slots (own_before l.own slots) free number us capacity min_next_dts tally
 unfolding Unfinished
 step l slots free number [] capacity min_next_dts tally mine le open' = step_none l slots (own_before l.own slots) free number capacity min_next_dts tally
 step l slots free number (u ∷ us) capacity min_next_dts tally mine le open' =

@@ -1,5 +1,6 @@
 -- What is known of a place among a stream's own slots: its number, its piece, its unit.
-use Rattle.std.proofs.Common.{◌≡◌, ℕ, zero, suc, ◌+◌, ◌-◌, ◌*◌, ◌^◌, ◌<◌, ◌≤◌, ◌==◌, nat_lt, Bool, true, cond, Option, Some, None, List, [], ◌∷◌, ◌++◌, length, replicate, refl, sym, ap, ◌∙◌, inl, inr, arith}
+use Rattle.std.proofs.Common.{◌≡◌, ℕ, zero, suc, ◌+◌, ◌-◌, ◌*◌, ◌^◌, ◌<◌, ◌≤◌, ◌==◌, nat_lt, Bool, true, cond, Option, Some, None, List, [], ◌∷◌, ◌++◌, length}
+use Rattle.std.proofs.Common.{replicate, refl, sym, ap, ◌∙◌, inl, inr, arith}
 use Rattle.std.specs.Prelude.{slice_get}
 use Rattle.std.proofs.lemmas.Bool.{cases_lt, lt-ltb, le-ltb, ne_eqb}
 use Rattle.std.proofs.lemmas.List.{length-replicate}
@@ -55,7 +56,13 @@ sent_next l free number (u ∷ us) i = elim (cases_lt i (first_slot l free u)) [
     | inr from ↦
         let here : suc i - first_slot l free u ≡ 0 = omega arith in
         let inside : suc i < end_slot l free u = omega (arith, count_some l u) in
-        rw (place_before l free number i u us below, lt-ltb i (first_slot l free u) below, le-ltb (suc i) (first_slot l free u) from, lt-ltb (suc i) (end_slot l free u) inside, here) (omega arith)
+        rw (
+          place_before l free number i u us below,
+          lt-ltb i (first_slot l free u) below,
+          le-ltb (suc i) (first_slot l free u) from,
+          lt-ltb (suc i) (end_slot l free u) inside,
+          here,
+        ) (omega arith)
   ]
   | inr from ↦ elim (cases_lt i (end_slot l free u)) [
     | inl inside ↦
@@ -85,7 +92,13 @@ sent_next l free number (u ∷ us) i = elim (cases_lt i (first_slot l free u)) [
     | inr over ↦
         let on : first_slot l free u ≤ suc i = omega arith in
         let still : end_slot l free u ≤ suc i = omega arith in
-        rw (place_on l free number i u us over, le-ltb i (first_slot l free u) from, le-ltb i (end_slot l free u) over, le-ltb (suc i) (first_slot l free u) on, le-ltb (suc i) (end_slot l free u) still)
+        rw (
+          place_on l free number i u us over,
+          le-ltb i (first_slot l free u) from,
+          le-ltb i (end_slot l free u) over,
+          le-ltb (suc i) (first_slot l free u) on,
+          le-ltb (suc i) (end_slot l free u) still,
+        )
         (sent_next l (end_slot l free u) (number + packet_count l u) us i)
   ]
 ]
@@ -109,7 +122,8 @@ unfolding marked
 length-marked start [] = refl
 length-marked start (x ∷ xs) = ap suc (length-marked Continues xs)
 
-marked_on : (xs : List (List ℕ)) (q : ℕ) (bytes : List ℕ) → slice_get xs q ≡ Some bytes → slice_get (marked Continues xs) q ≡ Some (record { start = Continues; bytes = bytes })
+marked_on : (xs : List (List ℕ)) (q : ℕ) (bytes : List ℕ) → slice_get xs q ≡ Some bytes →
+    slice_get (marked Continues xs) q ≡ Some (record { start = Continues; bytes = bytes })
 unfolding marked
 marked_on [] q bytes is = absurd (let no : ⊥ = cc in no)
 marked_on (x ∷ xs) zero bytes is = let same : x ≡ bytes = cc in rw same refl
@@ -130,14 +144,16 @@ replicate_at (suc n) zero x lt = refl
 replicate_at (suc n) (suc q) x lt = replicate_at n q x (omega arith)
 
 -- the payloads of a unit, then those of the units after it
-pub pieces_cons : (l : OwnedStream) (u : AccessUnit) (us : List AccessUnit) → all_pieces l (u ∷ us) ≡ pes_pieces (has_access u) (pes_bytes l u) ++ all_pieces l us
+pub pieces_cons : (l : OwnedStream) (u : AccessUnit) (us : List AccessUnit) → all_pieces l (u ∷ us) ≡ pes_pieces (has_access u) (pes_bytes l u)
+    ++ all_pieces l us
 pieces_cons l u us = flat_map-cons (λ (v : AccessUnit). pes_pieces (has_access v) (pes_bytes l v)) u us
 
 senders_cons : (l : OwnedStream) (u : AccessUnit) (us : List AccessUnit) → all_senders l (u ∷ us) ≡ replicate (packet_count l u) u ++ all_senders l us
 senders_cons l u us = flat_map-cons (λ (v : AccessUnit). replicate (packet_count l v) v) u us
 
 pieces_count : (l : OwnedStream) (u : AccessUnit) → length (pes_pieces (has_access u) (pes_bytes l u)) ≡ packet_count l u
-pieces_count l u = length-marked (start_by true (has_access u)) (unit_pieces (has_access u) (pes_bytes l u)) ∙ (unit_pieces_join (has_access u) (pes_bytes l u)).count
+pieces_count l u = length-marked (start_by true (has_access u)) (unit_pieces (has_access u) (pes_bytes l u))
+    ∙ (unit_pieces_join (has_access u) (pes_bytes l u)).count
 
 sent_in : (l : OwnedStream) (free number : ℕ) (u : AccessUnit) (us : List AccessUnit) (i : ℕ) → first_slot l free u ≤ i → i < end_slot l free u →
     sent_before l free number (u ∷ us) i ≡ number + (i - first_slot l free u)
@@ -150,7 +166,8 @@ unfolding sent_before
 sent_on l free number u us i from over = rw (le-ltb i (first_slot l free u) from, le-ltb i (end_slot l free u) over) refl
 
 place_here : (l : OwnedStream) (free number : ℕ) (u : AccessUnit) (us : List AccessUnit) (i : ℕ) → first_slot l free u ≤ i → i < end_slot l free u →
-    PlaceIs l number (u ∷ us) i (sent_before l free number (u ∷ us) i) (record { unit = u; piece = i - first_slot l free u; number = number + (i - first_slot l free u) })
+    PlaceIs l number (u ∷ us) i (sent_before l free number (u ∷ us) i)
+    (record { unit = u; piece = i - first_slot l free u; number = number + (i - first_slot l free u) })
 place_here l free number u us i from below =
     let b = i - first_slot l free u in
     let pes = pes_bytes l u in
@@ -164,15 +181,18 @@ place_here l free number u us i from below =
       released = omega (arith, first_released l free u);
       from = omega arith;
       piece = rw (place, pieces_cons l u us, slice_get-append_left (pes_pieces (has_access u) pes) (all_pieces l us) b size)
-          (marked_from (has_access u) (unit_pieces (has_access u) pes) b (part_of (field_size (has_access u)) (184 * b) pes) ((unit_pieces_join (has_access u) pes).each b few));
-      sender = rw (place, senders_cons l u us, slice_get-append_left (replicate (packet_count l u) u) (all_senders l us) b many) (replicate_at (packet_count l u) b u few);
+          (marked_from (has_access u) (unit_pieces (has_access u) pes) b (part_of (field_size (has_access u)) (184 * b) pes)
+          ((unit_pieces_join (has_access u) pes).each b few));
+      sender = rw (place, senders_cons l u us, slice_get-append_left (replicate (packet_count l u) u) (all_senders l us) b many)
+          (replicate_at (packet_count l u) b u few);
     }
 
 has_on : (l : OwnedStream) (number : ℕ) (u : AccessUnit) (us : List AccessUnit) (i sent : ℕ) (o : Option UnitPlace) →
     PlaceHas l (number + packet_count l u) us i sent o → PlaceHas l number (u ∷ us) i sent o
 has_on l number u us i sent None h = tt
 has_on l number u us i sent (Some x) h =
-    let far : x.number - number ≡ length (pes_pieces (has_access u) (pes_bytes l u)) + (x.number - (number + packet_count l u)) = omega (arith, h.from, pieces_count l u) in
+    let far : x.number - number ≡ length (pes_pieces (has_access u) (pes_bytes l u)) + (x.number - (number + packet_count l u)) =
+    omega (arith, h.from, pieces_count l u) in
     let far_sender : x.number - number ≡ length (replicate (packet_count l u) u) + (x.number - (number + packet_count l u)) =
     omega (arith, h.from, length-replicate (packet_count l u) u) in
     record {
@@ -180,8 +200,16 @@ has_on l number u us i sent (Some x) h =
       inside = h.inside;
       released = h.released;
       from = omega (arith, h.from);
-      piece = rw (pieces_cons l u us, slice_get-append_right (pes_pieces (has_access u) (pes_bytes l u)) (all_pieces l us) (x.number - number) (x.number - (number + packet_count l u)) far) h.piece;
-      sender = rw (senders_cons l u us, slice_get-append_right (replicate (packet_count l u) u) (all_senders l us) (x.number - number) (x.number - (number + packet_count l u)) far_sender) h.sender;
+      piece = rw (
+        pieces_cons l u us,
+        slice_get-append_right (pes_pieces (has_access u) (pes_bytes l u)) (all_pieces l us) (x.number - number)
+            (x.number - (number + packet_count l u)) far,
+      ) h.piece;
+      sender = rw (
+        senders_cons l u us,
+        slice_get-append_right (replicate (packet_count l u) u) (all_senders l us) (x.number - number) (x.number - (number + packet_count l u)) far_sender,
+      )
+          h.sender;
     }
 
 pub place_has : (l : OwnedStream) (free number : ℕ) (us : List AccessUnit) (i : ℕ) →
@@ -192,14 +220,16 @@ place_has l free number (u ∷ us) i = elim (cases_lt i (first_slot l free u)) [
   | inr from ↦ elim (cases_lt i (end_slot l free u)) [
     | inl inside ↦ rw (place_in l free number i u us from inside) (place_here l free number u us i from inside)
     | inr over ↦ rw (place_on l free number i u us over, sent_on l free number u us i from over)
-        (has_on l number u us i (sent_before l (end_slot l free u) (number + packet_count l u) us i) (place_at l (end_slot l free u) (number + packet_count l u) us i)
+        (has_on l number u us i (sent_before l (end_slot l free u) (number + packet_count l u) us i)
+        (place_at l (end_slot l free u) (number + packet_count l u) us i)
         (place_has l (end_slot l free u) (number + packet_count l u) us i))
   ]
 ]
 
 -- ---- what an own slot carries can be a packet
 
-place_content : (l : OwnedStream) (us : List AccessUnit) (i sent : ℕ) (o : Option UnitPlace) → l.parameters.pid < 2 ^ 13 → PlaceHas l 0 us i sent o → ContentFits (content_of l o)
+place_content : (l : OwnedStream) (us : List AccessUnit) (i sent : ℕ) (o : Option UnitPlace) → l.parameters.pid < 2 ^ 13 → PlaceHas l 0 us i sent o →
+    ContentFits (content_of l o)
 place_content l us i sent None pid h = tt
 place_content l us i sent (Some x) pid h =
     let pes = pes_bytes l x.unit in
@@ -207,4 +237,5 @@ place_content l us i sent (Some x) pid h =
 
 pub content_law : ContentLaw
 content_law l us t rules =
-    place_content l us (own_before l.own t) (sent_before l 0 0 us (own_before l.own t)) (place_at l 0 0 us (own_before l.own t)) rules.pid (place_has l 0 0 us (own_before l.own t))
+    place_content l us (own_before l.own t) (sent_before l 0 0 us (own_before l.own t)) (place_at l 0 0 us (own_before l.own t)) rules.pid
+    (place_has l 0 0 us (own_before l.own t))

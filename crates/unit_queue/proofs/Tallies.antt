@@ -34,7 +34,8 @@ over_same (Groups g most) units unit = ap (λ (n : ℕ). nat_lt most (n + packet
 over_same (Pace burst pace) units unit = refl
 
 -- the level goes on from its last value
-level_on : (a : Allowance) (units : List PesPacket) (unit : PesPacket) → level_with a (tally_of a units) (last_due 0 units) unit ≡ level_of a (units ++ unit ∷ [])
+level_on : (a : Allowance) (units : List PesPacket) (unit : PesPacket) →
+    level_with a (tally_of a units) (last_due 0 units) unit ≡ level_of a (units ++ unit ∷ [])
 level_on (Groups g most) units unit = refl
 level_on (Pace burst pace) units unit = sym (allowance_more_law.next pace units unit)
 
@@ -44,5 +45,6 @@ recent_on k units unit =
     keep_more k (map packets_of_unit units) (packets_of_unit unit) ∙ ap (λ (t : List ℕ). keep_last k t) (sym (map-append packets_of_unit units (unit ∷ [])))
 
 -- and so does the tally
-pub tally_on : (a : Allowance) (units : List PesPacket) (unit : PesPacket) → counted a (tally_of a units) (last_due 0 units) unit ≡ tally_of a (units ++ unit ∷ [])
+pub tally_on : (a : Allowance) (units : List PesPacket) (unit : PesPacket) →
+    counted a (tally_of a units) (last_due 0 units) unit ≡ tally_of a (units ++ unit ∷ [])
 tally_on a units unit = rw (level_on a units unit, recent_on (allowance_rows a - 1) units unit) refl

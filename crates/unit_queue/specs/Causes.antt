@@ -21,8 +21,8 @@ or_cause None next = next
 abbrev pub is_bad_pts : ℕ → ℕ → ℕ → Bool
 is_bad_pts limit dts pts = nat_lt pts dts || nat_lt (dts + limit) pts
 
--- of the unit by itself and its distance from the one before: with what its marks take it has at most `largest` bytes, its PTS is at most `limit` after its DTS,
--- and no DTS below `min_next_dts` is accepted
+-- of the unit by itself and its distance from the one before: with what its marks take it has at most `largest` bytes, its PTS is at most `limit` after its
+-- DTS, and no DTS below `min_next_dts` is accepted
 unfoldable pub own_cause : ℕ → ℕ → ℕ → AccessUnit → Option FeedError
 own_cause largest limit min_next_dts u =
     if length u.bytes == 0 then Some Empty
@@ -46,7 +46,8 @@ room_cause full over = if full then Some Full else over
 
 -- the whole list
 abbrev pub first_cause : ℕ → ℕ → ℕ → Bool → Bool → Option FeedError → AccessUnit → Option FeedError
-first_cause largest limit min_next_dts late full over u = or_cause (own_cause largest limit min_next_dts u) (or_cause (time_cause late u.dts) (room_cause full over))
+first_cause largest limit min_next_dts late full over u =
+    or_cause (own_cause largest limit min_next_dts u) (or_cause (time_cause late u.dts) (room_cause full over))
 
 -- the DTS is before the lead, or the slot of the unit's release is written
 abbrev pub is_late : OwnedStream → ℕ → AccessUnit → Bool
@@ -66,7 +67,8 @@ min_next_dts_of l us = next_due l.parameters.interval 0 (map (timed l) us)
 
 -- why a stream that has accepted these units, with `slots` slots written, refuses a further one
 abbrev pub unit_cause : OwnedStream → ℕ → ℕ → List AccessUnit → AccessUnit → Option FeedError
-unit_cause l slots capacity us u = first_cause l.parameters.size l.parameters.pts_limit (min_next_dts_of l us) (is_late l slots u) (is_full l slots capacity us) (over_cause l us u) u
+unit_cause l slots capacity us u = first_cause l.parameters.size l.parameters.pts_limit (min_next_dts_of l us) (is_late l slots u) (is_full l slots capacity us)
+    (over_cause l us u) u
 
 -- why a call refused a unit, none where it accepted it
 abbrev pub refusal : {V W : Type 0} → Result V (FeedError × W) → Option FeedError

@@ -34,7 +34,8 @@ CauseLaw = (l : OwnedStream) (slots capacity : ℕ) (us : List AccessUnit) (q : 
 
 -- and with an accepted unit it stands for one unit more
 abbrev pub FedLaw : Type 0
-FedLaw = (l : OwnedStream) (slots capacity : ℕ) (us : List AccessUnit) (q : Queue) (u : AccessUnit) → ParametersInRange l.parameters → unit_cause l slots capacity us u ≡ None →
+FedLaw = (l : OwnedStream) (slots capacity : ℕ) (us : List AccessUnit) (q : Queue) (u : AccessUnit) → ParametersInRange l.parameters →
+    unit_cause l slots capacity us u ≡ None →
     QueueHolds l slots capacity us q → QueueHolds l slots capacity (us ++ u ∷ []) (accepted q u)
 
 -- a unit that is accepted changes nothing in the slots before
@@ -44,7 +45,8 @@ LaterUnitLaw = (l : OwnedStream) (slots capacity : ℕ) (us : List AccessUnit) (
 
 -- accepted units stay within the declaration
 abbrev pub KeptLaw : Type 0
-KeptLaw = (l : OwnedStream) (slots capacity : ℕ) (us : List AccessUnit) (u : AccessUnit) → ParametersInRange l.parameters → unit_cause l slots capacity us u ≡ None →
+KeptLaw = (l : OwnedStream) (slots capacity : ℕ) (us : List AccessUnit) (u : AccessUnit) → ParametersInRange l.parameters →
+    unit_cause l slots capacity us u ≡ None →
     Kept l us → Kept l (us ++ u ∷ [])
 
 -- what an own slot carries can be a packet
@@ -53,4 +55,5 @@ ContentLaw = (l : OwnedStream) (us : List AccessUnit) (t : ℕ) → ParametersIn
 
 -- what the finished bytes carry of a stream that has its PID for itself
 abbrev pub CarriedLaw : Type 0
-CarriedLaw = (l : OwnedStream) (us : List AccessUnit) (content : ℕ → Content) (n : ℕ) → StreamIsAlone l us content → StreamCarried l us n (run_bytes content 0 n)
+CarriedLaw = (l : OwnedStream) (us : List AccessUnit) (content : ℕ → Content) (n : ℕ) → StreamIsAlone l us content →
+    StreamCarried l us n (run_bytes content 0 n)

@@ -1,5 +1,6 @@
 -- What the packets of a stream carry.
-use Rattle.std.specs.Prelude.{◌≡◌, ◌≤◌, ℕ, ◌+◌, ◌*◌, ◌%◌, ◌==◌, nat_eq, Bool, true, false, Option, Some, None, List, [], ◌∷◌, length, map, take, replicate, slice_get}
+use Rattle.std.specs.Prelude.{◌≡◌, ◌≤◌, ℕ, ◌+◌, ◌*◌, ◌%◌, ◌==◌, nat_eq, Bool, true, false, Option, Some, None, List, [], ◌∷◌, length, map, take, replicate}
+use Rattle.std.specs.Prelude.{slice_get}
 use Rattle.std.specs.List.{concat, flat_map, starts_with}
 use Rattle.clock27.specs.Units.{slot_units_at_1bps}
 use Rattle.own_slots.specs.Slots.{own_before, own_slots}

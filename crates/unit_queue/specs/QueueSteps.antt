@@ -72,7 +72,8 @@ timed_by r u = record { dts = u.dts; size = length (pes_packet_bytes r.stream_id
 
 -- why the queue refuses a unit
 abbrev pub state_cause : ℕ → Queue → AccessUnit → Option FeedError
-state_cause slots q u = first_cause q.parameters.size q.parameters.pts_limit q.min_next_dts (late_at q.parameters slots u.dts) (nat_le q.capacity (length q.units))
+state_cause slots q u =
+    first_cause q.parameters.size q.parameters.pts_limit q.min_next_dts (late_at q.parameters slots u.dts) (nat_le q.capacity (length q.units))
     (packets_cause q.parameters.allowance (is_over_for q (timed_by q.parameters u))) u
 
 -- the queue with one unit more at its end

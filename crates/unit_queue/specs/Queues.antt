@@ -47,8 +47,8 @@ pub record Queued : Type 0 where
   pub access : Bool
   pub bytes : List ℕ
 
--- a queue: the units not sent whole, and of the first the bytes that are sent, with those in front of it; the number of packets sent, modulo 256; the minimum DTS of the next
--- unit; what is counted of the packets of all units accepted
+-- a queue: the units not sent whole, and of the first the bytes that are sent, with those in front of it; the number of packets sent, modulo 256; the minimum
+-- DTS of the next unit; what is counted of the packets of all units accepted
 pub record Queue : Type 0 where
   pub parameters : StreamParameters
   pub units : List Queued

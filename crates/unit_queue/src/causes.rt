@@ -12,8 +12,8 @@ use unit_timing::allowance::Allowance;
 const MAX_DTS: u64 = 1 << 52;
 
 /// Returns the first cause that lies in the unit by itself and in its distance from the one before: it has a byte, and
-/// with what its marks take at most `largest`, its DTS is `min_next_dts` or later, and its PTS at most `limit` after its
-/// DTS.
+/// with what its marks take at most `largest`, its DTS is `min_next_dts` or later, and its PTS at most `limit` after
+/// its DTS.
 #[tactic(auto, unfolding(crate::specs::Causes::own_cause))]
 pub fn own_cause<A: Allocator>(
     largest: usize,

@@ -9,7 +9,8 @@ pub fn first_unit()
     ensures { FirstLaw }
 {}
 
-/// States that a queue gives, in an own slot, the packet that the stream's units have there, and then represents one slot more.
+/// States that a queue gives, in an own slot, the packet that the stream's units have there, and then represents one
+/// slot more.
 pub fn own_slot()
     ensures { StreamSlotLaw }
 {}
@@ -44,8 +45,8 @@ pub fn slot_contents()
     ensures { ContentLaw }
 {}
 
-/// States that, if a stream has its PID for itself, the finished bytes carry its units: counters, payloads in order, none
-/// early, and the packets that the timing speaks of.
+/// States that, if a stream has its PID for itself, the finished bytes carry its units: counters, payloads in order,
+/// none early, and the packets that the timing speaks of.
 pub fn carried_units()
     ensures { CarriedLaw }
 {}

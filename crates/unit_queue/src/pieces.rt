@@ -14,8 +14,9 @@ use ts_packet::{
 };
 
 /// Writes the packet that comes after the first `sent` bytes of a PES packet, its header and then the unit, over the
-/// bytes of `packet`, and says whether further packets follow it. The counter is taken modulo 16. If a decoder may begin
-/// with the unit, two bytes of its first packet's adaptation field are in front of the PES packet, and count in `sent`.
+/// bytes of `packet`, and says whether further packets follow it. The counter is taken modulo 16. If a decoder may
+/// begin with the unit, two bytes of its first packet's adaptation field are in front of the PES packet, and count in
+/// `sent`.
 pub fn write_piece(
     packet: &mut [u8; 188],
     pid: u16,
@@ -38,7 +39,8 @@ pub fn write_piece(
     left_after(access, header, bytes, sent) > MAX_PAYLOAD
 }
 
-// The greatest payload of the packet that comes after the first `sent` bytes of a PES packet and of what is in front of it.
+// The greatest payload of the packet that comes after the first `sent` bytes of a PES packet and of what is in front of
+// it.
 fn part_room(access: bool, sent: usize) -> usize
     ensures value { result ≡ 184 - (field_size access - sent) }
     ensures lower { 182 ≤ result }

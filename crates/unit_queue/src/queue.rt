@@ -143,8 +143,8 @@ impl<A: Allocator> UnitQueue<A> {
         }
     }
 
-    // The first cause that lies in the room for a unit of this DTS and size in bytes, with `front` bytes in front of it, or
-    // in its packets.
+    // The first cause that lies in the room for a unit of this DTS and size in bytes, with `front` bytes in front of
+    // it, or in its packets.
     fn room(&self, dts: u64, size: usize, front: usize) -> Option<FeedError>
         requires { front + size < 2 ^ 63 }
         ensures { result ≡ room_cause (nat_le self.now.capacity (length self.now.units))
@@ -181,8 +181,8 @@ impl<A: Allocator> UnitQueue<A> {
             .saturating_sub(u64::from(self.parameters.interval))
     }
 
-    /// Returns the packet of an own slot: the next piece of the current unit; or the first piece of the next unit, if the
-    /// slot of its release is `slot` or before; or the null packet.
+    /// Returns the packet of an own slot: the next piece of the current unit; or the first piece of the next unit, if
+    /// the slot of its release is `slot` or before; or the null packet.
     pub fn next(&mut self, slot: u64) -> [u8; 188]
         // Of any stream and its units that the queue stands for: their packet in this slot, and one slot more.
         ensures stands { (l : OwnedStream) (capacity : ℕ) (us : List AccessUnit) → l.own slot ≡ true →

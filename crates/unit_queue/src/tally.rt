@@ -40,8 +40,8 @@ impl<A: Allocator> PacketTally<A> {
         Ok(PacketTally { recent, level: 0 })
     }
 
-    /// Returns whether a unit of this DTS and size in bytes, with `front` bytes in front of it, has more packets than are
-    /// allowed, if the unit before is due at `last`.
+    /// Returns whether a unit of this DTS and size in bytes, with `front` bytes in front of it, has more packets than
+    /// are allowed, if the unit before is due at `last`.
     pub fn exceeds(
         &self,
         allowance: Allowance,

@@ -1,5 +1,6 @@
 -- A written record is read again.
-use Rattle.std.proofs.Common.{◌≡◌, ℕ, zero, suc, ◌+◌, ◌/◌, ◌^◌, ◌≤◌, Bool, true, false, cond, Option, None, is_some, List, ◌∷◌, ◌++◌, length, take, drop, slice_index, Some, Ok, refl, sym, ap, ap₂, ◌∙◌, arith, append_assoc, take_at, drop_at}
+use Rattle.std.proofs.Common.{◌≡◌, ℕ, zero, suc, ◌+◌, ◌/◌, ◌^◌, ◌≤◌, Bool, true, false, cond, Option, None, is_some, List, ◌∷◌, ◌++◌, length, take, drop}
+use Rattle.std.proofs.Common.{slice_index, Some, Ok, refl, sym, ap, ap₂, ◌∙◌, arith, append_assoc, take_at, drop_at}
 use Rattle.std.proofs.lemmas.List.{length-append, length-drop, drop-drop}
 use Rattle.byteorder.specs.Endian.{big_number, big_bytes}
 use Rattle.byteorder.specs.Numbers.{length-bytes_high_first, big_number-reads_back}
@@ -7,7 +8,8 @@ use Rattle.pes_packet.specs.AccessUnits.{AccessUnit}
 use Rattle.pes_packet.specs.Marks.{sixteen}
 use Rattle.pes_packet.specs.declared.marks.Marks.{Marks}
 use Rattle.pes_packet.proofs.Sixteen.{sixteen_size}
-use Rattle.unit_records.specs.Records.{record_at, after_record, record_head, record_bytes, marks_byte, marks_in, bytes_in, byte_at, body_at, private_bytes, private_size, word_of, size_in, size_at, unit_at, max_unit_size}
+use Rattle.unit_records.specs.Records.{record_at, after_record, record_head, record_bytes, marks_byte, marks_in, bytes_in, byte_at, body_at, private_bytes}
+use Rattle.unit_records.specs.Records.{private_size, word_of, size_in, size_at, unit_at, max_unit_size}
 use Rattle.unit_records.specs.Laws.{RecordsAreRead, FitsRecord}
 use Rattle.unit_records.proofs.RecordReading.{record_whole}
 use Rattle.unit_records.proofs.RecordWords.{word_below, size_again, byte_again, marks_again, bytes_again}
@@ -35,7 +37,8 @@ spread : (stream : ℕ) (unit : AccessUnit) (rest : List ℕ)
 unfolding record_head
 spread stream unit rest =
     ap (λ (t : List ℕ). stream ∷ t)
-    (spread_by (big_bytes 4 (word_of unit.marks (size_of unit))) (big_bytes 8 unit.dts) (big_bytes 8 unit.pts) (private_bytes unit.marks.private_data) unit.bytes rest)
+    (spread_by (big_bytes 4 (word_of unit.marks (size_of unit))) (big_bytes 8 unit.dts) (big_bytes 8 unit.pts) (private_bytes unit.marks.private_data)
+    unit.bytes rest)
 
 -- the places of its parts
 parts : (stream : ℕ) (size dts pts last : List ℕ) → length size ≡ 4 → length dts ≡ 8 → length pts ≡ 8
@@ -80,9 +83,12 @@ some_private unit fits is =
     with_private unit.marks.private_data (length unit.bytes) (λ none. ap (λ (m : Marks). m.private_data) (fits.marked none)) is
 
 read_back : (stream : ℕ) (unit : AccessUnit) (rest : List ℕ) → FitsRecord unit
-    → (size_at (stream ∷ (big_bytes 4 (word_of unit.marks (size_of unit)) ++ (big_bytes 8 unit.dts ++ (big_bytes 8 unit.pts ++ (body_of unit ++ rest))))) ≡ length (body_of unit))
-    × (unit_at (stream ∷ (big_bytes 4 (word_of unit.marks (size_of unit)) ++ (big_bytes 8 unit.dts ++ (big_bytes 8 unit.pts ++ (body_of unit ++ rest))))) ≡ unit)
-    × (drop 21 (stream ∷ (big_bytes 4 (word_of unit.marks (size_of unit)) ++ (big_bytes 8 unit.dts ++ (big_bytes 8 unit.pts ++ (body_of unit ++ rest))))) ≡ body_of unit ++ rest)
+    → (size_at (stream ∷ (big_bytes 4 (word_of unit.marks (size_of unit)) ++ (big_bytes 8 unit.dts ++ (big_bytes 8 unit.pts ++ (body_of unit ++ rest))))) ≡
+    length (body_of unit))
+    × (unit_at (stream ∷ (big_bytes 4 (word_of unit.marks (size_of unit)) ++ (big_bytes 8 unit.dts ++ (big_bytes 8 unit.pts ++ (body_of unit ++ rest))))) ≡
+    unit)
+    × (drop 21 (stream ∷ (big_bytes 4 (word_of unit.marks (size_of unit)) ++ (big_bytes 8 unit.dts ++ (big_bytes 8 unit.pts ++ (body_of unit ++ rest))))) ≡
+    body_of unit ++ rest)
 read_back stream unit rest fits =
     let p = parts stream (big_bytes 4 (word_of unit.marks (size_of unit))) (big_bytes 8 unit.dts) (big_bytes 8 unit.pts) (body_of unit ++ rest)
     (length-bytes_high_first 4 (word_of unit.marks (size_of unit))) (length-bytes_high_first 8 unit.dts) (length-bytes_high_first 8 unit.pts) in
@@ -120,7 +126,8 @@ record_of xs stream unit body rest first size is after long most =
 pub records_are_read : RecordsAreRead
 records_are_read stream unit rest fits =
     let b = read_back stream unit rest fits in
-    let long : 21 ≤ length (stream ∷ (big_bytes 4 (word_of unit.marks (size_of unit)) ++ (big_bytes 8 unit.dts ++ (big_bytes 8 unit.pts ++ (body_of unit ++ rest))))) =
+    let long : 21 ≤ length
+    (stream ∷ (big_bytes 4 (word_of unit.marks (size_of unit)) ++ (big_bytes 8 unit.dts ++ (big_bytes 8 unit.pts ++ (body_of unit ++ rest))))) =
     omega (
       arith,
       length-append (big_bytes 4 (word_of unit.marks (size_of unit))) (big_bytes 8 unit.dts ++ (big_bytes 8 unit.pts ++ (body_of unit ++ rest))),

@@ -1,5 +1,6 @@
 -- The parts of a record, read one by one, are the record at the front of the input.
-use Rattle.std.proofs.Common.{◌≡◌, ℕ, ◌+◌, ◌<◌, ◌≤◌, ◌==◌, Bool, true, false, cond, ltb, List, [], length, take, drop, slice_index, Option, Some, None, Result, Ok, Err, refl, sym, ap, ◌∙◌, subst, arith}
+use Rattle.std.proofs.Common.{◌≡◌, ℕ, ◌+◌, ◌<◌, ◌≤◌, ◌==◌, Bool, true, false, cond, ltb, List, [], length, take, drop, slice_index, Option, Some, None, Result}
+use Rattle.std.proofs.Common.{Ok, Err, refl, sym, ap, ◌∙◌, subst, arith}
 use Rattle.std.proofs.lemmas.Bool.{le-ltb, lt-ltb, ne_eqb, ltb-false}
 use Rattle.std.proofs.lemmas.List.{length-drop, drop-drop}
 use Rattle.byteorder.specs.Endian.{big_number}
@@ -26,16 +27,23 @@ record_size xs some big =
 pub record_cut : (xs : List ℕ) → 5 ≤ length xs → size_at xs ≤ max_unit_size → length xs < 21 + size_at xs → record_at xs ≡ Err Cut
 unfolding record_at
 record_cut xs some size cut =
-    rw (ne_eqb (length xs) 0 (λ e. omega arith), le-ltb (length xs) 5 some, le-ltb max_unit_size (size_at xs) size, lt-ltb (length xs) (21 + size_at xs) cut) refl
+    rw (ne_eqb (length xs) 0 (λ e. omega arith), le-ltb (length xs) 5 some, le-ltb max_unit_size (size_at xs) size, lt-ltb (length xs) (21 + size_at xs) cut)
+    refl
 
 pub record_whole : (xs : List ℕ) → 21 + size_at xs ≤ length xs → size_at xs ≤ max_unit_size → record_at xs ≡ Ok (Some (slice_index xs 0, unit_at xs))
 unfolding record_at
 record_whole xs whole size =
-    rw (ne_eqb (length xs) 0 (λ e. omega arith), le-ltb (length xs) 5 (omega arith), le-ltb max_unit_size (size_at xs) size, le-ltb (length xs) (21 + size_at xs) whole) refl
+    rw (
+      ne_eqb (length xs) 0 (λ e. omega arith),
+      le-ltb (length xs) 5 (omega arith),
+      le-ltb max_unit_size (size_at xs) size,
+      le-ltb (length xs) (21 + size_at xs) whole,
+    ) refl
 
 -- the tests that a whole record passes
 passes : (a b c d : Bool) (found entry : Option (ℕ × AccessUnit)) (whole : ℕ × AccessUnit) → entry ≡ Some whole
-    → ◌≡◌ {A = Result (Option (ℕ × AccessUnit)) UnitFileError} (cond a (Ok None) (cond b (Err Cut) (cond c (Err Size) (cond d (Err Cut) (Ok found))))) (Ok entry) → d ≡ false
+    → ◌≡◌ {A = Result (Option (ℕ × AccessUnit)) UnitFileError} (cond a (Ok None) (cond b (Err Cut) (cond c (Err Size) (cond d (Err Cut) (Ok found)))))
+    (Ok entry) → d ≡ false
 passes true b c d found entry whole is e = absurd (let no : None ≡ Some whole = ok_is None entry e ∙ is in cc (no))
 passes false true c d found entry whole is e = ok_not_err entry Cut (sym e)
 passes false false true d found entry whole is e = ok_not_err entry Size (sym e)
@@ -98,7 +106,8 @@ bytes_refused xs first second left start stamps e s k b =
     by_cause : (e : UnitFileError) → 21 ≤ length xs → ReadsBytes (drop 16 (drop 5 xs)) start.2 left (Err e) → ReadsRecord xs left (Err e)
     by_cause Cut head h = (record_cut xs s.0 s.2 (omega (arith, h.0, size_read xs start s.1, length-drop 5 xs, length-drop 16 (drop 5 xs))), h.1)
     by_cause Size head h = absurd h
-    by_cause Device head h = later 21 start.2 xs left head (omega (arith, size_read xs start s.1)) (subst (λ ys. StopsWithin start.2 ys left) (drop-drop 16 5 xs) h)
+    by_cause Device head h =
+        later 21 start.2 xs left head (omega (arith, size_read xs start s.1)) (subst (λ ys. StopsWithin start.2 ys left) (drop-drop 16 5 xs) h)
     by_cause Memory head h = (head, s.2, h ∙ ap Some (drop-drop 16 5 xs))
 
 -- a whole record
@@ -120,5 +129,6 @@ whole_record xs first second left start stamps bytes s k b =
     let pts : stamps.1 ≡ big_number 8 (drop 13 xs) = t.2 ∙ ap (big_number 8) last in
     let body : bytes ≡ take (size_at xs) (drop 21 xs) = u.1 ∙ ap (λ (n : ℕ). take n (drop 16 (drop 5 xs))) size ∙ ap (take {A = ℕ} (size_at xs)) after in
     let rest : left ≡ Some (drop (21 + size_at xs) xs) =
-    u.2 ∙ ap (λ (n : ℕ). Some (drop n (drop 16 (drop 5 xs)))) size ∙ ap (λ (ys : List ℕ). Some (drop (size_at xs) ys)) after ∙ ap Some (drop-drop (size_at xs) 21 xs) in
+    u.2 ∙ ap (λ (n : ℕ). Some (drop n (drop 16 (drop 5 xs)))) size ∙ ap (λ (ys : List ℕ). Some (drop (size_at xs) ys)) after
+    ∙ ap Some (drop-drop (size_at xs) 21 xs) in
     (record_whole xs all s.2 ∙ rw (stream, byte, dts, pts, body) refl, rest)

@@ -1,5 +1,6 @@
 -- A record whose bytes come one after another is the record at the front of them all.
-use Rattle.std.proofs.Common.{◌≡◌, ◌==◌, Bool, true, false, not, ℕ, suc, ◌+◌, ◌-◌, ◌/◌, ◌^◌, ◌<◌, ◌≤◌, List, [], ◌∷◌, ◌++◌, length, take, drop, min, slice_index, Some, Ok, Err, refl, sym, ap, ap₂, subst, ◌∙◌, arith, append_assoc, take_at, drop_at, take_all, inl, inr}
+use Rattle.std.proofs.Common.{◌≡◌, ◌==◌, Bool, true, false, not, ℕ, suc, ◌+◌, ◌-◌, ◌/◌, ◌^◌, ◌<◌, ◌≤◌, List, [], ◌∷◌, ◌++◌, length, take, drop, min}
+use Rattle.std.proofs.Common.{slice_index, Some, Ok, Err, refl, sym, ap, ap₂, subst, ◌∙◌, arith, append_assoc, take_at, drop_at, take_all, inl, inr}
 use Rattle.std.proofs.lemmas.Bool.{cases_lt, eqb-true}
 use Rattle.std.proofs.lemmas.List.{append-nil, length-append, length-drop, length-take-le, drop-append-le, drop-drop, take-append-drop, take-append-le}
 use Rattle.byteorder.specs.Endian.{big_from, big_number}
@@ -18,7 +19,8 @@ use Rattle.unit_records.proofs.RecordReading.{record_cut, record_short, record_s
 
 number_front : (n : ℕ) (xs more : List ℕ) → n ≤ length xs → big_number n (xs ++ more) ≡ big_number n xs
 number_front n xs more h =
-    sym (big_from-take 0 n n (xs ++ more) (omega arith)) ∙ ap (λ (ys : List ℕ). big_from 0 n ys) (take-append-le n xs more h) ∙ big_from-take 0 n n xs (omega arith)
+    sym (big_from-take 0 n n (xs ++ more) (omega arith)) ∙ ap (λ (ys : List ℕ). big_from 0 n ys) (take-append-le n xs more h)
+    ∙ big_from-take 0 n n xs (omega arith)
 
 number_after : (at n : ℕ) (xs more : List ℕ) → at + n ≤ length xs → big_number n (drop at (xs ++ more)) ≡ big_number n (drop at xs)
 number_after at n xs more h =
@@ -83,7 +85,8 @@ abbrev pub FillsUnit : List ℕ → List ℕ → ℕ → ℕ → ℕ → Type 0
 FillsUnit unit bytes n size m = m ≡ min (size - length unit) (length (drop n bytes))
 
 -- the bytes of an open record, and that its unit is not whole
-unit_short : (head unit bytes : List ℕ) (n size : ℕ) → IsPart (head ++ unit) → Fills head unit bytes n → size ≡ size_at (head ++ take n bytes) → length unit ≤ size
+unit_short : (head unit bytes : List ℕ) (n size : ℕ) → IsPart (head ++ unit) → Fills head unit bytes n → size ≡ size_at (head ++ take n bytes) →
+    length unit ≤ size
 unit_short head unit bytes n size p f s = elim (cases_lt (length head) 21) [
   | inl short ↦
       let none : length unit ≡ 0 = ap length (f.1.0 short) in
@@ -116,7 +119,8 @@ spread head unit bytes more n m f =
     ∙ ap (λ (xs : List ℕ). (head ++ take n bytes) ++ (unit ++ (take m (drop n bytes) ++ (xs ++ more)))) (drop-drop m n bytes)
     ∙ ap (λ (xs : List ℕ). (head ++ take n bytes) ++ xs) (sym (append_assoc unit (take m (drop n bytes)) (drop (n + m) bytes ++ more)))
 
-unit_same : (dts pts : ℕ) (marks : Marks) (bytes : List ℕ) (dts2 pts2 : ℕ) (marks2 : Marks) (bytes2 : List ℕ) → dts ≡ dts2 → pts ≡ pts2 → marks ≡ marks2 → bytes ≡ bytes2
+unit_same : (dts pts : ℕ) (marks : Marks) (bytes : List ℕ) (dts2 pts2 : ℕ) (marks2 : Marks) (bytes2 : List ℕ) → dts ≡ dts2 → pts ≡ pts2 → marks ≡ marks2 →
+    bytes ≡ bytes2
     → ◌≡◌ {A = AccessUnit} (record { dts = dts; pts = pts; marks = marks; bytes = bytes }) (record { dts = dts2; pts = pts2; marks = marks2; bytes = bytes2 })
 unit_same dts pts marks bytes dts2 pts2 marks2 bytes2 d p m b = rw (d, p, m, b) refl
 
@@ -135,7 +139,8 @@ whole_front head unit rest full s max =
     let unit_is : unit_at all ≡ (entry_of head unit).1 =
     unit_same _ _ _ _ _ _ _ _ dts pts (ap₂ (λ (b : ℕ) (xs : List ℕ). marks_in b xs) byte body) (ap₂ (λ (b : ℕ) (xs : List ℕ). bytes_in b xs) byte body) in
     let count = length-append head (unit ++ rest) in
-    record_of all (slice_index head 0) (entry_of head unit).1 unit rest (first_front head (unit ++ rest) (omega (arith, full))) size unit_is after (omega (arith, count, full)) max
+    record_of all (slice_index head 0) (entry_of head unit).1 unit rest (first_front head (unit ++ rest) (omega (arith, full))) size unit_is after
+    (omega (arith, count, full)) max
 
 pub ends : (head unit bytes : List ℕ) (n m size : ℕ) → IsPart (head ++ unit) → Fills head unit bytes n → FillsUnit unit bytes n size m →
     21 ≤ length (head ++ take n bytes) → size ≡ size_at (head ++ take n bytes) → size ≤ max_unit_size → size ≤ length (unit ++ take m (drop n bytes)) →
@@ -143,7 +148,8 @@ pub ends : (head unit bytes : List ℕ) (n m size : ℕ) → IsPart (head ++ uni
 ends head unit bytes n m size p f u long s max whole =
     let same = unit_whole head unit bytes n m size p f u s whole in
     let front = λ (more : List ℕ).
-    whole_front (head ++ take n bytes) (unit ++ take m (drop n bytes)) (drop (n + m) bytes ++ more) (omega (arith, long, f.0)) (sym s ∙ sym same) (omega (arith, same, max)) in
+    whole_front (head ++ take n bytes) (unit ++ take m (drop n bytes)) (drop (n + m) bytes ++ more) (omega (arith, long, f.0)) (sym s ∙ sym same)
+    (omega (arith, same, max)) in
     record {
       record_is = λ more. ap record_at (spread head unit bytes more n m f) ∙ (front more).0;
       rest_is = λ more. ap (λ (xs : List ℕ). after_record xs) (spread head unit bytes more n m f) ∙ (front more).1;
@@ -195,13 +201,15 @@ UnitIs old bytes now n size m = (now ≡ old.unit.items ++ take m (drop n bytes)
 fills : (old : OpenRecord) (bytes now view : List ℕ) (n : ℕ) → IsOpen old → HeadIs old bytes now view n → Fills old.head.items old.unit.items bytes n
 fills old bytes now view n o h = (subst (λ (xs : List ℕ). length xs ≤ 21) (h.0 ∙ h.1.0) h.1.1.1, (o.head_first, h.1.1.0))
 
-pub head_refused : (old : OpenRecord) (bytes now view : List ℕ) (n : ℕ) (refusal : UnitFileError) → IsOpen old → HeadIs old bytes now view n → NamesSize view (Err refusal) →
+pub head_refused : (old : OpenRecord) (bytes now view : List ℕ) (n : ℕ) (refusal : UnitFileError) → IsOpen old → HeadIs old bytes now view n →
+    NamesSize view (Err refusal) →
     StaysRefused (come_of old) bytes refusal
 head_refused old bytes now view n refusal o h s =
     refused old.head.items old.unit.items bytes n refusal (fills old bytes now view n o h) (subst (λ (xs : List ℕ). NamesSize xs (Err refusal)) (h.0 ∙ h.1.0) s)
 
 pub whole_taken : (old new : OpenRecord) (bytes head view unit : List ℕ) (n m size : ℕ) (entry : ℕ × AccessUnit) → IsOpen old → HeadIs old bytes head view n →
-    NamesSize view (Ok (Some size)) → UnitIs old bytes unit n size m → size ≤ length unit → entry ≡ entry_of head unit → new.head.items ≡ [] → new.unit.items ≡ [] →
+    NamesSize view (Ok (Some size)) → UnitIs old bytes unit n size m → size ≤ length unit → entry ≡ entry_of head unit → new.head.items ≡ [] →
+    new.unit.items ≡ [] →
     IsOpen new × ((come_of new ≡ []) × EndsRecord (come_of old) bytes (n + m) entry)
 whole_taken old new bytes head view unit n m size entry o h s u whole e no_head no_unit =
     let named : NamesSize (old.head.items ++ take n bytes) (Ok (Some size)) = subst (λ (xs : List ℕ). NamesSize xs (Ok (Some size))) (h.0 ∙ h.1.0) s in
@@ -222,7 +230,8 @@ pub part_taken : (old new : OpenRecord) (bytes head view unit : List ℕ) (n m s
 part_taken old new bytes head view unit n m size o h s u lacks same_head same_unit =
     let named : NamesSize (old.head.items ++ take n bytes) (Ok (Some size)) = subst (λ (xs : List ℕ). NamesSize xs (Ok (Some size))) (h.0 ∙ h.1.0) s in
     let few : length (old.unit.items ++ take m (drop n bytes)) < size = subst (λ (xs : List ℕ). length xs < size) u.0 lacks in
-    let come : come_of new ≡ (old.head.items ++ take n bytes) ++ (old.unit.items ++ take m (drop n bytes)) = ap₂ (λ (xs ys : List ℕ). xs ++ ys) (same_head ∙ h.1.0) (same_unit ∙ u.0) in
+    let come : come_of new ≡ (old.head.items ++ take n bytes) ++ (old.unit.items ++ take m (drop n bytes)) =
+    ap₂ (λ (xs ys : List ℕ). xs ++ ys) (same_head ∙ h.1.0) (same_unit ∙ u.0) in
     let g = goes_on old.head.items old.unit.items bytes n m size o.part (fills old bytes head view n o h) u.1 named.0 named.1.0 named.1.1 few in
     let size_now = ap length (same_head ∙ h.1.0) in (
       record { part = subst IsPart (sym come) g.0; head_first = λ short. absurd (omega (arith, short, size_now, named.0)) },

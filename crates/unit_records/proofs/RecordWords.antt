@@ -1,5 +1,6 @@
 -- The word of a record is read as the marks and the size that it was made of.
-use Rattle.std.proofs.Common.{◌≡◌, ◌≢◌, ℕ, ◌+◌, ◌-◌, ◌*◌, ◌/◌, ◌%◌, ◌^◌, ◌<◌, ◌≤◌, Bool, true, false, cond, Option, Some, None, is_some, IfSome, List, ◌++◌, length, drop, drop_at, refl, sym, ap, ◌∙◌, arith, inl, inr, ltb}
+use Rattle.std.proofs.Common.{◌≡◌, ◌≢◌, ℕ, ◌+◌, ◌-◌, ◌*◌, ◌/◌, ◌%◌, ◌^◌, ◌<◌, ◌≤◌, Bool, true, false, cond, Option, Some, None, is_some, IfSome, List, ◌++◌}
+use Rattle.std.proofs.Common.{length, drop, drop_at, refl, sym, ap, ◌∙◌, arith, inl, inr, ltb}
 use Rattle.std.proofs.lemmas.Bool.{lt-ltb, ltb-true, le-leb, and_from, cases_eq}
 use Rattle.bit_fields.specs.Fields.{bit, flag}
 use Rattle.bit_fields.proofs.Fields.{test_bit}
@@ -52,7 +53,8 @@ size_by byte size h small none private = elim (cases_eq size 0) [
       let enough : least_size ((byte * 2 ^ 24 + size) / 2 ^ 24) ≤ (byte * 2 ^ 24 + size) % 2 ^ 24 =
       rw (whole, low) (least_by (flag byte 32) size some private) in
       known (is_known (byte * 2 ^ 24 + size)) (byte * 2 ^ 24 + size) size
-      (and_from _ _ (lt-ltb ((byte * 2 ^ 24 + size) / 2 ^ 24) 128 high) (le-leb (least_size ((byte * 2 ^ 24 + size) / 2 ^ 24)) ((byte * 2 ^ 24 + size) % 2 ^ 24) enough)) low
+      (and_from _ _ (lt-ltb ((byte * 2 ^ 24 + size) / 2 ^ 24) 128 high)
+      (le-leb (least_size ((byte * 2 ^ 24 + size) / 2 ^ 24)) ((byte * 2 ^ 24 + size) % 2 ^ 24) enough)) low
 ]
 
 seven_bits : (byte r v l p a c o : ℕ) → r ≤ 1 → v ≤ 1 → l ≤ 1 → p ≤ 1 → a ≤ 1 → c ≤ 1 → o ≤ 1
@@ -102,9 +104,11 @@ byte_again marks size most =
     ap (λ (n : ℕ). n / 2 ^ 24) (word_is marks size small) ∙ omega (arith, small)
 
 -- marks by their seven values
-marks_by : (r l p a c o : Bool) (v : Option (List ℕ)) (marks : Marks) → r ≡ marks.random_access → l ≡ marks.long → p ≡ marks.flags.priority → a ≡ marks.flags.aligned
+marks_by : (r l p a c o : Bool) (v : Option (List ℕ)) (marks : Marks) → r ≡ marks.random_access → l ≡ marks.long → p ≡ marks.flags.priority →
+    a ≡ marks.flags.aligned
     → c ≡ marks.flags.copyright → o ≡ marks.flags.original → v ≡ marks.private_data
-    → ◌≡◌ {A = Marks} (record { random_access = r; flags = record { priority = p; aligned = a; copyright = c; original = o }; long = l; private_data = v }) marks
+    → ◌≡◌ {A = Marks} (record { random_access = r; flags = record { priority = p; aligned = a; copyright = c; original = o }; long = l; private_data = v })
+    marks
 marks_by r l p a c o v marks er el ep ea ec eo ev = rw (er, el, ep, ea, ec, eo, ev) refl
 
 -- PES_private_data in front of the bytes of a unit
@@ -125,7 +129,8 @@ marks_again marks bytes h =
     let v : cond (flag (marks_byte marks) 32) (first_sixteen body) None ≡ marks.private_data =
     ap (λ (b : Bool). cond b (first_sixteen body) None) n.private ∙ private_first marks.private_data bytes h in
     marks_by (flag (marks_byte marks) 64) (flag (marks_byte marks) 16) (flag (marks_byte marks) 8) (flag (marks_byte marks) 4) (flag (marks_byte marks) 2)
-    (flag (marks_byte marks) 1) (cond (flag (marks_byte marks) 32) (first_sixteen body) None) marks n.access n.long n.priority n.aligned n.copyright n.original v
+    (flag (marks_byte marks) 1) (cond (flag (marks_byte marks) 32) (first_sixteen body) None) marks n.access n.long n.priority n.aligned n.copyright n.original
+    v
 
 -- and the bytes of the unit
 pub bytes_again : (marks : Marks) (bytes : List ℕ) → bytes_in (marks_byte marks) (private_bytes marks.private_data ++ bytes) ≡ bytes

@@ -61,4 +61,5 @@ entry_of head unit = (
 -- the entry was taken out, or its unit still lacks bytes
 abbrev pub ClosesRecord : ℕ → OpenRecord → OpenRecord → Option (ℕ × AccessUnit) → Type 0
 ClosesRecord size old new None = (length old.unit.items < size) × ((new.head.items ≡ old.head.items) × (new.unit.items ≡ old.unit.items))
-ClosesRecord size old new (Some entry) = (size ≤ length old.unit.items) × ((entry ≡ entry_of old.head.items old.unit.items) × ((new.head.items ≡ []) × (new.unit.items ≡ [])))
+ClosesRecord size old new (Some entry) =
+    (size ≤ length old.unit.items) × ((entry ≡ entry_of old.head.items old.unit.items) × ((new.head.items ≡ []) × (new.unit.items ≡ [])))

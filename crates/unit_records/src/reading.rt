@@ -47,10 +47,9 @@ impl UnitFileError {
 // The maximum size of a unit in a record, in bytes.
 pub(crate) const MAX_UNIT_SIZE: usize = 4_000_000;
 
-/// Reads the record at the front of the input: the number of its stream and its unit, or `None` if no byte is left.
-/// A record is stream (1 byte), marks (1), size (3), DTS (8) and PTS (8), the highest byte first, then PES_private_data, if
-/// it is a mark, and the unit's bytes.
-/// After a refusal the reader is inside the record.
+/// Reads the record at the front of the input: the number of its stream and its unit, or `None` if no byte is left. A
+/// record is stream (1 byte), marks (1), size (3), DTS (8) and PTS (8), the highest byte first, then PES_private_data,
+/// if it is a mark, and the unit's bytes. After a refusal the reader is inside the record.
 pub fn read_unit<A: Allocator, R: Source>(
     alloc: A,
     from: &mut R,

@@ -108,8 +108,8 @@ impl OpenRecord {
         Some((stream, unit))
     }
 
-    /// Takes the next bytes. Where the record ends among them, it returns how many of them belong to it, with the number
-    /// of its stream and its unit, and no byte of the next record has come; else all of them belong to it.
+    /// Takes the next bytes. Where the record ends among them, it returns how many of them belong to it, with the
+    /// number of its stream and its unit, and no byte of the next record has come; else all of them belong to it.
     pub fn take(&mut self, bytes: &[u8]) -> Result<Option<(usize, (u8, Unit))>, UnitFileError>
         ensures taken { IsOpen self.old → TakesBytes (come_of self.old) bytes.now self.new result }
         ensures some { IfOk result (λ ended. IfSome ended (λ whole. 0 < whole.0)) }

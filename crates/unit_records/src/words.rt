@@ -9,8 +9,8 @@ use std::alloc::Allocator;
 /// The number of sizes that three bytes name.
 const SIZES: u32 = 1 << 24;
 
-/// Gives the byte of marks of a record: 0x40 the random_access_indicator, 0x20 PES_private_data, 0x10 a PES header of 45
-/// bytes, the four flags as in the first flag byte of a PES header.
+/// Gives the byte of marks of a record: 0x40 the random_access_indicator, 0x20 PES_private_data, 0x10 a PES header of
+/// 45 bytes, the four flags as in the first flag byte of a PES header.
 pub fn marks_byte(marks: Marks) -> u8
     ensures value { result ≡ marks_byte marks }
     ensures below { result < 128 }

@@ -13,9 +13,9 @@ use std::alloc::Allocator;
 /// The greatest number of bytes of a record before those of its unit.
 const HEAD: usize = 37;
 
-/// Returns the record of a unit before its bytes: the number of its stream (1 byte), its marks (1) and its size (3), DTS
-/// and PTS (8 each), the highest byte first, and PES_private_data, which counts in the size. A unit over 4,000,000 bytes has a record that no reader takes, and so has a
-/// unit with marks and no bytes.
+/// Returns the record of a unit before its bytes: the number of its stream (1 byte), its marks (1) and its size (3),
+/// DTS and PTS (8 each), the highest byte first, and PES_private_data, which counts in the size. A unit over 4,000,000
+/// bytes has a record that no reader takes, and so has a unit with marks and no bytes.
 #[tactic(auto, unfolding(crate::specs::Records::record_head))]
 pub fn record_head<B: Allocator>(stream: u8, unit: &Unit<B>) -> ArrayVec<u8, HEAD>
     ensures { result.items ≡ record_head stream unit.now.marks (length unit.now.bytes) unit.now.dts unit.now.pts }

@@ -1,5 +1,6 @@
 -- PES packets of several access units.
-use Rattle.std.proofs.Common.{◌≡◌, ℕ, zero, suc, ◌+◌, ◌-◌, ◌*◌, ◌<◌, ◌≤◌, ◌⊎◌, Bool, cond, nat_lt, List, [], ◌∷◌, length, take, drop, refl, ap, ◌∙◌, sym, subst, inl, inr, arith, All}
+use Rattle.std.proofs.Common.{◌≡◌, ℕ, zero, suc, ◌+◌, ◌-◌, ◌*◌, ◌<◌, ◌≤◌, ◌⊎◌, Bool, cond, nat_lt, List, [], ◌∷◌, length, take, drop, refl, ap, ◌∙◌, sym, subst}
+use Rattle.std.proofs.Common.{inl, inr, arith, All}
 use Rattle.std.proofs.Math.Nat.{le_trans, mul-le-mul_right}
 use Rattle.std.proofs.lemmas.Bool.Decides.{nat_tests}
 use Rattle.std.proofs.lemmas.Bool.{cases_lt, cond-true, lt-ltb}
@@ -143,9 +144,11 @@ record Waiting (rate r x interval main : ℕ) (f : Framing) (ahead : ℕ → ℕ
 waiting_rest : (rate r x interval main : ℕ) (f : Framing) (ahead : ℕ → ℕ) (p : FramedPacket) (packets : List FramedPacket) (left : List ℕ) →
     Waiting rate r x interval main f ahead (p ∷ packets) left → Waiting rate r x interval main f ahead packets (drop p.packet.size left)
 waiting_rest rate r x interval main f ahead p packets left w = record {
-  none = le_trans (mb_rest rate r x (record { dts = p.packet.dts - 0; size = p.packet.size; front = p.packet.front }) (advanced 0 (packets_of packets)) left) w.none;
+  none = le_trans (mb_rest rate r x (record { dts = p.packet.dts - 0; size = p.packet.size; front = p.packet.front }) (advanced 0 (packets_of packets)) left)
+      w.none;
   some = λ i pos lt.
-      let rest = mb_rest rate r x (record { dts = p.packet.dts - ahead i; size = p.packet.size; front = p.packet.front }) (advanced (ahead i) (packets_of packets)) left in
+      let rest = mb_rest rate r x (record { dts = p.packet.dts - ahead i; size = p.packet.size; front = p.packet.front })
+      (advanced (ahead i) (packets_of packets)) left in
       omega (arith, rest, w.some i pos lt);
 }
 

@@ -31,7 +31,8 @@ counted f q apart first pos rises (unit ∷ units) m sent from spaced near few =
     )
 
 -- so from a unit on, the first of a stretch
-from_first : (f : PesPacket → ℕ) (q : ℕ → ℕ) (apart from : ℕ) (unit : PesPacket) (units : List PesPacket) → 0 < apart → IsRising q → Spaced apart from (unit ∷ units) →
+from_first : (f : PesPacket → ℕ) (q : ℕ → ℕ) (apart from : ℕ) (unit : PesPacket) (units : List PesPacket) → 0 < apart → IsRising q →
+    Spaced apart from (unit ∷ units) →
     ((k : ℕ) → sum_by f (take (suc k) (unit ∷ units)) ≤ q k) → Runs f (λ time. q (time / apart)) unit.dts 0 (unit ∷ units)
 unfolding Spaced
 from_first f q apart from unit units pos rises spaced few =
@@ -66,7 +67,8 @@ sizes_allow largest apart from (unit ∷ units) pos spaced sized = (
 
 -- ---- both kinds as one
 
-kept_allows : (a : Allowance) (n apart from : ℕ) (units : List PesPacket) → 0 < allowance_rows a → 0 < apart → Spaced apart from units → KeepsAllowance a n units →
+kept_allows : (a : Allowance) (n apart from : ℕ) (units : List PesPacket) → 0 < allowance_rows a → 0 < apart → Spaced apart from units →
+    KeepsAllowance a n units →
     Allows packets_of_unit (curve a n apart) units
 kept_allows (Groups g most) n apart from units some pos spaced keeps = groups_allow g most n apart from units some pos spaced keeps
 kept_allows (Pace burst pace) n apart from units some pos spaced keeps = keeps
@@ -91,7 +93,8 @@ unit_within apart lead units pos some wide = (div-lt_iff_lt-mul pos).1 (omega (a
 
 pub curve_within : (a : Allowance) (n apart lead units : ℕ) → 0 < allowance_rows a → 0 < apart → 0 < lead → lead ≤ units * apart →
     curve a n apart (lead - 1) ≤ packets_within a n units lead
-curve_within (Groups g most) n apart lead units some pos pos' wide = filled_grouped g most n ((lead - 1) / apart) units some (unit_within apart lead units pos pos' wide)
+curve_within (Groups g most) n apart lead units some pos pos' wide =
+    filled_grouped g most n ((lead - 1) / apart) units some (unit_within apart lead units pos pos' wide)
 curve_within (Pace burst pace) n apart lead units some pos pos' wide =
     let le : lead - 1 ≤ lead = omega arith in
     omega (arith, mul-le-mul_left pace le)

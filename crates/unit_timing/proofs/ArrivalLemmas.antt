@@ -15,7 +15,8 @@ use Rattle.unit_timing.specs.Deadline.{EndsInTime, InTime}
 use Rattle.unit_timing.specs.Transport.{of_payloads, pes_left}
 use Rattle.unit_timing.specs.Arrived.{AllLeft, ArrivedLaw}
 use Rattle.unit_timing.proofs.TransportBuffer.{Level, left_by}
-use Rattle.unit_timing.proofs.PacketsInSlots.{slots_of-cut, pes_left-append, length-left-cut, rises_take, slot_after, rises_begin, rises_following, level_packets, length-own_slots, first_before, sent_nothing}
+use Rattle.unit_timing.proofs.PacketsInSlots.{slots_of-cut, pes_left-append, length-left-cut, rises_take, slot_after, rises_begin, rises_following}
+use Rattle.unit_timing.proofs.PacketsInSlots.{level_packets, length-own_slots, first_before, sent_nothing}
 
 pub length-run : (own : ℕ → Bool) (n : ℕ) → length (own_slots own 0 n) ≡ own_before own n
 unfolding own_before
@@ -25,7 +26,8 @@ cut_before : (e front size : ℕ) (slots : List ℕ) → All (λ s. s < e) slots
 unfolding cut
 cut_before e front size [] all = All-nil (λ p. p.slot < e)
 cut_before e front size (s ∷ slots) all =
-    All-cons (λ p. p.slot < e) (record { slot = s; size = min (184 - front) size }) (cut (front - 184) (size - (184 - front)) slots) (All-head (λ t. t < e) s slots all)
+    All-cons (λ p. p.slot < e) (record { slot = s; size = min (184 - front) size }) (cut (front - 184) (size - (184 - front)) slots)
+    (All-head (λ t. t < e) s slots all)
     (cut_before e (front - 184) (size - (184 - front)) slots (All-tail (λ t. t < e) s slots all))
 
 -- the unit whose own slots b to b + p - 1 stand before slot e of the run is there whole, and has left by e's
@@ -43,7 +45,8 @@ unit_there own rate r room peak W n e b p front size from prev bounds packets_in
     let all : All (λ s. s < e) (take p (drop b slots)) =
     rw (← drop-take b p slots) (All-drop (λ s. s < e) b (take (b + p) slots) (first_before own e 0 n (b + p) (omega arith))) in (
       rw (length-left-cut rate r front size prev xs, many) (omega (arith, own_before_le own e n within)),
-      left_by own rate r room peak W e (cut front size xs) from prev bounds (rw (slots_of-cut front size xs) (rises_take own from p (drop b slots) rises)) h (cut_before e front size xs all),
+      left_by own rate r room peak W e (cut front size xs) from prev bounds (rw (slots_of-cut front size xs) (rises_take own from p (drop b slots) rises)) h
+          (cut_before e front size xs all),
     )
 
 -- what is left of the departures after a unit is that of the later units
@@ -75,11 +78,13 @@ by_stamp : (d e r peak extra due rate : ℕ) → d ≤ 188 * r * e + peak → e 
     (d + extra) * 720000 ≤ due * rate * r
 by_stamp d e r peak extra due rate le early = omega (arith, le, early)
 
-due_there : (own : ℕ → Bool) (rate r room peak extra : ℕ) (W : ℕ → ℕ) (n b p : ℕ) (unit : PesPacket) (from prev : ℕ) → BoundsWork own rate r room peak W → 0 < r →
+due_there : (own : ℕ → Bool) (rate r room peak extra : ℕ) (W : ℕ → ℕ) (n b p : ℕ) (unit : PesPacket) (from prev : ℕ) → BoundsWork own rate r room peak W →
+    0 < r →
     unit.front + unit.size ≤ 184 * p → Rises own from (drop b (own_slots own 0 n)) → Level r W from prev → (later : List ℕ) →
     EndsInTime own rate r (peak + extra) (b + p) unit.dts → unit.dts * rate ≤ n * 135360000 →
     (unit.size ≤ length (pes_left rate r prev (cut unit.front unit.size (take p (drop b (own_slots own 0 n)))) ++ later))
-    × All (λ d. (d + extra) * 720000 ≤ unit.dts * rate * r) (take unit.size (pes_left rate r prev (cut unit.front unit.size (take p (drop b (own_slots own 0 n)))) ++ later))
+    × All (λ d. (d + extra) * 720000 ≤ unit.dts * rate * r)
+    (take unit.size (pes_left rate r prev (cut unit.front unit.size (take p (drop b (own_slots own 0 n)))) ++ later))
 due_there own rate r room peak extra W n b p unit from prev bounds pos small here h later ends due =
     let left = pes_left rate r prev (cut unit.front unit.size (take p (drop b (own_slots own 0 n)))) in
     let within = slot_within ends.slot (peak + extra) unit.dts rate r n pos ends.early due in
@@ -97,7 +102,8 @@ AllLeftBefore extra rate r n (unit ∷ units) left =
     (unit.dts * rate ≤ n * 135360000 → (unit.size ≤ length left) × All (λ d. (d + extra) * 720000 ≤ unit.dts * rate * r) (take unit.size left))
     × AllLeftBefore extra rate r n units (drop unit.size left)
 
-arrived : (own : ℕ → Bool) (rate lead r room peak extra : ℕ) (W : ℕ → ℕ) (n : ℕ) → 0 < r → BoundsWork own rate r room peak W → (units : List PesPacket) (free prev from : ℕ) →
+arrived : (own : ℕ → Bool) (rate lead r room peak extra : ℕ) (W : ℕ → ℕ) (n : ℕ) → 0 < r → BoundsWork own rate r room peak W →
+    (units : List PesPacket) (free prev from : ℕ) →
     InTime own rate lead r (peak + extra) free units → Rises own from (drop free (own_slots own 0 n)) → Level r W from prev →
     AllLeftBefore extra rate r n units (pes_left rate r prev (packets_in_slots own rate lead free units (own_slots own 0 n)))
 unfolding InTime AllLeftBefore packets_in_slots
@@ -112,9 +118,11 @@ arrived own rate lead r room peak extra W n pos bounds (unit ∷ units) free pre
     let here = rises_begin own rate lead free from unit slots rises in
     let joined : pes_left rate r prev (cut unit.front unit.size xs ++ packets_in_slots own rate lead (b + p) units slots)
     ≡ pes_left rate r prev (cut unit.front unit.size xs) ++ pes_left rate r next (packets_in_slots own rate lead (b + p) units slots) =
-    pes_left-append rate r prev (cut unit.front unit.size xs) (packets_in_slots own rate lead (b + p) units slots) ∙ rw (slots_of-cut unit.front unit.size xs) refl in
+    pes_left-append rate r prev (cut unit.front unit.size xs) (packets_in_slots own rate lead (b + p) units slots)
+    ∙ rw (slots_of-cut unit.front unit.size xs) refl in
     rw joined (
-      (λ due. due_there own rate r room peak extra W n b p unit from prev bounds pos small here h (pes_left rate r next (packets_in_slots own rate lead (b + p) units slots)) in_time.0 due),
+      (λ due. due_there own rate r room peak extra W n b p unit from prev bounds pos small here h
+          (pes_left rate r next (packets_in_slots own rate lead (b + p) units slots)) in_time.0 due),
       rw (after_unit own rate lead r n b p unit.front unit.size prev next units small)
           (arrived own rate lead r room peak extra W n pos bounds units (b + p) next (slot_after from xs) in_time.1
           (rises_following own from b p slots here)
@@ -133,8 +141,11 @@ just_left : (rate r n : ℕ) (units : List PesPacket) (left : List ℕ) → AllL
 unfolding AllLeft AllLeftBefore
 just_left rate r n [] left all = tt
 just_left rate r n (unit ∷ units) left all = (
-  (λ due. let there = all.0 due in
-      (there.0, All-weaker (λ d. (d + 0) * 720000 ≤ unit.dts * rate * r) (λ d. d * 720000 ≤ unit.dts * rate * r) (λ d le. omega (arith, le)) (take unit.size left) there.1)),
+  (λ due. let there = all.0 due in (
+    there.0,
+    All-weaker (λ d. (d + 0) * 720000 ≤ unit.dts * rate * r) (λ d. d * 720000 ≤ unit.dts * rate * r) (λ d le. omega (arith, le))
+        (take unit.size left) there.1,
+  )),
   just_left rate r n units (drop unit.size left) all.1,
 )
 

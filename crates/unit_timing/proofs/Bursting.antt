@@ -54,7 +54,10 @@ levels_allow burst pace apart (unit ∷ units) level last from spaced fits =
     let here : now ≤ burst * 135360000 = omega (arith, fits) in
     let rest : greatest_after pace now unit.dts units ≤ burst * 135360000 = omega (arith, fits) in
     let own : (0 + p) * 135360000 ≤ now + pace * (unit.dts - unit.dts) = omega arith in (
-      (level_allows burst pace now (unit.dts - unit.dts) (0 + p) here own, levels_run burst pace apart units now unit.dts unit.dts (0 + p) (unit.dts + apart) same next spaced.1 rest own),
+      (
+        level_allows burst pace now (unit.dts - unit.dts) (0 + p) here own,
+        levels_run burst pace apart units now unit.dts unit.dts (0 + p) (unit.dts + apart) same next spaced.1 rest own,
+      ),
       levels_allow burst pace apart units now unit.dts (unit.dts + apart) spaced.1 rest,
     )
 
@@ -118,7 +121,8 @@ next_root burst pace level last unit units later runs (inr root) = elim (cases_l
 ]
 
 greatest_fits : (burst pace apart : ℕ) (units : List PesPacket) (level last from : ℕ) → last ≤ from → Spaced apart from units →
-    Allows packets_of_unit (pace_curve burst pace) units → (level ≡ 0) ⊎ Root burst pace level last units → greatest_after pace level last units ≤ burst * 135360000
+    Allows packets_of_unit (pace_curve burst pace) units → (level ≡ 0) ⊎ Root burst pace level last units →
+    greatest_after pace level last units ≤ burst * 135360000
 unfolding Spaced Allows greatest_after
 greatest_fits burst pace apart [] level last from le spaced allows root = omega arith
 greatest_fits burst pace apart (unit ∷ units) level last from le spaced allows root =

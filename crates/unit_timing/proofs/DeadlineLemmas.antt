@@ -53,7 +53,8 @@ in_stretch own allowed rate lead r late apart keeps (unit ∷ units) first sent 
           let more : begun + p ≤ begun + (0 + p) = omega arith in
           rw e (
             next_ends own allowed rate lead r late unit.dts 0 begun unit (keeps (unit.dts - unit.dts)) lead_le same none allows.0.0,
-            in_stretch own allowed rate lead r late apart keeps units unit.dts (0 + p) (begun + p) (unit.dts + apart) lead_le same_next more allows.0.1 spaced.1 allows.1,
+            in_stretch own allowed rate lead r late apart keeps units unit.dts (0 + p) (begun + p) (unit.dts + apart) lead_le same_next more allows.0.1 spaced.1
+                allows.1,
           )
       | inr on ↦
           let e : max free begun ≡ free = omega (arith, on) in

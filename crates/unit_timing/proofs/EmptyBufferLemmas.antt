@@ -1,5 +1,6 @@
 -- Buffers that are empty at least once a second.
-use Rattle.std.proofs.Common.{◌≡◌, ℕ, zero, suc, ◌+◌, ◌-◌, ◌*◌, ◌/◌, ◌%◌, ◌<◌, ◌≤◌, max, Bool, true, false, nat_lt, ltb, not, List, [], ◌∷◌, ◌++◌, length, take, drop, get_or, refl, ap, ◌∙◌, sym, subst, inl, inr, arith, All}
+use Rattle.std.proofs.Common.{◌≡◌, ℕ, zero, suc, ◌+◌, ◌-◌, ◌*◌, ◌/◌, ◌%◌, ◌<◌, ◌≤◌, max, Bool, true, false, nat_lt, ltb, not, List, [], ◌∷◌, ◌++◌, length, take}
+use Rattle.std.proofs.Common.{drop, get_or, refl, ap, ◌∙◌, sym, subst, inl, inr, arith, All}
 use Rattle.std.proofs.Math.Nat.{le_trans, mul-le-mul_left, mul-le-mul_right, mul-pos, mul-div-le, lt-mul-div-succ}
 use Rattle.std.proofs.lemmas.Bool.{cases_lt, cond-true, cond-false, lt-ltb, le-ltb, ltb-true, and_parts}
 use Rattle.std.proofs.lemmas.List.Elements.{All-nil, All-cons, All-append, All-take, All-drop, All-weaker}
@@ -22,7 +23,8 @@ use Rattle.unit_timing.specs.Schedule.{Packet}
 use Rattle.unit_timing.specs.Transport.{slots_of, of_payloads, tb_fullness}
 use Rattle.unit_timing.specs.VideoBuffers.{multiplexing_entered, multiplexing_left, multiplexing_fullness}
 use Rattle.unit_timing.specs.PlanLaws.{in_turn}
-use Rattle.unit_timing.specs.EmptyBuffers.{EmptySoon, EmptiesOften, TransportEmptyLaw, MultiplexingEmptyLaw, empty_slots, EmptiesEachSecond, EmptiesAcross, EmptiesLaw}
+use Rattle.unit_timing.specs.EmptyBuffers.{EmptySoon, EmptiesOften, TransportEmptyLaw, MultiplexingEmptyLaw, empty_slots, EmptiesEachSecond, EmptiesAcross}
+use Rattle.unit_timing.specs.EmptyBuffers.{EmptiesLaw}
 use Rattle.unit_timing.proofs.TransportBuffer.{Level, level_le, level_packet}
 use Rattle.unit_timing.proofs.Thinning.{payload_fullness}
 

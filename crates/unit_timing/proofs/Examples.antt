@@ -40,7 +40,8 @@ one_unit due = record { dts = due; size = 590; front = 0 } ∷ []
 run_of : ℕ → ℕ → List Packet
 run_of due n = packets_in_slots every_fourth 1504000 due 0 (one_unit due) (own_slots every_fourth 0 n)
 
-first_run : run_of 1600 18 ≡ record { slot = 0; size = 184 } ∷ record { slot = 4; size = 184 } ∷ record { slot = 8; size = 184 } ∷ record { slot = 12; size = 38 } ∷ []
+first_run : run_of 1600 18 ≡ record { slot = 0; size = 184 } ∷ record { slot = 4; size = 184 } ∷ record { slot = 8; size = 184 } ∷ record
+    { slot = 12; size = 38 } ∷ []
 unfolding run_of every_fourth one_unit packets_in_slots first_slot cut own_before own_slots
 first_run = refl
 

@@ -56,7 +56,8 @@ groups_few g most n rest (suc q) units le d =
 abbrev pub filled : ℕ → ℕ → ℕ → ℕ → ℕ
 filled g most n m = m / g * most + min (suc (m % g) * n) most
 
-pub filled_few : (g most n : ℕ) (units : List PesPacket) → 0 < g → GroupsWithin g most n units → (m : ℕ) → packets_of_units (take (suc m) units) ≤ filled g most n m
+pub filled_few : (g most n : ℕ) (units : List PesPacket) → 0 < g → GroupsWithin g most n units → (m : ℕ) →
+    packets_of_units (take (suc m) units) ≤ filled g most n m
 filled_few g most n units pos d m =
     let below : suc (m % g) ≤ g = omega (arith, mod_below m g pos) in
     let few = groups_few g most n (suc (m % g)) (m / g) units below d in

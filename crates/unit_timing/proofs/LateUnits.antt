@@ -1,5 +1,6 @@
 -- Telling late units.
-use Rattle.std.proofs.Common.{◌≡◌, ℕ, suc, ◌*◌, ◌≤◌, Bool, true, false, cond, nat_le, ◌&&◌, not, Option, Some, None, List, [], ◌∷◌, length, take, drop, refl, inl, inr, All}
+use Rattle.std.proofs.Common.{◌≡◌, ℕ, suc, ◌*◌, ◌≤◌, Bool, true, false, cond, nat_le, ◌&&◌, not, Option, Some, None, List, [], ◌∷◌, length, take, drop, refl}
+use Rattle.std.proofs.Common.{inl, inr, All}
 use Rattle.std.specs.List.{list_all}
 use Rattle.std.proofs.lemmas.Bool.{cases_Bool, leb-true, le-leb, and_parts, and_from}
 use Rattle.std.proofs.lemmas.List.Elements.{All-nil, All-cons, All-head, All-tail}
@@ -23,7 +24,8 @@ none_late rate r n number [] left all = refl
 none_late rate r n number (unit ∷ units) left all = elim (cases_Bool (is_due rate n unit)) [
   | inl due ↦
       let has = all.0 (leb-true (unit.dts * rate) (n * 135360000) due) in
-      let is : has_left rate r unit left ≡ true = and_from _ _ (le-leb unit.size (length left) has.0) (passes (unit.dts * rate * r) (take unit.size left) has.1) in
+      let is : has_left rate r unit left ≡ true =
+      and_from _ _ (le-leb unit.size (length left) has.0) (passes (unit.dts * rate * r) (take unit.size left) has.1) in
       rw (due, is) (none_late rate r n (suc number) units (drop unit.size left) all.1)
   | inr later ↦ rw later (none_late rate r n (suc number) units (drop unit.size left) all.1)
 ]

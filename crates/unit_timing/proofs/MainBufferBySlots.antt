@@ -1,5 +1,6 @@
 -- The main buffer counted by slots: the packets whose bytes it holds stand within the lead of one another.
-use Rattle.std.proofs.Common.{◌≡◌, ℕ, suc, ◌+◌, ◌-◌, ◌*◌, ◌<◌, ◌≤◌, min, Bool, true, false, cond, nat_le, nat_lt, ◌&&◌, List, [], ◌∷◌, ◌++◌, length, take, drop, map, refl, ap, ◌∙◌, sym, inl, inr, arith, All}
+use Rattle.std.proofs.Common.{◌≡◌, ℕ, suc, ◌+◌, ◌-◌, ◌*◌, ◌<◌, ◌≤◌, min, Bool, true, false, cond, nat_le, nat_lt, ◌&&◌, List, [], ◌∷◌, ◌++◌, length, take, drop}
+use Rattle.std.proofs.Common.{map, refl, ap, ◌∙◌, sym, inl, inr, arith, All}
 use Rattle.std.proofs.Math.Nat.{mul-le-mul_right}
 use Rattle.std.proofs.lemmas.Bool.{cases_Bool, cases_lt, le-leb, leb-true, lt-ltb, ltb-true, and_parts, and_from}
 use Rattle.std.proofs.lemmas.List.{map-append, take-append-drop}
@@ -67,7 +68,8 @@ kept_packet rate r x due s left few all =
       ]
     ]
 
-kept_pieces : (rate r x due front size : ℕ) (slots left : List ℕ) → NoneLeavesEarly r (cut front size slots) left → kept rate r x due left ≤ 184 * live rate r x (pieces due slots)
+kept_pieces : (rate r x due front size : ℕ) (slots left : List ℕ) → NoneLeavesEarly r (cut front size slots) left →
+    kept rate r x due left ≤ 184 * live rate r x (pieces due slots)
 unfolding cut live NoneLeavesEarly
 kept_pieces rate r x due front size [] left none = rw none (omega (arith, kept_le rate r x due []))
 kept_pieces rate r x due front size (s ∷ slots) left late =
@@ -75,7 +77,12 @@ kept_pieces rate r x due front size (s ∷ slots) left late =
     let rest = drop (min (184 - front) size) left in
     let parts : kept rate r x due left ≡ kept rate r x due one + kept rate r x due rest =
     ap (λ (l : List ℕ). kept rate r x due l) (sym (take-append-drop (min (184 - front) size) left)) ∙ kept-append rate r x due one rest in
-    omega (arith, parts, kept_packet rate r x due s one (omega (arith, late.0)) late.1, kept_pieces rate r x due (front - 184) (size - (184 - front)) slots rest late.2)
+    omega (
+      arith,
+      parts,
+      kept_packet rate r x due s one (omega (arith, late.0)) late.1,
+      kept_pieces rate r x due (front - 184) (size - (184 - front)) slots rest late.2,
+    )
 
 main_pieces : (own : ℕ → Bool) (rate lead r n x : ℕ) (units : List PesPacket) (free : ℕ) (left : List ℕ) →
     NoneLeavesEarly r (packets_in_slots own rate lead free units (own_slots own 0 n)) left →
@@ -128,7 +135,8 @@ not_early rate lead due s le =
     let split : due ≤ (due - lead) + lead = omega arith in
     omega (arith, le, mul-le-mul_right rate split)
 
-none_early : (own : ℕ → Bool) (rate lead n : ℕ) (units : List PesPacket) (free : ℕ) → All (NotEarly rate lead) (all_pieces own rate lead free units (own_slots own 0 n))
+none_early : (own : ℕ → Bool) (rate lead n : ℕ) (units : List PesPacket) (free : ℕ) →
+    All (NotEarly rate lead) (all_pieces own rate lead free units (own_slots own 0 n))
 unfolding all_pieces
 none_early own rate lead n [] free = All-nil (NotEarly rate lead)
 none_early own rate lead n (unit ∷ units) free =
@@ -142,7 +150,8 @@ none_early own rate lead n (unit ∷ units) free =
     (none_early own rate lead n units (b + packets_of_unit unit))
 
 -- those that are live stand before a slot, and so are no more than the own slots up to it
-live_before : (own : ℕ → Bool) (rate r x limit : ℕ) → ((s : ℕ) → 188 * s * r ≤ x → s < limit) → (ps : List Piece) (from : ℕ) → from ≤ limit → Rises own from (slots_in ps) →
+live_before : (own : ℕ → Bool) (rate r x limit : ℕ) → ((s : ℕ) → 188 * s * r ≤ x → s < limit) → (ps : List Piece) (from : ℕ) → from ≤ limit →
+    Rises own from (slots_in ps) →
     live rate r x ps + own_before own from ≤ own_before own limit
 unfolding Rises
 live_before own rate r x limit before [] from le rises = unfold live in (omega (arith, own_before_le own from limit le))
@@ -176,7 +185,8 @@ rises_rest : (own : ℕ → Bool) (from s : ℕ) (slots : List ℕ) → Rises ow
 unfolding Rises
 rises_rest own from s slots rises = rises.2
 
-live_few : (own : ℕ → Bool) (rate lead r x w m : ℕ) → lead * rate ≤ w * 135360000 → AtMostPerWindow own w m → (ps : List Piece) (from : ℕ) → Rises own from (slots_in ps) →
+live_few : (own : ℕ → Bool) (rate lead r x w m : ℕ) → lead * rate ≤ w * 135360000 → AtMostPerWindow own w m → (ps : List Piece) (from : ℕ) →
+    Rises own from (slots_in ps) →
     All (NotEarly rate lead) ps → live rate r x ps ≤ m
 live_few own rate lead r x w m wide spares [] from rises early = unfold live in (omega arith)
 live_few own rate lead r x w m wide spares (p ∷ ps) from rises early = elim (cases_Bool (is_live rate r x p)) [
@@ -189,11 +199,17 @@ live_few own rate lead r x w m wide spares (p ∷ ps) from rises early = elim (c
       omega (arith, all, spares p.slot)
   | inr not ↦
       let none = live_none rate r x p ps not in
-      omega (arith, none, live_few own rate lead r x w m wide spares ps (suc p.slot) (rises_rest own from p.slot (slots_in ps) rises) (All-tail (NotEarly rate lead) p ps early))
+      omega (
+        arith,
+        none,
+        live_few own rate lead r x w m wide spares ps (suc p.slot) (rises_rest own from p.slot (slots_in ps) rises)
+            (All-tail (NotEarly rate lead) p ps early),
+      )
 ]
 
 pub by_slots : BySlots
 by_slots own rate lead r w m units n x left wide spares late =
     let ps = all_pieces own rate lead 0 units (own_slots own 0 n) in
-    let few = live_few own rate lead r x w m wide spares ps 0 (rw (slots_in-all own rate lead 0 units (own_slots own 0 n)) (rising_run own rate lead n units)) (none_early own rate lead n units 0) in
+    let few = live_few own rate lead r x w m wide spares ps 0 (rw (slots_in-all own rate lead 0 units (own_slots own 0 n)) (rising_run own rate lead n units))
+    (none_early own rate lead n units 0) in
     omega (arith, main_pieces own rate lead r n x units 0 left late, few)

@@ -36,7 +36,8 @@ kept_unit own rate lead r x free n unit each f left few late =
     elim (cases_lt (x * 720000) ((unit.dts - lead) * rate * r)) [
       | inl early ↦
           let all = unit_later r unit.front unit.size (suc x) xs left late
-          (All-weaker (λ s. release rate lead unit.dts ≤ s) (λ s. suc x ≤ 188 * s * r) (λ s le. early_slot x rate lead r unit.dts s early le) xs (unit_slots own rate lead free n unit)) in
+          (All-weaker (λ s. release rate lead unit.dts ≤ s) (λ s. suc x ≤ 188 * s * r) (λ s le. early_slot x rate lead r unit.dts s early le) xs
+          (unit_slots own rate lead free n unit)) in
           let none = kept_before rate r x unit.dts left all in
           omega (arith, none)
       | inr begun ↦ elim (cases_lt (x * 720000) (unit.dts * rate * r)) [

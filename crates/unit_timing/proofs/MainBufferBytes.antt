@@ -1,5 +1,6 @@
 -- The bytes of one unit, or of one packet, in the main buffer.
-use Rattle.std.proofs.Common.{◌≡◌, ℕ, zero, suc, ◌+◌, ◌*◌, ◌<◌, ◌≤◌, Bool, false, cond, nat_le, List, [], ◌∷◌, ◌++◌, length, take, drop, refl, inl, inr, arith, All, count_by}
+use Rattle.std.proofs.Common.{◌≡◌, ℕ, zero, suc, ◌+◌, ◌*◌, ◌<◌, ◌≤◌, Bool, false, cond, nat_le, List, [], ◌∷◌, ◌++◌, length, take, drop, refl, inl, inr, arith}
+use Rattle.std.proofs.Common.{All, count_by}
 use Rattle.std.proofs.Math.Nat.{le_trans}
 use Rattle.std.proofs.lemmas.Bool.{cases_Bool, cases_lt, le-ltb, lt-leb, and_right}
 use Rattle.std.proofs.lemmas.List.{drop_all}

@@ -27,9 +27,14 @@ unfolding kept
 kept_covered rate r x y due [] le covers = omega arith
 kept_covered rate r x y due (d ∷ ds) le covers =
     rw (sum_by-cons (λ d. cond (is_in_main_buffer rate r x due d) 1 0) d ds, sum_by-cons (λ d. cond (is_in_main_buffer rate r y due d) 1 0) d ds)
-    (omega (arith, one_covered rate r x y due d le (All-head (λ d. d ≤ x → d ≤ y) d ds covers), kept_covered rate r x y due ds le (All-tail (λ d. d ≤ x → d ≤ y) d ds covers)))
+    (omega (
+      arith,
+      one_covered rate r x y due d le (All-head (λ d. d ≤ x → d ≤ y) d ds covers),
+      kept_covered rate r x y due ds le (All-tail (λ d. d ≤ x → d ≤ y) d ds covers),
+    ))
 
-fullness_covered : (rate r x y : ℕ) (units : List PesPacket) (left : List ℕ) → y ≤ x → Covers x y left → mb_fullness rate r x units left ≤ mb_fullness rate r y units left
+fullness_covered : (rate r x y : ℕ) (units : List PesPacket) (left : List ℕ) → y ≤ x → Covers x y left →
+    mb_fullness rate r x units left ≤ mb_fullness rate r y units left
 unfolding mb_fullness kept
 fullness_covered rate r x y [] left le covers = omega arith
 fullness_covered rate r x y (unit ∷ units) left le covers =
@@ -60,7 +65,8 @@ entry_more x d ds (inl none) = elim (cases_lt x d) [
   | inr here ↦ inr (record {
     at = d;
     within = here;
-    covers = All-cons (λ e. e ≤ x → e ≤ d) d ds (λ h. omega arith) (All-weaker (λ e. x < e) (λ e. e ≤ x → e ≤ d) (λ e lt h. absurd (omega (arith, lt, h))) ds none);
+    covers = All-cons (λ e. e ≤ x → e ≤ d) d ds (λ h. omega arith)
+        (All-weaker (λ e. x < e) (λ e. e ≤ x → e ≤ d) (λ e lt h. absurd (omega (arith, lt, h))) ds none);
     counted = λ f. omega arith;
   })
 ]
@@ -81,7 +87,8 @@ entry_more x d ds (inr e) = elim (cases_lt x d) [
     | inr last ↦ inr (record {
       at = d;
       within = here;
-      covers = All-cons (λ b. b ≤ x → b ≤ d) d ds (λ h. omega arith) (All-weaker (λ b. b ≤ x → b ≤ e.at) (λ b. b ≤ x → b ≤ d) (λ b k h. le_trans (k h) last) ds e.covers);
+      covers = All-cons (λ b. b ≤ x → b ≤ d) d ds (λ h. omega arith)
+          (All-weaker (λ b. b ≤ x → b ≤ e.at) (λ b. b ≤ x → b ≤ d) (λ b k h. le_trans (k h) last) ds e.covers);
       counted = λ f. omega arith;
     })
   ]
@@ -106,7 +113,8 @@ greatest_reached f d (e ∷ ds) =
       | inr here ↦ record { at = d; is = omega (arith, here) }
     ]
 
-never_more : (rate r : ℕ) (units : List PesPacket) (left : List ℕ) (x : ℕ) → mb_fullness rate r x units left ≤ greatest_at (λ x. mb_fullness rate r x units left) left
+never_more : (rate r : ℕ) (units : List PesPacket) (left : List ℕ) (x : ℕ) →
+    mb_fullness rate r x units left ≤ greatest_at (λ x. mb_fullness rate r x units left) left
 never_more rate r units left x = elim (entry x left) [
   | inl none ↦ omega (arith, fullness_none rate r x units left none)
   | inr e ↦ le_trans (fullness_covered rate r x e.at units left e.within e.covers) (e.counted (λ x. mb_fullness rate r x units left))

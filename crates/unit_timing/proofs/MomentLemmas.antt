@@ -1,5 +1,6 @@
 -- What buffers hold at moments that are not whole.
-use Rattle.std.proofs.Common.{◌≡◌, ℕ, Bool, true, false, nat_le, nat_lt, ◌&&◌, ◌+◌, ◌-◌, ◌*◌, ◌/◌, ◌<◌, ◌≤◌, cond, List, [], ◌∷◌, ◌++◌, map, take, drop, refl, ap, ap₂, sym, subst, ◌∙◌, inl, inr, arith}
+use Rattle.std.proofs.Common.{◌≡◌, ℕ, Bool, true, false, nat_le, nat_lt, ◌&&◌, ◌+◌, ◌-◌, ◌*◌, ◌/◌, ◌<◌, ◌≤◌, cond, List, [], ◌∷◌, ◌++◌, map, take, drop, refl}
+use Rattle.std.proofs.Common.{ap, ap₂, sym, subst, ◌∙◌, inl, inr, arith}
 use Rattle.std.proofs.Math.Nat.{le_trans, mul-le-mul_left, mul-div-le, lt-mul-div-succ}
 use Rattle.std.proofs.lemmas.Bool.{cases_lt, lt-ltb, le-ltb, le-leb, lt-leb, and_right}
 use Rattle.std.proofs.lemmas.List.{map-append, take-map, drop-map}
@@ -13,7 +14,9 @@ use Rattle.unit_timing.specs.Transport.{slots_of, of_payloads}
 use Rattle.unit_timing.specs.MainBuffer.{is_in_main_buffer, mb_fullness}
 use Rattle.unit_timing.specs.VideoBuffers.{multiplexing_entered, multiplexing_left}
 use Rattle.unit_timing.specs.SystemBuffer.{system_arrivals, system_tb_left, bsys_left}
-use Rattle.unit_timing.specs.FinerMoments.{TransportMoments, LeftScaled, MainMoments, MainWholeMoments, MainPeakMoments, MultiplexingMoments, SystemTransportMoments, SystemBufferMoments, multiplexing_entered_at, multiplexing_left_at, system_arrivals_at, system_tb_left_at, bsys_left_at}
+use Rattle.unit_timing.specs.FinerMoments.{TransportMoments, LeftScaled, MainMoments, MainWholeMoments, MainPeakMoments, MultiplexingMoments}
+use Rattle.unit_timing.specs.FinerMoments.{SystemTransportMoments, SystemBufferMoments, multiplexing_entered_at, multiplexing_left_at, system_arrivals_at}
+use Rattle.unit_timing.specs.FinerMoments.{system_tb_left_at, bsys_left_at}
 use Rattle.unit_timing.proofs.MainBufferBytes.{kept}
 
 -- ---- queues
@@ -29,12 +32,14 @@ leave k step ts =
 arrive_and_leave : (k step r : ℕ) (slots : List ℕ) → departures (k * step) 0 (arrivals (k * r) slots) ≡ scaled k (departures step 0 (arrivals r slots))
 arrive_and_leave k step r slots = ap (departures (k * step) 0) (arrivals-scale k r slots) ∙ leave k step (arrivals r slots)
 
-at_moment : (x k : ℕ) (fine_ts fine_ds ts ds : List ℕ) → fine_ts ≡ scaled k ts → fine_ds ≡ scaled k ds → 0 < k → fullness x fine_ts fine_ds ≡ fullness (x / k) ts ds
+at_moment : (x k : ℕ) (fine_ts fine_ds ts ds : List ℕ) → fine_ts ≡ scaled k ts → fine_ds ≡ scaled k ds → 0 < k →
+    fullness x fine_ts fine_ds ≡ fullness (x / k) ts ds
 at_moment x k fine_ts fine_ds ts ds come go pos = ap₂ (fullness x) come go ∙ fullness-scale x k ts ds pos
 
 pub transport_moments : TransportMoments
 transport_moments k rate r x slots pos =
-    at_moment x k (arrivals (k * r) slots) (departures (k * rate) 0 (arrivals (k * r) slots)) (arrivals r slots) (departures rate 0 (arrivals r slots)) (arrivals-scale k r slots)
+    at_moment x k (arrivals (k * r) slots) (departures (k * rate) 0 (arrivals (k * r) slots)) (arrivals r slots) (departures rate 0 (arrivals r slots))
+    (arrivals-scale k r slots)
     (arrive_and_leave k rate r slots) pos
 
 system_left : (k rate : ℕ) (slots : List ℕ) → system_tb_left_at k rate slots ≡ scaled k (system_tb_left rate slots)
@@ -42,7 +47,8 @@ system_left k rate slots = arrive_and_leave k (2 * rate) 2000000 slots
 
 pub system_transport_moments : SystemTransportMoments
 system_transport_moments k rate x slots pos =
-    at_moment x k (system_arrivals_at k slots) (system_tb_left_at k rate slots) (system_arrivals slots) (system_tb_left rate slots) (arrivals-scale k 2000000 slots) (system_left k rate slots) pos
+    at_moment x k (system_arrivals_at k slots) (system_tb_left_at k rate slots) (system_arrivals slots) (system_tb_left rate slots)
+    (arrivals-scale k 2000000 slots) (system_left k rate slots) pos
 
 pub system_buffer_moments : SystemBufferMoments
 system_buffer_moments k rate x slots pos =
@@ -103,7 +109,8 @@ one_byte k rate r x due d pos = elim (cases_lt (x / k) d) [
     | inr more ↦
         let same : due * (k * rate) * r ≡ k * (due * rate * r) = omega arith in
         let before : k * (due * rate * r) ≤ x * 720000 = stamp_before k (x / k) x (due * rate * r) (mul-div-le x k) more in
-        let out : is_in_main_buffer (k * rate) r x due (k * d) ≡ false = and_right _ _ (le-ltb (x * 720000) (due * (k * rate) * r) (omega (arith, same, before))) in
+        let out : is_in_main_buffer (k * rate) r x due (k * d) ≡ false =
+        and_right _ _ (le-ltb (x * 720000) (due * (k * rate) * r) (omega (arith, same, before))) in
         none_more (is_in_main_buffer (k * rate) r x due (k * d)) (is_in_main_buffer rate r (x / k) due d) out
   ]
 ]
@@ -120,7 +127,10 @@ bytes_of_unit k rate r x due [] pos = omega arith
 bytes_of_unit k rate r x due (d ∷ ds) pos =
     let rest = bytes_of_unit k rate r x due ds pos in
     let first = one_byte k rate r x due d pos in
-    rw (sum_by-cons (λ e. one (is_in_main_buffer (k * rate) r x due e)) (k * d) (scaled k ds), sum_by-cons (λ e. one (is_in_main_buffer rate r (x / k) due e)) d ds) (omega (arith, first, rest))
+    rw (
+      sum_by-cons (λ e. one (is_in_main_buffer (k * rate) r x due e)) (k * d) (scaled k ds),
+      sum_by-cons (λ e. one (is_in_main_buffer rate r (x / k) due e)) d ds,
+    ) (omega (arith, first, rest))
 
 pub main_moments : MainMoments
 unfolding mb_fullness kept
@@ -146,8 +156,10 @@ same_byte k rate r x due d pos = ap₂ (λ (a b : Bool). a && b) entered waits
         let same : due * (k * rate) * r ≡ k * (due * rate * r) = omega arith in
         let moment : k * x * 720000 ≡ k * (x * 720000) = omega arith in
         elim (cases_lt (x * 720000) (due * rate * r)) [
-          | inl less ↦ lt-ltb (k * x * 720000) (due * (k * rate) * r) (omega (arith, same, moment, pos, mul-le-mul_left k less)) ∙ sym (lt-ltb (x * 720000) (due * rate * r) less)
-          | inr le ↦ le-ltb (k * x * 720000) (due * (k * rate) * r) (omega (arith, same, moment, mul-le-mul_left k le)) ∙ sym (le-ltb (x * 720000) (due * rate * r) le)
+          | inl less ↦ lt-ltb (k * x * 720000) (due * (k * rate) * r) (omega (arith, same, moment, pos, mul-le-mul_left k less))
+              ∙ sym (lt-ltb (x * 720000) (due * rate * r) less)
+          | inr le ↦ le-ltb (k * x * 720000) (due * (k * rate) * r) (omega (arith, same, moment, mul-le-mul_left k le))
+              ∙ sym (le-ltb (x * 720000) (due * rate * r) le)
         ]
 
 same_bytes : (k rate r x due : ℕ) (ds : List ℕ) → 0 < k → kept (k * rate) r (k * x) due (scaled k ds) ≡ kept rate r x due ds
@@ -162,7 +174,8 @@ pub main_whole_moments : MainWholeMoments
 unfolding mb_fullness kept
 main_whole_moments k rate r x [] left pos = refl
 main_whole_moments k rate r x (unit ∷ units) left pos =
-    ap₂ (λ (a b : ℕ). a + b) (ap (kept (k * rate) r (k * x) unit.dts) (take-map (λ d. k * d) unit.size left) ∙ same_bytes k rate r x unit.dts (take unit.size left) pos)
+    ap₂ (λ (a b : ℕ). a + b)
+    (ap (kept (k * rate) r (k * x) unit.dts) (take-map (λ d. k * d) unit.size left) ∙ same_bytes k rate r x unit.dts (take unit.size left) pos)
     (ap (mb_fullness (k * rate) r (k * x) units) (drop-map (λ d. k * d) unit.size left) ∙ main_whole_moments k rate r x units (drop unit.size left) pos)
 
 pub main_peak_moments : MainPeakMoments

@@ -2,7 +2,8 @@
 use Rattle.std.proofs.Common.{◌≡◌, ℕ, ◌+◌, ◌-◌, ◌*◌, ◌≤◌, min, Bool, List, [], ◌∷◌, ◌++◌, length, take, drop, refl, ◌∙◌, sym, subst, ap, inl, inr, arith, All}
 use Rattle.std.proofs.Math.Nat.{le_trans}
 use Rattle.std.proofs.lemmas.Bool.{cases_lt}
-use Rattle.std.proofs.lemmas.List.{take_at, drop_at, take_all, drop_all, take-take, drop-take, drop-drop, take-append-drop, take-append-le, drop-append-le, length-take, length-drop}
+use Rattle.std.proofs.lemmas.List.{take_at, drop_at, take_all, drop_all, take-take, drop-take, drop-drop, take-append-drop, take-append-le, drop-append-le}
+use Rattle.std.proofs.lemmas.List.{length-take, length-drop}
 use Rattle.std.proofs.lemmas.List.Elements.{All-head, All-tail, All-drop, All-weaker, All-append, All-cons, All-nil}
 use Rattle.clock27.specs.Arrival.{bytes_from}
 use Rattle.clock27.specs.Departure.{departures, last_left}
@@ -26,7 +27,8 @@ model rate r prev (p ∷ packets) few =
     let rest = pes_left rate r (last_left rate prev first) packets in
     let small : p.size ≤ 188 = All-head (λ p. p.size ≤ 188) p packets few in
     let many : length one ≡ p.size =
-    rw (length-drop (188 - p.size) (departures rate prev first), length-departures rate prev first, length-bytes_from r (188 * p.slot) 188) (omega (arith, small)) in
+    rw (length-drop (188 - p.size) (departures rate prev first), length-departures rate prev first, length-bytes_from r (188 * p.slot) 188)
+    (omega (arith, small)) in
     let all : All (λ d. 188 * p.slot * r ≤ d) one =
     All-drop (λ d. 188 * p.slot * r ≤ d) (188 - p.size) (departures rate prev first)
     (All-weaker (λ d. 188 * p.slot * r + rate ≤ d) (λ d. 188 * p.slot * r ≤ d) (λ d h. omega (arith, h)) (departures rate prev first)
@@ -51,20 +53,24 @@ small_cut : (front size : ℕ) (slots : List ℕ) → All (λ p. p.size ≤ 188)
 unfolding cut
 small_cut front size [] = All-nil (λ (p : Packet). p.size ≤ 188)
 small_cut front size (s ∷ slots) =
-    All-cons (λ (p : Packet). p.size ≤ 188) (record { slot = s; size = min (184 - front) size }) (cut (front - 184) (size - (184 - front)) slots) (omega arith) (small_cut (front - 184) (size - (184 - front)) slots)
+    All-cons (λ (p : Packet). p.size ≤ 188) (record { slot = s; size = min (184 - front) size }) (cut (front - 184) (size - (184 - front)) slots) (omega arith)
+    (small_cut (front - 184) (size - (184 - front)) slots)
 
-pub small_packets : (own : ℕ → Bool) (rate lead free : ℕ) (units : List PesPacket) (slots : List ℕ) → All (λ p. p.size ≤ 188) (packets_in_slots own rate lead free units slots)
+pub small_packets : (own : ℕ → Bool) (rate lead free : ℕ) (units : List PesPacket) (slots : List ℕ) →
+    All (λ p. p.size ≤ 188) (packets_in_slots own rate lead free units slots)
 unfolding packets_in_slots
 small_packets own rate lead free [] slots = All-nil (λ (p : Packet). p.size ≤ 188)
 small_packets own rate lead free (unit ∷ units) slots =
     let b = first_slot own rate lead free unit in
     let xs = take (packets_of_unit unit) (drop b slots) in
-    All-append (λ (p : Packet). p.size ≤ 188) (cut unit.front unit.size xs) (packets_in_slots own rate lead (b + packets_of_unit unit) units slots) (small_cut unit.front unit.size xs)
+    All-append (λ (p : Packet). p.size ≤ 188) (cut unit.front unit.size xs) (packets_in_slots own rate lead (b + packets_of_unit unit) units slots)
+    (small_cut unit.front unit.size xs)
     (small_packets own rate lead (b + packets_of_unit unit) units slots)
 
 -- so those of the model are such in a run
 pub run_left : (own : ℕ → Bool) (rate lead r n : ℕ) (units : List PesPacket) →
-    NoneLeavesEarly r (packets_in_slots own rate lead 0 units (own_slots own 0 n)) (pes_left rate r 0 (packets_in_slots own rate lead 0 units (own_slots own 0 n)))
+    NoneLeavesEarly r (packets_in_slots own rate lead 0 units (own_slots own 0 n))
+    (pes_left rate r 0 (packets_in_slots own rate lead 0 units (own_slots own 0 n)))
 run_left own rate lead r n units =
     model rate r 0 (packets_in_slots own rate lead 0 units (own_slots own 0 n)) (small_packets own rate lead 0 units (own_slots own 0 n))
 
@@ -79,7 +85,8 @@ few_left r front size (s ∷ slots) left late =
     omega (arith, rest, length-drop (min (184 - front) size) left, length-take (min (184 - front) size) left, late.0)
 
 -- and come after its first slot has begun
-pub unit_later : (r front size low : ℕ) (slots left : List ℕ) → NoneLeavesEarly r (cut front size slots) left → All (λ s. low ≤ 188 * s * r) slots → All (λ d. low ≤ d) left
+pub unit_later : (r front size low : ℕ) (slots left : List ℕ) → NoneLeavesEarly r (cut front size slots) left → All (λ s. low ≤ 188 * s * r) slots →
+    All (λ d. low ≤ d) left
 unfolding cut NoneLeavesEarly
 unit_later r front size low [] left none all = rw none (All-nil (λ (d : ℕ). low ≤ d))
 unit_later r front size low (s ∷ slots) left late all =

@@ -3,7 +3,8 @@ use Rattle.std.proofs.Common.{◌≡◌, ℕ, suc, ◌+◌, ◌-◌, ◌<◌, �
 use Rattle.std.proofs.lemmas.Bool.{cases_lt}
 use Rattle.std.proofs.lemmas.List.{take_all, take-append-le, length-append}
 use Rattle.std.proofs.lemmas.List.Sums.{sum_by-cons, sum_by-append}
-use Rattle.unit_timing.specs.PesPacket.{PesPacket, packets_of_unit, packets_of_units, Spaced, GroupsWithin, Sized, next_due, last_packets, SpacedMoreLaw, SizedMoreLaw, GroupMoreLaw}
+use Rattle.unit_timing.specs.PesPacket.{PesPacket, packets_of_unit, packets_of_units, Spaced, GroupsWithin, Sized, next_due, last_packets, SpacedMoreLaw}
+use Rattle.unit_timing.specs.PesPacket.{SizedMoreLaw, GroupMoreLaw}
 
 spaced_more : (apart from : ℕ) (units : List PesPacket) (unit : PesPacket) → Spaced apart from units → next_due apart from units ≤ unit.dts →
     Spaced apart from (units ++ unit ∷ [])
@@ -36,10 +37,12 @@ pub sized_more_law : SizedMoreLaw
 sized_more_law = record { more = sized_more; back = sized_back }
 
 -- the first m + 1 units with a further one after them all: they are those from before, or all and the further one
-full_group : (m : ℕ) (units : List PesPacket) (unit : PesPacket) → m < length units → packets_of_units (take (suc m) (units ++ unit ∷ [])) ≡ packets_of_units (take (suc m) units)
+full_group : (m : ℕ) (units : List PesPacket) (unit : PesPacket) → m < length units →
+    packets_of_units (take (suc m) (units ++ unit ∷ [])) ≡ packets_of_units (take (suc m) units)
 full_group m units unit lt = let le : suc m ≤ length units = omega arith in rw (take-append-le (suc m) units (unit ∷ [])) refl
 
-open_group : (m : ℕ) (units : List PesPacket) (unit : PesPacket) → length units ≤ m → packets_of_units (take (suc m) (units ++ unit ∷ [])) ≡ last_packets m units + packets_of_unit unit
+open_group : (m : ℕ) (units : List PesPacket) (unit : PesPacket) → length units ≤ m →
+    packets_of_units (take (suc m) (units ++ unit ∷ [])) ≡ last_packets m units + packets_of_unit unit
 open_group m units unit le =
     let short : length (units ++ unit ∷ []) ≤ suc m = rw (length-append units (unit ∷ [])) (omega arith) in
     let none : length units - m ≡ 0 = omega arith in
@@ -49,7 +52,8 @@ open_group m units unit le =
 last_rest : (m : ℕ) (first : PesPacket) (units : List PesPacket) → m ≤ length units → last_packets m (first ∷ units) ≡ last_packets m units
 last_rest m first units le = let e : suc (length units) - m ≡ suc (length units - m) = omega arith in rw e refl
 
-last_all : (m : ℕ) (first : PesPacket) (units : List PesPacket) → length units < m → last_packets m (first ∷ units) ≡ packets_of_unit first + last_packets m units
+last_all : (m : ℕ) (first : PesPacket) (units : List PesPacket) → length units < m → last_packets m (first ∷ units) ≡ packets_of_unit first
+    + last_packets m units
 last_all m first units lt =
     let e : suc (length units) - m ≡ 0 = omega arith in
     let z : length units - m ≡ 0 = omega arith in

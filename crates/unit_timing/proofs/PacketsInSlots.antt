@@ -1,5 +1,6 @@
 -- The packets of units in a stream's own slots.
-use Rattle.std.proofs.Common.{◌≡◌, ℕ, zero, suc, ◌+◌, ◌-◌, ◌*◌, ◌<◌, ◌≤◌, min, Bool, List, [], ◌∷◌, ◌++◌, length, take, drop, refl, ap, ◌∙◌, inl, inr, arith, All}
+use Rattle.std.proofs.Common.{◌≡◌, ℕ, zero, suc, ◌+◌, ◌-◌, ◌*◌, ◌<◌, ◌≤◌, min, Bool, List, [], ◌∷◌, ◌++◌, length, take, drop, refl, ap, ◌∙◌, inl, inr, arith}
+use Rattle.std.proofs.Common.{All}
 use Rattle.std.proofs.Math.Nat.{le_trans}
 use Rattle.std.proofs.lemmas.Bool.{cases_Bool}
 use Rattle.std.proofs.lemmas.List.{take_all, drop_all, append_assoc, length-append, length-drop, drop-drop, take-append-drop, map-append}
@@ -34,11 +35,13 @@ pes_left-append rate r prev (p ∷ ps) qs =
       pes_left-cons rate r prev p (ps ++ qs),
       pes_left-cons rate r prev p ps,
       pes_left-append rate r next ps qs,
-      append_assoc (drop (188 - p.size) (departures rate prev first)) (pes_left rate r next ps) (pes_left rate r (last_left rate next (arrivals r (slots_of ps))) qs),
+      append_assoc (drop (188 - p.size) (departures rate prev first)) (pes_left rate r next ps)
+          (pes_left rate r (last_left rate next (arrivals r (slots_of ps))) qs),
     ) refl
 
 -- all that these slots can carry of the unit leaves
-pub length-left-cut : (rate r front size prev : ℕ) (slots : List ℕ) → length (pes_left rate r prev (cut front size slots)) ≡ min size (184 * length slots - front)
+pub length-left-cut : (rate r front size prev : ℕ) (slots : List ℕ) →
+    length (pes_left rate r prev (cut front size slots)) ≡ min size (184 * length slots - front)
 unfolding cut
 length-left-cut rate r front size prev [] = unfold of_payloads in (omega arith)
 length-left-cut rate r front size prev (s ∷ slots) =
@@ -47,7 +50,8 @@ length-left-cut rate r front size prev (s ∷ slots) =
     let rest = length-left-cut rate r (front - 184) (size - (184 - front)) (last_left rate prev first) slots in
     rw (
       pes_left-cons rate r prev (record { slot = s; size = min (184 - front) size }) (cut (front - 184) (size - (184 - front)) slots),
-      length-append (drop (188 - min (184 - front) size) (departures rate prev first)) (pes_left rate r (last_left rate prev first) (cut (front - 184) (size - (184 - front)) slots)),
+      length-append (drop (188 - min (184 - front) size) (departures rate prev first))
+          (pes_left rate r (last_left rate prev first) (cut (front - 184) (size - (184 - front)) slots)),
       length-drop (188 - min (184 - front) size) (departures rate prev first),
       many,
       rest,
@@ -82,14 +86,16 @@ rises_after own from [] ys rises = rises
 rises_after own from (s ∷ xs) ys rises = rises_after own (suc s) xs ys rises.2
 
 -- the last byte of these packets lies within the work bound after them
-pub level_packets : (own : ℕ → Bool) (rate r room peak : ℕ) (W : ℕ → ℕ) (from prev : ℕ) (slots : List ℕ) → BoundsWork own rate r room peak W → Rises own from slots →
+pub level_packets : (own : ℕ → Bool) (rate r room peak : ℕ) (W : ℕ → ℕ) (from prev : ℕ) (slots : List ℕ) → BoundsWork own rate r room peak W →
+    Rises own from slots →
     Level r W from prev → Level r W (slot_after from slots) (last_left rate prev (arrivals r slots))
 unfolding Rises slot_after arrivals
 level_packets own rate r room peak W from prev [] b rises h = unfold last_left in h
 level_packets own rate r room peak W from prev (s ∷ slots) b rises h =
     let here = level_le own rate r room peak W from s prev b rises.0 h in
     rw (last_left-append rate prev (bytes_from r (188 * s) 188) (arrivals r slots))
-    (level_packets own rate r room peak W (suc s) (last_left rate prev (bytes_from r (188 * s) 188)) slots b rises.2 (level_packet own rate r room peak W s prev b rises.1 here))
+    (level_packets own rate r room peak W (suc s) (last_left rate prev (bytes_from r (188 * s) 188)) slots b rises.2
+    (level_packet own rate r room peak W s prev b rises.1 here))
 
 -- the own slots of a run
 pub length-own_slots : (own : ℕ → Bool) (s n : ℕ) → length (own_slots own s n) + own_before own s ≡ own_before own (s + n)
@@ -115,7 +121,8 @@ first_before own e s (suc n) (suc m) h = elim (cases_Bool (own s)) [
 ]
 
 -- nothing is sent where all own slots are taken
-pub sent_nothing : (own : ℕ → Bool) (rate lead free : ℕ) (units : List PesPacket) (slots : List ℕ) → length slots ≤ free → packets_in_slots own rate lead free units slots ≡ []
+pub sent_nothing : (own : ℕ → Bool) (rate lead free : ℕ) (units : List PesPacket) (slots : List ℕ) → length slots ≤ free →
+    packets_in_slots own rate lead free units slots ≡ []
 unfolding packets_in_slots cut
 sent_nothing own rate lead free [] slots le = refl
 sent_nothing own rate lead free (unit ∷ units) slots le =
@@ -156,10 +163,14 @@ rising_sent own rate lead slots (unit ∷ units) free from rises =
     let p = packets_of_unit unit in
     let xs = take p (drop b slots) in
     let here = rises_begin own rate lead free from unit slots rises in
-    rw (map-append (λ (p : Packet). p.slot) (cut unit.front unit.size xs) (packets_in_slots own rate lead (b + p) units slots), slots_of-cut unit.front unit.size xs)
+    rw (
+      map-append (λ (p : Packet). p.slot) (cut unit.front unit.size xs) (packets_in_slots own rate lead (b + p) units slots),
+      slots_of-cut unit.front unit.size xs,
+    )
     (rises_join own from xs (slots_of (packets_in_slots own rate lead (b + p) units slots)) (rises_take own from p (drop b slots) here)
     (rising_sent own rate lead slots units (b + p) (slot_after from xs) (rises_following own from b p slots here)))
 
 -- the packets of a run stand in rising own slots
-pub rising_run : (own : ℕ → Bool) (rate lead n : ℕ) (units : List PesPacket) → Rises own 0 (slots_of (packets_in_slots own rate lead 0 units (own_slots own 0 n)))
+pub rising_run : (own : ℕ → Bool) (rate lead n : ℕ) (units : List PesPacket) →
+    Rises own 0 (slots_of (packets_in_slots own rate lead 0 units (own_slots own 0 n)))
 rising_run own rate lead n units = rising_sent own rate lead (own_slots own 0 n) units 0 0 (list_law own 0 n)

@@ -21,7 +21,8 @@ pub groups_paid_law : GroupsPaidLaw
 groups_paid_law share cost base g most n rate lead apart r late some pos fast soon = λ time.
     let m = time / apart in
     let whole : m / g * g + m % g ≡ m = omega (arith, div-add-mod m g) in
-    let paid = whole_groups share base (m / g) most (min (suc (m % g) * n) most) cost r late g apart rate lead (m % g) fast (soon (m % g) (mod_below m g some)) in
+    let paid = whole_groups share base (m / g) most (min (suc (m % g) * n) most) cost r late g apart rate lead (m % g) fast
+    (soon (m % g) (mod_below m g some)) in
     le_trans (rw whole at paid) (longer share lead rate r (m * apart) time (div-mul-le_self time apart))
 
 -- what comes after the burst is paid for by the time in which it comes
@@ -38,7 +39,8 @@ pace_paid_law share cost base burst pace rate lead r late fast soon = λ time.
 -- both kinds as one
 pub paid_law : (a : Allowance) (n share cost base rate lead apart r late : ℕ) → 0 < allowance_rows a → 0 < apart →
     steady_packets a * cost ≤ share * steady_time a apart * rate →
-    ((m : ℕ) → 0 < m → m ≤ allowance_rows a → (base + packets_at_once a n m * cost + share) * 135360000 * r + share * late * 720000 ≤ share * (lead + (m - 1) * apart) * rate * r) →
+    ((m : ℕ) → 0 < m → m ≤ allowance_rows a → (base + packets_at_once a n m * cost + share) * 135360000 * r
+    + share * late * 720000 ≤ share * (lead + (m - 1) * apart) * rate * r) →
     IsPaid share cost base (curve a n apart) rate lead r late
 paid_law (Groups g most) n share cost base rate lead apart r late some pos fast soon =
     groups_paid_law share cost base g most n rate lead apart r late some pos (omega (arith, fast))

@@ -45,7 +45,8 @@ served : (rate : ℕ) (s : Declaration) (own : ℕ → Bool) (peak : ℕ) (W : �
     ((n x : ℕ) (left : List ℕ) → NoneLeavesEarly s.drain (run_packets own rate s units n) left → mb_fullness rate s.drain x units left ≤ s.main) →
     StreamServed own rate s units
 served rate s own peak W units proper work in_time main = record {
-  transport = λ n x. transport_room own rate s.drain 512 peak W (slots_of (run_packets own rate s units n)) x proper.some_rate work (rising_run own rate s.lead n units);
+  transport = λ n x. transport_room own rate s.drain 512 peak W (slots_of (run_packets own rate s units n)) x proper.some_rate work
+      (rising_run own rate s.lead n units);
   arrived = λ n. arrived_law own rate s.lead s.drain 512 peak W units n proper.some_drain work in_time;
   main = main;
 }
@@ -65,7 +66,8 @@ lead_form : (a b c1 c2 few cost e k d late : ℕ) →
 lead_form a b c1 c2 few cost e k d late h = omega (arith, h)
 
 -- from a pace that pays for the declaration to the deadlines
-pub in_time : (rate : ℕ) (s : Declaration) (own : ℕ → Bool) (share cost base late : ℕ) (units : List PesPacket) → 0 < allowance_rows s.allowance → 0 < s.interval →
+pub in_time : (rate : ℕ) (s : Declaration) (own : ℕ → Bool) (share cost base late : ℕ) (units : List PesPacket) → 0 < allowance_rows s.allowance →
+    0 < s.interval →
     HasPace own share cost base → 0 < share → steady_packets s.allowance * cost ≤ share * steady_time s.allowance s.interval * rate →
     ((m : ℕ) → 0 < m → m ≤ allowance_rows s.allowance → (base + packets_in_row s m * cost + share) * 135360000 * s.drain + share * late * 720000
     ≤ share * (s.lead + (m - 1) * s.interval) * rate * s.drain) →
@@ -116,7 +118,8 @@ by_units rate s own units n x left proper keeps late =
       curve_within s.allowance s.unit_packets s.interval s.lead (waiting_units s) proper.some_rows pos proper.some_lead wide,
     )
 
-pub main_fits : (rate : ℕ) (s : Declaration) (own : ℕ → Bool) (m : ℕ) (units : List PesPacket) (n x : ℕ) (left : List ℕ) → IsProper rate s → KeepsDeclaration s units →
+pub main_fits : (rate : ℕ) (s : Declaration) (own : ℕ → Bool) (m : ℕ) (units : List PesPacket) (n x : ℕ) (left : List ℕ) → IsProper rate s →
+    KeepsDeclaration s units →
     AtMostPerWindow own (waiting_slots rate s) m → min (bytes_by_units s) (184 * m) ≤ s.main →
     NoneLeavesEarly s.drain (run_packets own rate s units n) left → mb_fullness rate s.drain x units left ≤ s.main
 main_fits rate s own m units n x left proper keeps spares fits late =
@@ -142,7 +145,8 @@ stream_switch_law rate s claim first next second periods units proper one two jo
     (omega (arith, two.owned, per_period_le second)) one.work two.work joins.work)
     (deadline_switch_law rate s claim first next second periods units proper.some_rows proper.some_interval one.owned two.owned
     one.spread_claimed two.spread_claimed one.rate_serves two.rate_serves joins.lead_serves keeps)
-    (λ n x left. main_switch_law rate s claim first next second periods units n x left proper one.owned two.owned one.spread_claimed two.spread_claimed joins.main_fits keeps)
+    (λ n x left. main_switch_law rate s claim first next second periods units n x left proper one.owned two.owned one.spread_claimed two.spread_claimed
+    joins.main_fits keeps)
 
 pub stream_law : StreamLaw
 stream_law rate s claim marks units proper holds keeps =
@@ -151,7 +155,8 @@ stream_law rate s claim marks units proper holds keeps =
     (in_time rate s (own marks) (per_period marks) (length marks) claim.spread claim.peak units proper.some_rows proper.some_interval
     (rate_law marks claim.spread holds.owned holds.spread_claimed) holds.owned holds.rate_serves holds.lead_serves keeps)
     (λ n x left. main_fits rate s (own marks) (most_within (per_period marks) (length marks) claim.spread (waiting_slots rate s)) units n x left proper keeps
-    (share_law marks claim.spread (waiting_slots rate s) holds.owned holds.spread_claimed (some_slots rate s proper.some_rate proper.some_lead)) holds.main_fits)
+    (share_law marks claim.spread (waiting_slots rate s) holds.owned holds.spread_claimed (some_slots rate s proper.some_rate proper.some_lead))
+    holds.main_fits)
 
 pub program_law : ProgramLaw
 program_law rate claim marks pos some holds = record {

@@ -1,5 +1,6 @@
 -- Slot by slot and unit by unit; the two buffers of a program's tables.
-use Rattle.std.proofs.Common.{◌≡◌, ℕ, zero, suc, ◌+◌, ◌-◌, ◌*◌, ◌<◌, ◌≤◌, min, Bool, Option, Some, None, List, [], ◌∷◌, ◌++◌, take, drop, refl, ap, ap₂, ◌∙◌, inl, inr, arith}
+use Rattle.std.proofs.Common.{◌≡◌, ℕ, zero, suc, ◌+◌, ◌-◌, ◌*◌, ◌<◌, ◌≤◌, min, Bool, Option, Some, None, List, [], ◌∷◌, ◌++◌, take, drop, refl, ap, ap₂, ◌∙◌}
+use Rattle.std.proofs.Common.{inl, inr, arith}
 use Rattle.std.proofs.Math.Nat.{le_trans}
 use Rattle.std.proofs.lemmas.Bool.{cases_Bool, lt-ltb, le-ltb}
 use Rattle.std.proofs.lemmas.List.{append_assoc, drop-drop}
@@ -15,9 +16,11 @@ use Rattle.unit_timing.proofs.TransportBuffer.{transport_room}
 
 pub system_law : SystemLaw
 system_law own rate slots x pos rises = (
-  (λ room peak W b. transport_room own (2 * rate) 2000000 room (2 * peak) (λ s. 2 * W s) slots x (omega arith) (work_scale_law own rate 1000000 room peak 2 W b) rises),
+  (λ room peak W b. transport_room own (2 * rate) 2000000 room (2 * peak) (λ s. 2 * W s) slots x (omega arith) (work_scale_law own rate 1000000 room peak 2 W b)
+      rises),
   (λ room peak W b. le_trans (second_law x (2 * rate) (25 * rate) (arrivals 2000000 slots) (omega arith))
-      (transport_room own (25 * rate) 2000000 room (25 * peak) (λ s. 25 * W s) slots (x - 2 * rate) (omega arith) (work_scale_law own rate 80000 room peak 25 W b) rises)),
+      (transport_room own (25 * rate) 2000000 room (25 * peak) (λ s. 25 * W s) slots (x - 2 * rate) (omega arith)
+      (work_scale_law own rate 80000 room peak 25 W b) rises)),
 )
 
 -- the packets in these slots, the first of which is own slot number i
@@ -113,7 +116,8 @@ carried_piece own rate lead free j unit units lt =
     let e : first_slot own rate lead free unit + j - first_slot own rate lead free unit ≡ j = omega arith in
     rw (le-ltb (b + j) b from, lt-ltb (b + j) (b + packets_of_unit unit) below, e) refl
 
-carried_after : (own : ℕ → Bool) (rate lead free i : ℕ) (unit : PesPacket) (units : List PesPacket) → first_slot own rate lead free unit + packets_of_unit unit ≤ i →
+carried_after : (own : ℕ → Bool) (rate lead free i : ℕ) (unit : PesPacket) (units : List PesPacket) →
+    first_slot own rate lead free unit + packets_of_unit unit ≤ i →
     payload_size_at own rate lead free (unit ∷ units) i ≡ payload_size_at own rate lead (first_slot own rate lead free unit + packets_of_unit unit) units i
 unfolding payload_size_at
 carried_after own rate lead free i unit units le =
@@ -141,7 +145,8 @@ picked_units own rate lead free (unit ∷ units) slots =
     let to : free + (first_slot own rate lead free unit - free) ≡ first_slot own rate lead free unit = omega (arith, free_le own rate lead free unit) in
     let before = picked_none f (b - free) free (drop free slots) (λ j from below. carried_before own rate lead free j unit units (omega arith)) in
     let pieces = picked_cut f p unit.front unit.size b (drop b slots) (λ j below. carried_piece own rate lead free j unit units below) in
-    let after = picked_same f (payload_size_at own rate lead (b + p) units) (b + p) (drop (b + p) slots) (λ j le. carried_after own rate lead free j unit units le) in
+    let after = picked_same f (payload_size_at own rate lead (b + p) units) (b + p) (drop (b + p) slots)
+    (λ j le. carried_after own rate lead free j unit units le) in
     rw (
       picked_split f (b - free) free (drop free slots),
       before,

@@ -1,5 +1,6 @@
 -- The transport buffer.
-use Rattle.std.proofs.Common.{◌≡◌, ℕ, zero, suc, ◌+◌, ◌-◌, ◌*◌, ◌<◌, ◌≤◌, max, Bool, true, List, [], ◌∷◌, ◌++◌, length, drop, refl, ap, ◌∙◌, sym, inl, inr, arith, add-one, All}
+use Rattle.std.proofs.Common.{◌≡◌, ℕ, zero, suc, ◌+◌, ◌-◌, ◌*◌, ◌<◌, ◌≤◌, max, Bool, true, List, [], ◌∷◌, ◌++◌, length, drop, refl, ap, ◌∙◌, sym, inl, inr}
+use Rattle.std.proofs.Common.{arith, add-one, All}
 use Rattle.std.proofs.Math.Nat.{mul-le-mul_right, le_trans}
 use Rattle.std.proofs.lemmas.Bool.{cases_Bool}
 use Rattle.std.proofs.lemmas.List.{take_at, drop_at}
@@ -33,7 +34,8 @@ level_more own rate r room peak W (suc k) s prev b h =
     let e : s + suc k ≡ suc (s + k) = omega arith in
     rw e (level_next own rate r room peak W (s + k) prev b (level_more own rate r room peak W k s prev b h))
 
-pub level_le : (own : ℕ → Bool) (rate r room peak : ℕ) (W : ℕ → ℕ) (s t prev : ℕ) → BoundsWork own rate r room peak W → s ≤ t → Level r W s prev → Level r W t prev
+pub level_le : (own : ℕ → Bool) (rate r room peak : ℕ) (W : ℕ → ℕ) (s t prev : ℕ) → BoundsWork own rate r room peak W → s ≤ t → Level r W s prev →
+    Level r W t prev
 level_le own rate r room peak W s t prev b le h =
     let e : s + (t - s) ≡ t = omega arith in
     rw e at (level_more own rate r room peak W (t - s) s prev b h)
@@ -69,16 +71,19 @@ packet_stays rate r room i zero prev fits few = tt
 packet_stays rate r room i (suc n) prev fits few =
     (omega (arith, fits, few), packet_stays rate r room (suc i) n (max (i * r) prev + rate) (omega (arith, fits, few)) (omega (arith, few)))
 
-all_stay : (own : ℕ → Bool) (rate r room peak : ℕ) (W : ℕ → ℕ) (slots : List ℕ) (from prev : ℕ) → BoundsWork own rate r room peak W → Rises own from slots → Level r W from prev →
+all_stay : (own : ℕ → Bool) (rate r room peak : ℕ) (W : ℕ → ℕ) (slots : List ℕ) (from prev : ℕ) → BoundsWork own rate r room peak W → Rises own from slots →
+    Level r W from prev →
     Stays (room * rate) (arrivals r slots) (departures rate prev (arrivals r slots))
 unfolding arrivals Rises
 all_stay own rate r room peak W [] from prev b rises h = unfold Stays in tt
 all_stay own rate r room peak W (s ∷ slots) from prev b rises h =
     let here = level_le own rate r room peak W from s prev b rises.0 h in
     let one = packet_stays rate r room (188 * s) 188 prev (omega (arith, here, (b s).fits rises.1)) (omega (arith, (b s).fits rises.1)) in
-    let rest = all_stay own rate r room peak W slots (suc s) (last_left rate prev (bytes_from r (188 * s) 188)) b rises.2 (level_packet own rate r room peak W s prev b rises.1 here) in
+    let rest = all_stay own rate r room peak W slots (suc s) (last_left rate prev (bytes_from r (188 * s) 188)) b rises.2
+    (level_packet own rate r room peak W s prev b rises.1 here) in
     rw (departures-append rate prev (bytes_from r (188 * s) 188) (arrivals r slots))
-    (stays-append (room * rate) (bytes_from r (188 * s) 188) (departures rate prev (bytes_from r (188 * s) 188)) _ _ (sym (length-departures rate prev (bytes_from r (188 * s) 188))) one rest)
+    (stays-append (room * rate) (bytes_from r (188 * s) 188) (departures rate prev (bytes_from r (188 * s) 188)) _ _
+    (sym (length-departures rate prev (bytes_from r (188 * s) 188))) one rest)
 
 pub transport_room : RoomLaw
 transport_room own rate r room peak W slots x pos b rises =
@@ -87,7 +92,8 @@ transport_room own rate r room peak W slots x pos b rises =
 
 -- one packet, and those after it
 pub pes_left-cons : (rate r prev : ℕ) (p : Packet) (packets : List Packet) → pes_left rate r prev (p ∷ packets)
-    ≡ drop (188 - p.size) (departures rate prev (bytes_from r (188 * p.slot) 188)) ++ pes_left rate r (last_left rate prev (bytes_from r (188 * p.slot) 188)) packets
+    ≡ drop (188 - p.size) (departures rate prev (bytes_from r (188 * p.slot) 188))
+    ++ pes_left rate r (last_left rate prev (bytes_from r (188 * p.slot) 188)) packets
 unfolding of_payloads arrivals
 pes_left-cons rate r prev p packets =
     let first = bytes_from r (188 * p.slot) 188 in
@@ -109,8 +115,10 @@ left_by own rate r room peak W e (p ∷ packets) from prev b rises h before =
     rw (pes_left-cons rate r prev p packets)
     (All-append (λ d. d ≤ 188 * r * e + peak) (drop (188 - p.size) (departures rate prev first)) (pes_left rate r (last_left rate prev first) packets)
     (All-drop (λ d. d ≤ 188 * r * e + peak) (188 - p.size) (departures rate prev first)
-    (All-weaker (λ d. d ≤ last_left rate prev first) (λ d. d ≤ 188 * r * e + peak) (λ d le. le_trans le last) (departures rate prev first) (rising rate prev first)))
-    (left_by own rate r room peak W e packets (suc p.slot) (last_left rate prev first) b rises.2 (level_packet own rate r room peak W p.slot prev b rises.1 here)
+    (All-weaker (λ d. d ≤ last_left rate prev first) (λ d. d ≤ 188 * r * e + peak) (λ d le. le_trans le last) (departures rate prev first)
+    (rising rate prev first)))
+    (left_by own rate r room peak W e packets (suc p.slot) (last_left rate prev first) b rises.2
+    (level_packet own rate r room peak W p.slot prev b rises.1 here)
     (All-tail (λ p. p.slot < e) p packets before)))
 
 pub left_law : LeftLaw

@@ -81,6 +81,7 @@ unfolding latest departures bytes_from
 two_queues = refl
 
 -- two units of two bytes and one: each byte is removed at its unit's stamp
-removed : removed_at 1504000 2000000 (record { dts = 1; size = 2; front = 0 } ∷ record { dts = 3; size = 1; front = 0 } ∷ []) ≡ 3008000000000 ∷ 3008000000000 ∷ 9024000000000 ∷ []
+removed : removed_at 1504000 2000000 (record { dts = 1; size = 2; front = 0 } ∷ record { dts = 3; size = 1; front = 0 } ∷ []) ≡ 3008000000000 ∷ 3008000000000 ∷
+    9024000000000 ∷ []
 unfolding removed_at
 removed = refl

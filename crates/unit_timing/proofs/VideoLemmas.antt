@@ -1,5 +1,6 @@
 -- A video stream over one plan and over two plans in turn.
-use Rattle.std.proofs.Common.{◌≡◌, ℕ, zero, suc, ◌+◌, ◌*◌, ◌/◌, ◌<◌, ◌≤◌, max, Bool, cond, nat_le, nat_lt, ◌&&◌, List, [], ◌∷◌, ◌++◌, length, take, drop, map, replicate, refl, ap, ◌∙◌, sym, subst, inl, inr, arith}
+use Rattle.std.proofs.Common.{◌≡◌, ℕ, zero, suc, ◌+◌, ◌*◌, ◌/◌, ◌<◌, ◌≤◌, max, Bool, cond, nat_le, nat_lt, ◌&&◌, List, [], ◌∷◌, ◌++◌, length, take, drop, map}
+use Rattle.std.proofs.Common.{replicate, refl, ap, ◌∙◌, sym, subst, inl, inr, arith}
 use Rattle.std.proofs.Math.Nat.{le_trans, mul-le-mul_left, mul-le-mul_right, mul-pos}
 use Rattle.std.proofs.lemmas.Bool.{cases_lt, lt-ltb, le-ltb}
 use Rattle.std.proofs.lemmas.List.{length-map, length-append, length-replicate, length-drop}
@@ -213,6 +214,7 @@ video_switch_law rate s m claim leak first next next_leak second periods units p
     one.multiplexing two.multiplexing joins.multiplexing)
     (subst (λ (l : ℕ). InTime (in_turn first periods second) rate s.lead m.rbx l 0 units) late
     (deadline_switch_law rate (drained s m.rbx) (through rate claim leak) first (through rate next next_leak) second periods units
-    proper.some_rows proper.some_interval one.owned two.owned one.spread_claimed two.spread_claimed one.rate_serves two.rate_serves joins.lead_serves (keeps_drained s m.rbx units keeps)))
+    proper.some_rows proper.some_interval one.owned two.owned one.spread_claimed two.spread_claimed one.rate_serves two.rate_serves joins.lead_serves
+    (keeps_drained s m.rbx units keeps)))
     (λ n x left. main_switch_law rate (drained s (s.drain * m.rbx)) claim first next second periods units n x left scaled
     one.owned two.owned one.spread_claimed two.spread_claimed joins.elementary_fits (keeps_drained s (s.drain * m.rbx) units keeps))

@@ -78,7 +78,8 @@ IsRising allowed = (early late : ℕ) → early ≤ late → allowed early ≤ a
 
 -- units that keep what is declared keep its function of time, and sizes give one too; neither ever falls
 pub record AllowanceLaw : Type 0 where
-  pub kept : (a : Allowance) (n apart from : ℕ) (units : List PesPacket) → 0 < allowance_rows a → 0 < apart → Spaced apart from units → KeepsAllowance a n units →
+  pub kept : (a : Allowance) (n apart from : ℕ) (units : List PesPacket) → 0 < allowance_rows a → 0 < apart → Spaced apart from units →
+      KeepsAllowance a n units →
       Allows packets_of_unit (curve a n apart) units
   pub sized : (largest apart from : ℕ) (units : List PesPacket) → 0 < apart → Spaced apart from units → Sized largest units →
       Allows (λ unit. unit.size) (size_curve largest apart) units

@@ -124,11 +124,12 @@ pub record StreamConditions (rate : ℕ) (s : Declaration) (claim : StreamClaim)
   pub main_fits : bytes_waiting rate s (share_of claim marks) ≤ s.main
 
 -- the further conditions on two plans in turn
-pub record StreamSwitchConditions (rate : ℕ) (s : Declaration) (claim : StreamClaim) (first : List Bool) (next : StreamClaim) (second : List Bool) : Type 0 where
-  pub work : work_left rate s.drain claim.start first ≤ next.start
-  pub lead_serves : (m : ℕ) → 0 < m → m ≤ allowance_rows s.allowance →
-      lead_across s (share_of claim first) (share_of next second) (shift first second) m ≤ time_given rate s (per_period first * per_period second) m
-  pub main_fits : bytes_across rate s (share_of claim first) (share_of next second) ≤ s.main
+pub record StreamSwitchConditions (rate : ℕ) (s : Declaration) (claim : StreamClaim) (first : List Bool) (next : StreamClaim) (second : List Bool) : Type 0
+  where
+    pub work : work_left rate s.drain claim.start first ≤ next.start
+    pub lead_serves : (m : ℕ) → 0 < m → m ≤ allowance_rows s.allowance →
+        lead_across s (share_of claim first) (share_of next second) (shift first second) m ≤ time_given rate s (per_period first * per_period second) m
+    pub main_fits : bytes_across rate s (share_of claim first) (share_of next second) ≤ s.main
 
 -- on the slots of a program's tables in one plan
 pub record ProgramConditions (rate : ℕ) (claim : ProgramClaim) (marks : List Bool) : Type 0 where

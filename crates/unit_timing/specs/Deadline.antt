@@ -52,7 +52,8 @@ DeadlineLaw = (own : ℕ → Bool) (share cost base : ℕ) (allowed : ℕ → �
 abbrev pub GroupsPaidLaw : Type 0
 GroupsPaidLaw = (share cost base g most n rate lead apart r late : ℕ) → 0 < g → 0 < apart →
     most * cost * slot_units_at_1bps ≤ share * g * apart * rate →
-    ((j : ℕ) → j < g → (base + min (suc j * n) most * cost + share) * slot_units_at_1bps * r + share * late * byte_units_at_1bps ≤ share * (lead + j * apart) * rate * r) →
+    ((j : ℕ) → j < g → (base + min (suc j * n) most * cost + share) * slot_units_at_1bps * r
+    + share * late * byte_units_at_1bps ≤ share * (lead + j * apart) * rate * r) →
     IsPaid share cost base (group_curve g most n apart) rate lead r late
 
 -- and a pace where its packets come no faster than the own slots, and the burst comes in time

@@ -8,7 +8,8 @@ use Rattle.unit_timing.specs.Transport.{slots_of, tb_fullness}
 use Rattle.unit_timing.specs.SystemBuffer.{system_tb_fullness}
 use Rattle.unit_timing.specs.VideoBuffers.{multiplexing_fullness}
 use Rattle.unit_timing.specs.Plans.{Declaration, run_packets}
-use Rattle.unit_timing.specs.Conditions.{IsProper, StreamClaim, ProgramClaim, StreamConditions, StreamSwitchConditions, ProgramConditions, ProgramSwitchConditions}
+use Rattle.unit_timing.specs.Conditions.{IsProper, StreamClaim, ProgramClaim, StreamConditions, StreamSwitchConditions, ProgramConditions}
+use Rattle.unit_timing.specs.Conditions.{ProgramSwitchConditions}
 use Rattle.unit_timing.specs.PlanLaws.{in_turn}
 use Rattle.unit_timing.specs.VideoPlans.{Leak, LeakClaim, IsProperLeak, VideoConditions, VideoSwitchConditions}
 use Rattle.unit_timing.specs.EmptyBuffers.{IsEmptyEachSecond, EmptiesEachSecond, EmptiesAcross}

@@ -54,7 +54,8 @@ pub record AllowanceMoreLaw : Type 0 where
       KeepsAllowance a n units → packets_of_unit unit ≤ n → is_over a units unit ≡ false → KeepsAllowance a n (units ++ unit ∷ [])
   pub back : (a : Allowance) (n apart from : ℕ) (units : List PesPacket) (unit : PesPacket) → 0 < allowance_rows a → Spaced apart from (units ++ unit ∷ []) →
       KeepsAllowance a n (units ++ unit ∷ []) → KeepsAllowance a n units × (is_over a units unit ≡ false)
-  pub next : (pace : ℕ) (units : List PesPacket) (unit : PesPacket) → level pace (units ++ unit ∷ []) ≡ next_level pace (level pace units) (last_due 0 units) unit
+  pub next : (pace : ℕ) (units : List PesPacket) (unit : PesPacket) →
+      level pace (units ++ unit ∷ []) ≡ next_level pace (level pace units) (last_due 0 units) unit
   pub greatest : (pace : ℕ) (units : List PesPacket) (unit : PesPacket) →
       greatest_level pace (units ++ unit ∷ []) ≡ max (greatest_level pace units) (next_level pace (level pace units) (last_due 0 units) unit)
   pub last : (apart : ℕ) (units : List PesPacket) → next_due apart 0 units - apart ≡ last_due 0 units

@@ -9,7 +9,8 @@ use Rattle.unit_timing.specs.Transport.{NoneLeavesEarly}
 use Rattle.unit_timing.specs.Deadline.{InTime}
 use Rattle.unit_timing.specs.MainBuffer.{mb_fullness}
 use Rattle.unit_timing.specs.Plans.{Declaration, KeepsDeclaration, run_packets, StreamServed, ProgramServed}
-use Rattle.unit_timing.specs.Conditions.{IsProper, StreamClaim, ProgramClaim, share_of, rate_needed, rate_given, lead_across, time_given, bytes_across, StreamConditions, StreamSwitchConditions, ProgramConditions, ProgramSwitchConditions}
+use Rattle.unit_timing.specs.Conditions.{IsProper, StreamClaim, ProgramClaim, share_of, rate_needed, rate_given, lead_across, time_given, bytes_across}
+use Rattle.unit_timing.specs.Conditions.{StreamConditions, StreamSwitchConditions, ProgramConditions, ProgramSwitchConditions}
 
 -- the own slots of two plans, the first for a number of its periods
 abbrev pub in_turn : List Bool → ℕ → List Bool → ℕ → Bool

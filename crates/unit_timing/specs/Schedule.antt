@@ -23,7 +23,8 @@ unfoldable pub payload_size_at : (ℕ → Bool) → ℕ → ℕ → ℕ → List
 payload_size_at own rate lead free [] i = None
 payload_size_at own rate lead free (unit ∷ units) i =
     cond (nat_lt i (first_slot own rate lead free unit)) None
-    (cond (nat_lt i (first_slot own rate lead free unit + packets_of_unit unit)) (Some (payload_size unit.front unit.size (i - first_slot own rate lead free unit)))
+    (cond (nat_lt i (first_slot own rate lead free unit + packets_of_unit unit))
+    (Some (payload_size unit.front unit.size (i - first_slot own rate lead free unit)))
     (payload_size_at own rate lead (first_slot own rate lead free unit + packets_of_unit unit) units i))
 
 -- the packet in slot s, where it carries one

@@ -2,8 +2,8 @@
 ghost use Rattle.unit_timing.specs.EmptyBuffers.{TransportEmptyLaw, MultiplexingEmptyLaw, EmptiesLaw};
 ghost use Rattle.unit_timing.specs.EmptyPlans.{EmptyPlanLaw, EmptySwitchLaw};
 
-/// States that, if in each second there is a slot before whose end the work of the transport buffer is drained, and which
-/// is not its own, that buffer is empty at least once in each second, whichever own slots are used.
+/// States that, if in each second there is a slot before whose end the work of the transport buffer is drained, and
+/// which is not its own, that buffer is empty at least once in each second, whichever own slots are used.
 pub fn transport()
     ensures { TransportEmptyLaw }
 {}
@@ -18,8 +18,8 @@ pub fn slots()
     ensures { EmptiesLaw }
 {}
 
-/// States that, over one plan, the transport buffers of streams and of a program's tables, and the multiplexing buffers,
-/// are empty at least once in each second, and over two plans in turn.
+/// States that, over one plan, the transport buffers of streams and of a program's tables, and the multiplexing
+/// buffers, are empty at least once in each second, and over two plans in turn.
 pub fn plans()
     ensures one { EmptyPlanLaw }
     ensures two { EmptySwitchLaw }

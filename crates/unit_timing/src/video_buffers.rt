@@ -5,24 +5,26 @@ ghost use Rattle.unit_timing.specs.LeakMethod.{TransfersLaw, NeverFullLaw};
 ghost use Rattle.unit_timing.specs.PesHeaders.{HeadersLaw};
 ghost use Rattle.unit_timing.specs.VideoPlans.{VideoLaw, VideoSwitchLaw};
 
-/// States that, if the work of each own slot at the drain Rbx finds room for its packet, MB never holds more bytes than its room,
-/// whichever own slots are used.
+/// States that, if the work of each own slot at the drain Rbx finds room for its packet, MB never holds more bytes than
+/// its room, whichever own slots are used.
 pub fn multiplexing()
     ensures { MultiplexingLaw }
 {}
 
-/// States that it does not either if it leaks a little slower, since the headers of packets, for which the work counts, never enter MB.
+/// States that it does not either if it leaks a little slower, since the headers of packets, for which the work counts,
+/// never enter MB.
 pub fn slow_leak()
     ensures { SlowLeakLaw }
 {}
 
-/// States that each byte is in EB at most one byte's time in the transport buffer later than it would leave a buffer drained at Rbx.
+/// States that each byte is in EB at most one byte's time in the transport buffer later than it would leave a buffer
+/// drained at Rbx.
 pub fn leak()
     ensures { LeakLaw }
 {}
 
-/// States that the bytes of packets before a slot are in EB by that slot's begin, the peak of work, and one byte's time in the
-/// transport buffer.
+/// States that the bytes of packets before a slot are in EB by that slot's begin, the peak of work, and one byte's time
+/// in the transport buffer.
 pub fn leaked()
     ensures { LeakedLaw }
 {}
@@ -37,8 +39,8 @@ pub fn whole_in_time()
     ensures { WholeInTimeLaw }
 {}
 
-/// States that, if EB may be full, each byte goes to it at the later of two times: as if EB never were full, and as if all bytes
-/// waited for it in MB.
+/// States that, if EB may be full, each byte goes to it at the later of two times: as if EB never were full, and as if
+/// all bytes waited for it in MB.
 pub fn transfers()
     ensures { TransfersLaw }
 {}
@@ -48,8 +50,8 @@ pub fn never_full()
     ensures { NeverFullLaw }
 {}
 
-/// States for a video stream whose own slots keep the conditions, with units within its declaration, that none of TB, MB and EB
-/// overflows, EB never is full, and each due unit is whole in EB by its stamp, in runs of any length.
+/// States for a video stream whose own slots keep the conditions, with units within its declaration, that none of TB,
+/// MB and EB overflows, EB never is full, and each due unit is whole in EB by its stamp, in runs of any length.
 pub fn video()
     ensures { VideoLaw }
 {}
@@ -59,8 +61,8 @@ pub fn video_switch()
     ensures { VideoSwitchLaw }
 {}
 
-/// States that, if bytes of PES packet headers leave MB together with the byte of payload after them, as the standard has it, MB
-/// holds at most the bytes of one header more, and each byte of payload is in EB no later.
+/// States that, if bytes of PES packet headers leave MB together with the byte of payload after them, as the standard
+/// has it, MB holds at most the bytes of one header more, and each byte of payload is in EB no later.
 pub fn headers()
     ensures { HeadersLaw }
 {}

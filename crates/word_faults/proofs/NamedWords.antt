@@ -1,9 +1,11 @@
 -- A fault names words that are really there: of one word first, and then of all.
-use Rattle.std.proofs.Common.{◌≡◌, if◌then◌else◌, ◌<◌, ◌||◌, Bool, true, false, not, List, [], ◌∷◌, ◌++◌, length, Option, Some, None, inl, inr, refl, arith, append_assoc, length-append, subst}
+use Rattle.std.proofs.Common.{◌≡◌, if◌then◌else◌, ◌<◌, ◌||◌, Bool, true, false, not, List, [], ◌∷◌, ◌++◌, length, Option, Some, None, inl, inr, refl, arith}
+use Rattle.std.proofs.Common.{append_assoc, length-append, subst}
 use Rattle.std.specs.Prelude.{IfSome}
 use Rattle.std.proofs.lemmas.Bool.{cases_Bool}
 use Rattle.word_faults.specs.CommandLine.{CommandLine, Text}
-use Rattle.word_faults.specs.WordFaults.{alone_reason, fault_from, fault_or, files_reason, is_alone, is_dashed, is_file_mark, is_given, is_help, known_reason, missing, next_reason, option_in, option_reason, otherwise, reason_at, value_in, value_reason, wants_value, word_reason}
+use Rattle.word_faults.specs.WordFaults.{alone_reason, fault_from, fault_or, files_reason, is_alone, is_dashed, is_file_mark, is_given, is_help, known_reason}
+use Rattle.word_faults.specs.WordFaults.{missing, next_reason, option_in, option_reason, otherwise, reason_at, value_in, value_reason, wants_value, word_reason}
 use Rattle.word_faults.specs.NamedWords.{FaultsNameWords, NamesWords}
 use Rattle.word_faults.specs.declared.word_fault.WordFault.{WordFault}
 use Rattle.word_faults.specs.declared.word_fault.Reason.{Reason}

@@ -32,7 +32,8 @@ known_more others other best better x (inr e) (inl f) = inr (first other others 
 known_more others other best better x which (inr a) = inr (after_one other others x a)
 
 one_more : (others : List Text) (word other best better : Text) (kept : Option Text) → (better ≡ best) ⊎ (better ≡ other) →
-    edits_of word better ≤ edits_of word best → edits_of word better ≤ edits_of word other → Keeps others word better kept → Keeps (other ∷ others) word best kept
+    edits_of word better ≤ edits_of word best → edits_of word better ≤ edits_of word other → Keeps others word better kept →
+    Keeps (other ∷ others) word best kept
 one_more others word other best better None which over best_of h = absurd h
 one_more others word other best better (Some x) which over best_of h = record {
   known = known_more others other best better x which h.known;
@@ -68,7 +69,8 @@ from_first others word other (Some x) h = record {
 }
 
 -- one that is not near before them
-not_first : (others : List Text) (word other : Text) (best : Option Text) → is_near word other ≡ false → IsMeant others word best → IsMeant (other ∷ others) word best
+not_first : (others : List Text) (word other : Text) (best : Option Text) → is_near word other ≡ false → IsMeant others word best →
+    IsMeant (other ∷ others) word best
 not_first others word other None far h = rw (far, h) refl
 not_first others word other (Some x) far h =
     let few = leb-true (edits_of word x) (length word / 3) h.near in

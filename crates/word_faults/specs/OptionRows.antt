@@ -1,5 +1,6 @@
 -- A table of options, and what a word or a value is by it.
-use Rattle.std.specs.Prelude.{ℕ, Bool, true, false, if◌then◌else◌, nat_eq, List, [], drop, Option, Some, None, codes, find, is_some, option_map, option_and_then}
+use Rattle.std.specs.Prelude.{ℕ, Bool, true, false, if◌then◌else◌, nat_eq, List, [], drop, Option, Some, None, codes, find, is_some, option_map}
+use Rattle.std.specs.Prelude.{option_and_then}
 use Rattle.std.specs.Borrow.{Bor}
 use Rattle.std.specs.List.{starts_with}
 use Rattle.std.specs.Str.{bytes_eq}
@@ -12,7 +13,8 @@ use Rattle.pes_packet.specs.StreamIds.{is_unit_id}
 use Rattle.word_faults.specs.CommandLine.{Text}
 use Rattle.word_faults.specs.declared.option_row.Row.{Row}
 use Rattle.word_faults.specs.declared.option_row.ValueKind.{ValueKind}
-use Rattle.word_faults.specs.declared.option_row.ValueKind.TheVariants.{Flag, Alone, Word, Number, Scaled, Numbers, Buffers, StreamId, Moment, Declare, Base, Network, Names, File}
+use Rattle.word_faults.specs.declared.option_row.ValueKind.TheVariants.{Flag, Alone, Word, Number, Scaled, Numbers, Buffers, StreamId, Moment, Declare, Base}
+use Rattle.word_faults.specs.declared.option_row.ValueKind.TheVariants.{Network, Names, File}
 
 -- a row with its texts, the same of a row in memory, and of a row of a constant
 abbrev pub OptionRow : Type 0

@@ -9,7 +9,8 @@ use crate::known_words::KnownWords;
 use crate::sorting::{name_words, option_words, push_marked, push_words};
 use std::alloc::{AllocError, Global};
 
-/// The short name of an option, as a word, and its long name. It is generic in how these are held, as a row of a table is.
+/// The short name of an option, as a word, and its long name. It is generic in how these are held, as a row of a table
+/// is.
 #[derive(Clone, Copy)]
 pub struct Names<Text> {
     /// The short name.

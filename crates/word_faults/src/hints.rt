@@ -155,8 +155,8 @@ fn write_meant(
     }
 }
 
-/// Appends the line with the word of these that is nearest to one, if one is near; or else with the word as the name of a file, if it
-/// may be.
+/// Appends the line with the word of these that is nearest to one, if one is near; or else with the word as the name of
+/// a file, if it may be.
 pub(crate) fn write_nearest(
     alloc: Global,
     text: &mut String,
@@ -214,7 +214,8 @@ fn push_copies(alloc: Global, words: &mut Vec<String>, others: &[&str]) -> Resul
     Ok(())
 }
 
-/// Returns the words that may be meant: of the options but one that is barred, those beside them, those that stand alone.
+/// Returns the words that may be meant: of the options but one that is barred, those beside them, those that stand
+/// alone.
 #[tactic(auto, unfolding(crate::specs::KnownWords::meant_words))]
 pub(crate) fn meant_words(
     alloc: Global,

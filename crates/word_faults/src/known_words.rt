@@ -126,7 +126,8 @@ impl KnownWords {
         write_takes(text, self.options, option)
     }
 
-    /// Appends the line with the word that may be meant by this one, or with this one as the name of a file; nothing if there is none.
+    /// Appends the line with the word that may be meant by this one, or with this one as the name of a file; nothing if
+    /// there is none.
     pub(crate) fn write_near(
         self,
         alloc: Global,

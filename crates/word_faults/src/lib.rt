@@ -6,14 +6,15 @@
 //! of a word (`KnownWords`: `specs/OptionRows`, `specs/KnownWords`), and the usage text (`specs/OptionUsage`).
 //!
 //! What is known of a word (`specs/CommandLine`) is whether it is an option, whether that takes a value, and which, and
-//! words beside options. `first_fault` finds the first word that is not known, is given twice, lacks its value, has
-//! one that its option does not take, or stands beside others where it takes none; `word_beside` finds the word
-//! beside the options (`specs/WordFaults`). `usage_report` is the line that says what is wrong, with the usage after
-//! it, and `answer_other_words` reports it, or prints the version for `--version` alone (`specs/UsageReport`). The
-//! words that the line names are really there (`faults_name_words`: `specs/NamedWords`). `answer_words` also answers calls for help, and
-//! says what to type: what an option takes, or the nearest known word (`specs/Hints`; `hints_are_nearest`: `specs/NearWords`). `sorting` tells
-//! options with their values from the words beside them (`specs/SortedWords`); `sorted_command` puts a subcommand before the options
-//! and the names of files after them, and `long_words` puts long names of options for short ones (`specs/Commands`).
+//! words beside options. `first_fault` finds the first word that is not known, is given twice, lacks its value, has one
+//! that its option does not take, or stands beside others where it takes none; `word_beside` finds the word beside the
+//! options (`specs/WordFaults`). `usage_report` is the line that says what is wrong, with the usage after it, and
+//! `answer_other_words` reports it, or prints the version for `--version` alone (`specs/UsageReport`). The words that
+//! the line names are really there (`faults_name_words`: `specs/NamedWords`). `answer_words` also answers calls for
+//! help, and says what to type: what an option takes, or the nearest known word (`specs/Hints`; `hints_are_nearest`:
+//! `specs/NearWords`). `sorting` tells options with their values from the words beside them (`specs/SortedWords`);
+//! `sorted_command` puts a subcommand before the options and the names of files after them, and `long_words` puts long
+//! names of options for short ones (`specs/Commands`).
 #![tactic(auto)]
 
 mod commands;

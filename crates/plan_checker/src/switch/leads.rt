@@ -1,5 +1,5 @@
-//! Deadlines over a switch: units that are sent across it have left the transport buffer, and the multiplexing buffer if
-//! there is one, by their decoding times.
+//! Deadlines over a switch: units that are sent across it have left the transport buffer, and the multiplexing buffer
+//! if there is one, by their decoding times.
 
 ghost use Rattle.std.specs.Prelude.{◌≡◌, ◌^◌, ◌<◌, ◌≤◌, ◌∷◌, [], length};
 ghost use Rattle.description_parts.specs.Ranges.{IsStream};

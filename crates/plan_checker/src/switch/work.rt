@@ -1,5 +1,5 @@
-//! Work over a switch: what the first plan's period leaves in a buffer is at most what the second begins with, and a buffer
-//! that has to be empty at least once a second (ISO/IEC 13818-1, 2.4.2.6) is so across the switch.
+//! Work over a switch: what the first plan's period leaves in a buffer is at most what the second begins with, and a
+//! buffer that has to be empty at least once a second (ISO/IEC 13818-1, 2.4.2.6) is so across the switch.
 
 ghost use Rattle.std.specs.Prelude.{◌≡◌, ◌^◌, ◌<◌, ◌≤◌, ◌∷◌, [], Some, length};
 ghost use Rattle.slot_plan.specs.Items.{marks};
@@ -53,8 +53,8 @@ fn work_switch(
     );
 }
 
-/// One buffer that has to be empty at least once a second: its item's number, what fills it in the two plans, its drain and
-/// the works with which the two plans' periods begin.
+/// One buffer that has to be empty at least once a second: its item's number, what fills it in the two plans, its drain
+/// and the works with which the two plans' periods begin.
 fn emptied_switch(
     slots: &[Slot],
     next_slots: &[Slot],

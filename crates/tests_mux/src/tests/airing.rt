@@ -1,5 +1,5 @@
-//! Records taken one by one: the answer to each and how many slots are then written, also for an input that holds them all;
-//! and whole runs, beside jobs of the same units, to writers that fail, and in little memory.
+//! Records taken one by one: the answer to each and how many slots are then written, also for an input that holds them
+//! all; and whole runs, beside jobs of the same units, to writers that fail, and in little memory.
 
 use super::services::{ONE, SMALL, Series, units};
 use counted_io::{Counted, Failing};
@@ -38,8 +38,8 @@ const TERMS: Terms = Terms {
     room: None,
 };
 
-/// At 1,504,000 bits a second a slot lasts 90 units. A unit that is due at 10,600 is released with slot 100, and the run
-/// ends with its DTS.
+/// At 1,504,000 bits a second a slot lasts 90 units. A unit that is due at 10,600 is released with slot 100, and the
+/// run ends with its DTS.
 static RUNS: [Run; 6] = [
     Run {
         terms: TERMS,
@@ -187,8 +187,8 @@ fn is_heard<R: HeldInput>(
     if is_wanted { Some(written) } else { None }
 }
 
-/// Returns whether the slots that a record settles are written when it is heard: of an input that holds all records, where
-/// it is taken and none comes after it. What a refused one leaves is written by the next call.
+/// Returns whether the slots that a record settles are written when it is heard: of an input that holds all records,
+/// where it is taken and none comes after it. What a refused one leaves is written by the next call.
 fn is_out(run: &Run, holds: bool, number: usize, answer: &Answer) -> bool {
     let is_last = number.saturating_add(1) == run.heard.len();
     match answer {
@@ -333,7 +333,8 @@ fn writers_fail(rt: HostRuntime) {
     }
 }
 
-/// Returns whether a run is begun in a heap of this size beside its plan; None where the answer is neither that nor Memory.
+/// Returns whether a run is begun in a heap of this size beside its plan; None where the answer is neither that nor
+/// Memory.
 pub fn is_begun_in(global: Global, room: usize) -> Option<bool> {
     let given = LocalHeap::new(global, 16_384).ok()?;
     let heap = LocalHeap::new(global, room).ok()?;

@@ -359,7 +359,8 @@ static RATES: [(&[u64], &[Recurring], Option<u64>); 10] = [
     ),
 ];
 
-// Returns the delay of a stream that is drained at a rate, or that has a multiplexing buffer of that size which leaks at the rate.
+// Returns the delay of a stream that is drained at a rate, or that has a multiplexing buffer of that size which leaks
+// at the rate.
 fn delay_at(size: Option<u32>, rate: u32, share: u64) -> u32
     requires rate { 1 ≤ rate }
     requires share { 2 ^ 17 ≤ share }

@@ -78,8 +78,8 @@ const CHROMA_422: &[u8] = &[
     0,
 ];
 
-// The sequence parameter set of x264 in the High 4:2:2 profile, level 3, up to its picture size; and of x265 in the profiles
-// Main 4:2:2 10 and Main Intra, level 2.1.
+// The sequence parameter set of x264 in the High 4:2:2 profile, level 3, up to its picture size; and of x265 in the
+// profiles Main 4:2:2 10 and Main Intra, level 2.1.
 const HIGH_422: &[u8] = &[0, 0, 1, 0x67, 0x7a, 0, 0x1e, 0xb6, 0xcd, 0x94, 0x0b];
 
 const MAIN_422_10: &[u8] = &[

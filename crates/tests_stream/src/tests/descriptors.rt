@@ -52,9 +52,9 @@ fn are_kept(alloc: Global) -> bool {
     }
 }
 
-// Of a multiplex: buffer utilization, maximum bit rate, smoothing buffer, an STD_descriptor by vbv_delay, a managed HRD of AVC and
-// of HEVC. An STD_descriptor by the leak, one without its byte, an HRD that is not managed, and another extension speak of no other
-// multiplex.
+// Of a multiplex: buffer utilization, maximum bit rate, smoothing buffer, an STD_descriptor by vbv_delay, a managed HRD
+// of AVC and of HEVC. An STD_descriptor by the leak, one without its byte, an HRD that is not managed, and another
+// extension speak of no other multiplex.
 static MULTIPLEX: [u8; 47] = [
     12, 3, 0xff, 0, 0x10, 14, 3, 0xc0, 0, 1, 16, 6, 0xc0, 0, 1, 0xc0, 0, 2, 17, 1, 0xfe, 17, 1,
     0xff, 17, 0, 42, 2, 0x80, 0, 42, 2, 0x7f, 0, 63, 2, 3, 0xfe, 63, 2, 3, 0x7e, 63, 2, 5, 0xfe,

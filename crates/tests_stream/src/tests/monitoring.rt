@@ -31,7 +31,8 @@ const CLOCK: Packet = (
 
 const NULL: Packet = (&[0x47, 0x1F, 0xFF, 0x10], 0xFF, &[]);
 
-// No sync byte; neither a payload nor an adaptation field; a PAT; a PMT with a wrong check word; the beginning of a NIT.
+// No sync byte; neither a payload nor an adaptation field; a PAT; a PMT with a wrong check word; the beginning of a
+// NIT.
 const NO_SYNC: Packet = (&[0x46, 0x1F, 0xFF, 0x10], 0xFF, &[]);
 
 const NO_CONTENT: Packet = (&[0x47, 0x1F, 0xFF, 0x00], 0xFF, &[]);

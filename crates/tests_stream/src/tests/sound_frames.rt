@@ -29,7 +29,8 @@ const ENHANCED: &[u8] = &[
 
 const DEPENDENT: &[u8] = &[0x0b, 0x77, 0x40, 2, 0x30, 0x80];
 
-// A stream_type, a unit, and the number of its frames, the longest time of a frame, and the greatest frame but the first.
+// A stream_type, a unit, and the number of its frames, the longest time of a frame, and the greatest frame but the
+// first.
 type Row = (u8, &'static [u8], Option<(usize, u64, u32)>);
 
 static UNITS: [Row; 10] = [

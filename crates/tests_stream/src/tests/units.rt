@@ -116,8 +116,8 @@ fn are_units(units: &[WireUnit]) -> bool {
     }
 }
 
-// PES packets without a stamp join the one before them, across duplicates and other PIDs; of one before a break a part may be
-// lost, and it is left out.
+// PES packets without a stamp join the one before them, across duplicates and other PIDs; of one before a break a part
+// may be lost, and it is left out.
 fn are_carried(alloc: Global, found: &[Finding<'_>]) -> bool {
     match carried_units(alloc, 256, found) {
         Ok(units) => are_units(&units),
@@ -138,7 +138,8 @@ const COUNTER: UnitWarningCause = UnitWarningCause::Counter {
     found: 7,
 };
 
-// What is in no unit; no damage are the units before what is lost, the PES packet after the break and the end of the stream.
+// What is in no unit; no damage are the units before what is lost, the PES packet after the break and the end of the
+// stream.
 static LEFT_OUT: [(u64, UnitWarningCause, bool); 6] = [
     (1, UnitWarningCause::PartLost, false),
     (5, COUNTER, true),

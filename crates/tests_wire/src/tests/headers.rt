@@ -9,9 +9,9 @@ use pes_packet::{
 /// A base shortly before 2^33.
 const BASE: u64 = 8_589_934_500;
 
-/// stream_id, size, marks, PTS and DTS of units, and their headers: a DTS is written where the stamps differ on the wire.
-/// The fourth is that of a PES packet of teletext (EN 300 472, 4.2), the fifth that of an aligned original of subtitles, the
-/// sixth that of a frame of audio description (TS 101 154, annex E).
+/// stream_id, size, marks, PTS and DTS of units, and their headers: a DTS is written where the stamps differ on the
+/// wire. The fourth is that of a PES packet of teletext (EN 300 472, 4.2), the fifth that of an aligned original of
+/// subtitles, the sixth that of a frame of audio description (TS 101 154, annex E).
 static WRITTEN: [(u8, usize, Marks, u64, u64, &[u8]); 6] = [
     (192, 3, Marks::NONE, 90_000, 90_000, PTS_HEADER),
     (
@@ -55,7 +55,8 @@ const DESCRIBED: Marks = Marks {
     private_data: Some(AD_DESCRIPTOR),
 };
 
-/// PTS_DTS_flags 10 and PES_extension_flag, 22 bytes of header data: the PTS, the flags of the extension, PES_private_data.
+/// PTS_DTS_flags 10 and PES_extension_flag, 22 bytes of header data: the PTS, the flags of the extension,
+/// PES_private_data.
 const DESCRIBED_HEADER: &[u8] =
     b"\x00\x00\x01\xc0\x00\x1c\x80\x81\x16\x21\x00\x05\xbf\x21\x8e\xf8DTGAD1\x10\x20\xff\xff\xff\xff\xff\xff\xff";
 

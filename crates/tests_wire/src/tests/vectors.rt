@@ -8,7 +8,8 @@ pub const PTS_DTS_HEADER: &[u8] =
     b"\x00\x00\x01\xc0\x02\x4d\x80\xc0\x0a\x31\x00\x01\x19\xd9\x11\x00\x01\x0b\xc9";
 
 /// A packet with each part of an adaptation field: flags with a discontinuity, a PCR of base 2^33 - 1 and extension
-/// 299, an OPCR of 1 and 2, a splice_countdown of -3, two bytes of private data, an extension byte, and two of stuffing.
+/// 299, an OPCR of 1 and 2, a splice_countdown of -3, two bytes of private data, an extension byte, and two of
+/// stuffing.
 pub const ALL_PARTS: &[u8] =
     b"\x47\xe1\x23\xf5\x17\x9f\xff\xff\xff\xff\xff\x2b\x00\x00\x00\x00\xfe\x02\xfd\x02\xaa\xbb\x01\xcc\xff\xff\xff\xff";
 

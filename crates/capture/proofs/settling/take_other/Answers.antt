@@ -14,4 +14,5 @@ returns g c = λ first parts taken.
     ap (λ (n : ℕ). slice_range bs (at + n) (at + n + 188)) c.front_of.ensures.value ∙ packet_at other bs at in
     let size : length (slice_range bs (at + f) (at + f + 188)) ≡ 188 = ap length e ∙ packet_size other bs at c.requires in
     subst (λ (packets : List (List ℕ)). OnOk c.take_packets.result (g.T.PartTaker.has_taken first (parts ++ map IsPacket packets) c.take_packets.new.self))
-    (c.as_chunks.ensures.front ∙ one_cut (slice_range bs (at + f) (at + f + 188)) size ∙ ap (λ (x : List ℕ). x ∷ []) e) (c.take_packets.ensures first parts taken)
+    (c.as_chunks.ensures.front ∙ one_cut (slice_range bs (at + f) (at + f + 188)) size ∙ ap (λ (x : List ℕ). x ∷ []) e)
+    (c.take_packets.ensures first parts taken)

@@ -37,14 +37,16 @@ returns-in-Ok-None-clause-left g c = λ xs e.
 
 pub returns-in-Err-clause-left : goal.returns-in-Err-clause-left
 returns-in-Err-clause-left g c = λ xs e.
-    stop_leaves xs c.records.index c.args.id c.records.min_next_dts _ c.in-Err.stop (c.in-Err.ensures.known (after_records c.records.index xs) (c.records.invariant.rest xs e))
+    stop_leaves xs c.records.index c.args.id c.records.min_next_dts _ c.in-Err.stop
+    (c.in-Err.ensures.known (after_records c.records.index xs) (c.records.invariant.rest xs e))
 
 pub returns-in-Err-push_unit-clause-err : goal.returns-in-Err-push_unit-clause-err
 returns-in-Err-push_unit-clause-err g c = λ xs start all e h.
     let w = c.records.invariant.known xs start all e h in
     midway_failed _ _ _ c.records.packets.hex xs _ _ _ c.in-Err-push_unit.fault.sent _ _ start _ _ _ all c.in-Ok-Some.unit w
     (rw c.in-Ok-Some.field-0-is at (c.in-Ok-Some.ensures.known w.rest w.left_is)) c.records.invariant.hex
-    (c.in-Err-push_unit.ensures.err start (all ++ carried c.args.packets.now.hex c.args.pid c.args.id w.done) (packet_number c.args.id w.done) w.holds w.counter_is)
+    (c.in-Err-push_unit.ensures.err start (all ++ carried c.args.packets.now.hex c.args.pid c.args.id w.done) (packet_number c.args.id w.done) w.holds
+    w.counter_is)
 
 pub records-preserved : goal.records-preserved
 records-preserved g c =

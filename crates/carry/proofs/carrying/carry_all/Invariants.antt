@@ -13,7 +13,8 @@ invariant-records g l = record {
   reads : g.R.Source.fault_count l.input ≡ g.R.Source.fault_count l.fn.input;
   writes : g.W.Sink.fault_count l.output ≡ g.W.Sink.fault_count l.fn.output;
   rest : (xs : List ℕ) → g.R.Read.remaining l.fn.input ≡ Some xs → g.R.Read.remaining l.input ≡ Some (after_records l.index xs);
-  known : (xs : List ℕ) (start : Option (List ℕ)) (all : List ℕ) → g.R.Read.remaining l.fn.input ≡ Some xs → IsOutput start (g.W.Write.contents l.fn.output) l.fn.packets all
+  known : (xs : List ℕ) (start : Option (List ℕ)) (all : List ℕ) → g.R.Read.remaining l.fn.input ≡ Some xs →
+      IsOutput start (g.W.Write.contents l.fn.output) l.fn.packets all
       → Midway l.pid l.id l.fn.packets.hex xs l.min_next_dts l.index l.counter (g.R.Read.remaining l.input) start (g.W.Write.contents l.output) l.packets all;
 }
 

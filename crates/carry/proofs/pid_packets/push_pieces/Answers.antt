@@ -13,7 +13,8 @@ pieces-init g c = record {
   inside = omega (arith, c.requires.lower, length-append c.args.header.now c.args.bytes.now);
   hex = refl;
   clean = refl;
-  written = λ start all number h e. part_start _ _ _ _ _ _ start _ _ all (omega (arith, c.requires.lower, length-append c.args.header.now c.args.bytes.now)) h e;
+  written = λ start all number h e. part_start _ _ _ _ _ _ start _ _ all (omega (arith, c.requires.lower, length-append c.args.header.now c.args.bytes.now)) h
+      e;
 }
 
 pub returns-in-Err-clause-err : goal.returns-in-Err-clause-err
@@ -29,7 +30,8 @@ returns-then-not-more-clause-ok g c = λ start all number h e.
     let last : goes_on c.args.access (c.args.header.now ++ c.args.bytes.now) c.pieces.sent ≡ false = search rules in
     part_end _ _ _ _ _ _ _ _ _ _ start _ _ _ _ all w c.pieces.invariant.inside c.pieces.invariant.hex c.write_piece-more.ensures.packet
     c.next_counter-counter.ensures last (c.in-Ok.ensures.ok start w.written c.write_piece-more.new.packet
-    (next_is c.pieces.packets c.write_piece-more.new.packet c.room.ensures.there) (next_put start _ c.pieces.packets w.written c.write_piece-more.new.packet w.holds))
+    (next_is c.pieces.packets c.write_piece-more.new.packet c.room.ensures.there)
+    (next_put start _ c.pieces.packets w.written c.write_piece-more.new.packet w.holds))
 
 pub pieces-preserved : goal.pieces-preserved
 pieces-preserved g c =
@@ -43,5 +45,6 @@ pieces-preserved g c =
           let w = c.pieces.invariant.written start all number h e in
           part_more _ _ _ _ _ _ _ _ _ _ start _ _ _ _ all w c.pieces.invariant.inside c.pieces.invariant.hex c.write_piece-more.ensures.packet
           c.next_counter-counter.ensures (c.in-Ok.ensures.ok start w.written c.write_piece-more.new.packet
-          (next_is c.pieces.packets c.write_piece-more.new.packet c.room.ensures.there) (next_put start _ c.pieces.packets w.written c.write_piece-more.new.packet w.holds));
+          (next_is c.pieces.packets c.write_piece-more.new.packet c.room.ensures.there)
+          (next_put start _ c.pieces.packets w.written c.write_piece-more.new.packet w.holds));
     }

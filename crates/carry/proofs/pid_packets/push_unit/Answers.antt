@@ -14,7 +14,12 @@ use Rattle.carry.proofs.pid_packets.push_unit.Goals as goal
 pub push_pieces-requires-clause-lower : goal.push_pieces-requires-clause-lower
 push_pieces-requires-clause-lower g c =
     let same : length c.deref.result.now ≡ length c.write_header-header.result.items = search rules in
-    omega (arith, same, ap (length {A = ℕ}) c.write_header-header.ensures, header_some c.args.id c.len.result c.unit.inside.marks c.unit.inside.pts c.unit.inside.dts)
+    omega (
+      arith,
+      same,
+      ap (length {A = ℕ}) c.write_header-header.ensures,
+      header_some c.args.id c.len.result c.unit.inside.marks c.unit.inside.pts c.unit.inside.dts,
+    )
 
 pub returns-clause-ok : goal.returns-clause-ok
 returns-clause-ok g c = λ start all number h e.
@@ -25,9 +30,11 @@ returns-clause-ok g c = λ start all number h e.
     pes_is c.args.id c.args.unit.now _ _ _ _ _ _ (header ∙ c.write_header-header.ensures) bytes size
     (ap (λ (u : AccessUnit). u.marks) c.unit.view_is) (ap (λ (u : AccessUnit). u.pts) c.unit.view_is) (ap (λ (u : AccessUnit). u.dts) c.unit.view_is) in
     let access : c.unit.inside.marks.random_access ≡ has_access c.args.unit.now = ap (λ (u : AccessUnit). u.marks.random_access) c.unit.view_is in
-    subst (λ (b : Bool). IfOk c.push_pieces.result (λ next. (next ≡ (number + piece_count (field_size b + length (pes_packet_bytes c.args.id 0 c.args.unit.now))) % 16)
+    subst (λ (b : Bool). IfOk c.push_pieces.result
+    (λ next. (next ≡ (number + piece_count (field_size b + length (pes_packet_bytes c.args.id 0 c.args.unit.now))) % 16)
     × IsOutput start (g.W.Write.contents c.push_pieces.new.to) c.push_pieces.new.packets
-    (all ++ formatted_all c.args.packets.now.hex (payload_packets c.args.pid (start_by true b) number (unit_pieces b (pes_packet_bytes c.args.id 0 c.args.unit.now)))))) access
+    (all ++ formatted_all c.args.packets.now.hex
+    (payload_packets c.args.pid (start_by true b) number (unit_pieces b (pes_packet_bytes c.args.id 0 c.args.unit.now)))))) access
     (subst (λ (x : List ℕ). IfOk c.push_pieces.result (λ next. (next ≡ (number + piece_count (field_size c.unit.inside.marks.random_access + length x)) % 16)
     × IsOutput start (g.W.Write.contents c.push_pieces.new.to) c.push_pieces.new.packets
     (all ++ formatted_all c.args.packets.now.hex
@@ -44,7 +51,8 @@ returns-clause-err g c = λ start all number h e.
     (ap (λ (u : AccessUnit). u.marks) c.unit.view_is) (ap (λ (u : AccessUnit). u.pts) c.unit.view_is) (ap (λ (u : AccessUnit). u.dts) c.unit.view_is) in
     let access : c.unit.inside.marks.random_access ≡ has_access c.args.unit.now = ap (λ (u : AccessUnit). u.marks.random_access) c.unit.view_is in
     subst (λ (b : Bool). IfErr c.push_pieces.result (λ fault. Took start (g.W.Write.contents c.push_pieces.new.to) fault.sent
-    (all ++ formatted_all c.args.packets.now.hex (payload_packets c.args.pid (start_by true b) number (unit_pieces b (pes_packet_bytes c.args.id 0 c.args.unit.now)))))) access
+    (all ++ formatted_all c.args.packets.now.hex
+    (payload_packets c.args.pid (start_by true b) number (unit_pieces b (pes_packet_bytes c.args.id 0 c.args.unit.now)))))) access
     (subst (λ (x : List ℕ). IfErr c.push_pieces.result (λ fault. Took start (g.W.Write.contents c.push_pieces.new.to) fault.sent
     (all ++ formatted_all c.args.packets.now.hex
     (payload_packets c.args.pid (start_by true c.unit.inside.marks.random_access) number (unit_pieces c.unit.inside.marks.random_access x))))) pes

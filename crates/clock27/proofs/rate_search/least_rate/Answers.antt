@@ -9,6 +9,7 @@ loop-low-preserved g c =
       begun = omega (arith, inv.begun);
       order = omega (arith, c.loop-low-test.true);
       end = inv.end;
-      below = λ r low lt. c.requires.monotone r middle (omega (arith, low, c.requires.low)) (omega (arith, lt)) (sym c.has_slots.ensures ∙ c.if-has_slots.false);
+      below = λ r low lt. c.requires.monotone r middle (omega (arith, low, c.requires.low)) (omega (arith, lt))
+          (sym c.has_slots.ensures ∙ c.if-has_slots.false);
       above = inv.above;
     }

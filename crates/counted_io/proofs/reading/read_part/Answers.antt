@@ -11,7 +11,8 @@ loop-taken-preserved g c =
     let fits = c.in-Ok.ensures.bound.0 in
     record {
       within = search rules;
-      bytes = subst (Consumes _ _) (sym (filled_more c.loop-taken.taken (length part - c.loop-taken.taken) c.in-Ok.n part c.read_some.new.part before.within fits))
+      bytes = subst (Consumes _ _)
+          (sym (filled_more c.loop-taken.taken (length part - c.loop-taken.taken) c.in-Ok.n part c.read_some.new.part before.within fits))
           (Consumes-trans _ _ _ _ _ before.bytes c.in-Ok.ensures.bytes.0);
       clean = c.in-Ok.ensures.counts ∙ before.clean;
     }

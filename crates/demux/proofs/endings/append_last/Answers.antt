@@ -14,7 +14,8 @@ returns-then-end-len-clause-found g c =
     let payload = c.args.payload.now in
     let filled : c.fill.new.bytes.items ≡ body = c.in_ok-fill.ensures.bytes in
     let enough : 6 + header.len ≤ length c.args.unit.now.bytes + length payload = omega (arith, c.if-end-len.true, c.len.ensures.len) in
-    let size : c.saturating_sub-size.result ≡ 6 + header.len - length unit.front.items = omega (arith, c.saturating_sub-size.ensures, c.len-then-end-len.ensures.value) in
+    let size : c.saturating_sub-size.result ≡ 6 + header.len - length unit.front.items =
+    omega (arith, c.saturating_sub-size.ensures, c.len-then-end-len.ensures.value) in
     let whole = whole_unit c.args.unit.now unit.packet unit.kind unit.access unit.header unit.front.items body payload header c.saturating_sub-size.result
     (c.unit.view_is, c.unit.invariant.0.1.1.1, c.in-Some.is) more enough size in
     subst (λ (found : List Found). Finds c.args.place c.args.found.now.items c.note_whole.new.found.items found)

@@ -8,29 +8,36 @@ use Rattle.demux.proofs.sections.sections.Goals as goal
 
 pub returns-then-is_stuffing-clause-found : goal.returns-then-is_stuffing-clause-found
 returns-then-is_stuffing-clause-found g c =
-    let fill : units.is_stuffing (payload_list c.loop-rest.rest) ≡ true = sym (ap units.is_stuffing c.bytes_of-bytes.ensures) ∙ sym c.is_stuffing.ensures ∙ c.if-is_stuffing.true in
+    let fill : units.is_stuffing (payload_list c.loop-rest.rest) ≡ true = sym (ap units.is_stuffing c.bytes_of-bytes.ensures) ∙ sym c.is_stuffing.ensures
+    ∙ c.if-is_stuffing.true in
     left_none (given c.args.place) _ _ _ (fill_found c.args.place.packet (payload_list c.loop-rest.rest) fill) c.loop-rest.invariant.found
 
 pub returns-then-is_stuffing-clause-last : goal.returns-then-is_stuffing-clause-last
 returns-then-is_stuffing-clause-last g c =
-    let fill : units.is_stuffing (payload_list c.loop-rest.rest) ≡ true = sym (ap units.is_stuffing c.bytes_of-bytes.ensures) ∙ sym c.is_stuffing.ensures ∙ c.if-is_stuffing.true in
-    ap (λ (o : Option (List ℕ)). option_map (units.section c.args.place.packet) o) (sym (fill_last (payload_list c.loop-rest.rest) fill) ∙ c.loop-rest.invariant.last)
+    let fill : units.is_stuffing (payload_list c.loop-rest.rest) ≡ true = sym (ap units.is_stuffing c.bytes_of-bytes.ensures) ∙ sym c.is_stuffing.ensures
+    ∙ c.if-is_stuffing.true in
+    ap (λ (o : Option (List ℕ)). option_map (units.section c.args.place.packet) o)
+    (sym (fill_last (payload_list c.loop-rest.rest) fill) ∙ c.loop-rest.invariant.last)
 
 pub returns-in-None-clause-found : goal.returns-in-None-clause-found
 returns-in-None-clause-found g c =
     let none : units.decided unit_kinds.Section c.bytes_of-bytes.result.now ≡ None = search rules in
-    let cut : units.decided unit_kinds.Section (payload_list c.loop-rest.rest) ≡ None = sym (ap (units.decided unit_kinds.Section) c.bytes_of-bytes.ensures) ∙ none in
+    let cut : units.decided unit_kinds.Section (payload_list c.loop-rest.rest) ≡ None = sym (ap (units.decided unit_kinds.Section) c.bytes_of-bytes.ensures)
+    ∙ none in
     left_none (given c.args.place) _ _ _ (cut_found c.args.place.packet (payload_list c.loop-rest.rest) cut) c.loop-rest.invariant.found
 
 pub returns-in-None-clause-last : goal.returns-in-None-clause-last
 returns-in-None-clause-last g c =
-    let fill : units.is_stuffing (payload_list c.loop-rest.rest) ≡ false = sym (ap units.is_stuffing c.bytes_of-bytes.ensures) ∙ sym c.is_stuffing.ensures ∙ c.if-is_stuffing.false in
+    let fill : units.is_stuffing (payload_list c.loop-rest.rest) ≡ false = sym (ap units.is_stuffing c.bytes_of-bytes.ensures) ∙ sym c.is_stuffing.ensures
+    ∙ c.if-is_stuffing.false in
     let none : units.decided unit_kinds.Section c.bytes_of-bytes.result.now ≡ None = search rules in
-    let cut : units.decided unit_kinds.Section (payload_list c.loop-rest.rest) ≡ None = sym (ap (units.decided unit_kinds.Section) c.bytes_of-bytes.ensures) ∙ none in
+    let cut : units.decided unit_kinds.Section (payload_list c.loop-rest.rest) ≡ None = sym (ap (units.decided unit_kinds.Section) c.bytes_of-bytes.ensures)
+    ∙ none in
     let bytes : c.new.result.items ++ c.in_ok-bytes-in-None.bytes.items ≡ payload_list c.loop-rest.rest =
     ap (λ (front : List ℕ). front ++ c.in_ok-bytes-in-None.bytes.items) c.new.ensures ∙ c.in_ok-bytes-in-None.ensures.items ∙ c.bytes_of-bytes.ensures in
     ap (λ (x : List ℕ). Some (units.section c.args.place.packet x)) bytes
-    ∙ ap (λ (o : Option (List ℕ)). option_map (units.section c.args.place.packet) o) (sym (cut_last (payload_list c.loop-rest.rest) fill cut) ∙ c.loop-rest.invariant.last)
+    ∙ ap (λ (o : Option (List ℕ)). option_map (units.section c.args.place.packet) o)
+    (sym (cut_last (payload_list c.loop-rest.rest) fill cut) ∙ c.loop-rest.invariant.last)
 
 pub loop-rest-preserved : goal.loop-rest-preserved
 loop-rest-preserved g c =
@@ -45,7 +52,9 @@ loop-rest-preserved g c =
     let after : payload_list c.after-rest.result ≡ drop (units.taken_by rest (what_of rest verdict)) rest = c.after-rest.ensures.list ∙ skips in
     record {
       found = left_more (given c.args.place) _ _ _ _ _ _
-          (more_found c.args.place.packet rest (what_of rest verdict) fill decides ∙ ap (λ (x : List ℕ). units.about_within (units.section c.args.place.packet rest) (what_of rest verdict) ∷ units.sections_in c.args.place.packet 0 x) (sym after))
+          (more_found c.args.place.packet rest (what_of rest verdict) fill decides
+          ∙ ap (λ (x : List ℕ). units.about_within (units.section c.args.place.packet rest) (what_of rest verdict) ∷ units.sections_in c.args.place.packet 0
+          x) (sym after))
           c.in_ok-note_decided_here-in-Some.ensures.ok
           c.loop-rest.invariant.found;
       borrowed = c.after-rest.ensures.borrowed ∙ c.loop-rest.invariant.borrowed;

@@ -8,7 +8,8 @@ loop-i-preserved g c =
     let entries = c.args.states.now.entries in
     elim (slice_get_cases entries c.loop-i.i).1 [
       | inl e ↦ record {
-        found = ended_more c.args.packet c.loop-i.i (c.loop-i.i + 1) entries e.0 _ _ _ e.2 (add-one c.loop-i.i) (c.in_ok-end_at.ensures.found e.0 e.2) c.loop-i.invariant.found;
+        found = ended_more c.args.packet c.loop-i.i (c.loop-i.i + 1) entries e.0 _ _ _ e.2 (add-one c.loop-i.i) (c.in_ok-end_at.ensures.found e.0 e.2)
+            c.loop-i.invariant.found;
         joined = λ none. c.in_ok-end_at.ensures.joined (c.loop-i.invariant.joined none);
       }
       | inr e ↦ absurd (omega (arith, c.len-i-end.ensures.len, c.loop-i-test.true, e.0))

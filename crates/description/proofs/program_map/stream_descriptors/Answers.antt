@@ -12,7 +12,8 @@ push_language-requires c =
 pub append-requires : goal.append-requires
 append-requires c =
     let tag : length c.push_tag.new.out.items ≡ length (tag_bytes c.args.stream.now.tag) = ap length (rw c.new-bytes.ensures at c.push_tag.ensures) in
-    let both : length c.push_language.new.out.items ≡ length (c.push_tag.new.out.items ++ language_bytes c.args.stream.now.language) = ap length c.push_language.ensures in
+    let both : length c.push_language.new.out.items ≡ length (c.push_tag.new.out.items ++ language_bytes c.args.stream.now.language) =
+    ap length c.push_language.ensures in
     let sum = length-append c.push_tag.new.out.items (language_bytes c.args.stream.now.language) in
     let few = tag-most c.args.stream.now.tag in
     let some = language-most c.args.stream.now.language c.requires.language in

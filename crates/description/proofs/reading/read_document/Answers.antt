@@ -5,7 +5,8 @@ use Rattle.description.proofs.reading.read_document.Goals as goal
 
 pub invariant_of-result : goal.invariant_of-result
 invariant_of-result c =
-    is_in_range (view c.args.document.now) c.in-Ok.contents (sym c.key_fault.ensures ∙ c.in_default.is) c.in-Ok.ensures (sym c.joint_fault.ensures ∙ c.in-None.is)
+    is_in_range (view c.args.document.now) c.in-Ok.contents (sym c.key_fault.ensures ∙ c.in_default.is) c.in-Ok.ensures
+    (sym c.joint_fault.ensures ∙ c.in-None.is)
 
 pub returns-in-Some-joint_fault : goal.returns-in-Some-joint_fault
 returns-in-Some-joint_fault c =
@@ -14,4 +15,5 @@ returns-in-Some-joint_fault c =
 
 pub returns-in-None : goal.returns-in-None
 returns-in-None c =
-    inr (is_described (view c.args.document.now) c.in-Ok.contents (sym c.key_fault.ensures ∙ c.in_default.is) c.in-Ok.ensures (sym c.joint_fault.ensures ∙ c.in-None.is))
+    inr (is_described (view c.args.document.now) c.in-Ok.contents (sym c.key_fault.ensures ∙ c.in_default.is) c.in-Ok.ensures
+    (sym c.joint_fault.ensures ∙ c.in-None.is))

@@ -7,4 +7,5 @@ use Rattle.description_keys.proofs.owner.declares.Goals as goal
 
 pub returns : goal.returns
 returns c =
-    c.one_has_number.ensures ∙ sym (list_any-map (has_number c.args.number) view c.elements.result.now) ∙ ap (list_any (has_number c.args.number)) c.elements.ensures
+    c.one_has_number.ensures ∙ sym (list_any-map (has_number c.args.number) view c.elements.result.now)
+    ∙ ap (list_any (has_number c.args.number)) c.elements.ensures

@@ -17,7 +17,8 @@ returns-in-Ok c =
     let ok = rw (year, month, day, hour, minute, second) at (c.in-Ok.ensures.succeeds.0 refl) in
     let parts = rw (year, month, day, hour, minute, second) at c.in-Ok.ensures.value in
     let fits : SFits w64 c.to_second.result = search rules in
-    rw (to_z-of_z fits, c.to_second.ensures.value, c.to_plain.ensures) (some_seconds c.args.year c.args.month c.args.day c.args.hour c.args.minute c.args.second c.in-Ok.time ok parts)
+    rw (to_z-of_z fits, c.to_second.ensures.value, c.to_plain.ensures)
+    (some_seconds c.args.year c.args.month c.args.day c.args.hour c.args.minute c.args.second c.in-Ok.time ok parts)
 
 -- where jiff refuses, no calendar or clock has the six numbers
 pub returns-in-Err : goal.returns-in-Err

@@ -11,4 +11,5 @@ returns-in_default-clause-value c =
 
 pub returns-clause-value : goal.returns-clause-value
 returns-clause-value c =
-    c.within.ensures.value ∙ sym (read_as c.args.text.now c.in-Ok.number c.args.low c.args.high (sym c.is_decimal.ensures ∙ c.if-not-is_decimal.false) c.in-Ok.ensures.value.0.1)
+    c.within.ensures.value
+    ∙ sym (read_as c.args.text.now c.in-Ok.number c.args.low c.args.high (sym c.is_decimal.ensures ∙ c.if-not-is_decimal.false) c.in-Ok.ensures.value.0.1)

@@ -31,5 +31,6 @@ returns-then-n-piece g c =
     let new : Port = record { bytes = g.R.Read.remaining c.read_piece.new.input; failed = g.R.Source.fault_count c.read_piece.new.input } in
     front_end (λ bytes. g.T.PieceTaker.has_taken c.args.taker.now bytes c.loop-size.taker)
     (λ bytes. g.T.PieceTaker.has_taken c.args.taker.now bytes c.take_piece.new.self) g.T.PieceTaker.unit old mid new
-    c.loop-size.size c.in_ok-n.n c.read_piece.new.piece c.size_within.result c.loop-size.invariant.front c.in_ok-n.ensures (c.in_ok-take_piece.ensures.taken c.args.taker.now)
+    c.loop-size.size c.in_ok-n.n c.read_piece.new.piece c.size_within.result c.loop-size.invariant.front c.in_ok-n.ensures
+    (c.in_ok-take_piece.ensures.taken c.args.taker.now)
     (omega (arith, c.if-n-piece.true)) c.size_within.ensures.ok c.size_within.ensures.err

@@ -13,7 +13,8 @@ pub returns-in-Some : goal.returns-in-Some
 returns-in-Some c =
     let i = c.loop-i.i in
     let lines = c.args.lines.now in
-    equal_found c.args.keys (get_or lines i (record { ref_ptr = (0, 0); now = [] })).now (option_map row_shown c.row_like.result) (row_shown c.in-Some.other) i lines (record { ref_ptr = (0, 0); now = [] }) _ c.loop-i-test.true refl
+    equal_found c.args.keys (get_or lines i (record { ref_ptr = (0, 0); now = [] })).now (option_map row_shown c.row_like.result) (row_shown c.in-Some.other) i
+    lines (record { ref_ptr = (0, 0); now = [] }) _ c.loop-i-test.true refl
     (c.row_like.ensures ∙ ap (λ (v : Option (List ℕ)). row_like c.args.keys v (i + 1 + 1) (shown (drop (i + 1) lines))) c.value_on.ensures)
     (ap (option_map row_shown) c.in-Some.is) c.loop-i.invariant
 
@@ -21,7 +22,8 @@ pub loop-i-preserved : goal.loop-i-preserved
 loop-i-preserved c =
     let i = c.loop-i.i in
     let lines = c.args.lines.now in
-    equal_goes_on c.args.keys (get_or lines i (record { ref_ptr = (0, 0); now = [] })).now (option_map row_shown c.row_like.result) i lines (record { ref_ptr = (0, 0); now = [] }) _ c.loop-i-test.true refl
+    equal_goes_on c.args.keys (get_or lines i (record { ref_ptr = (0, 0); now = [] })).now (option_map row_shown c.row_like.result) i lines
+    (record { ref_ptr = (0, 0); now = [] }) _ c.loop-i-test.true refl
     (c.row_like.ensures ∙ ap (λ (v : Option (List ℕ)). row_like c.args.keys v (i + 1 + 1) (shown (drop (i + 1) lines))) c.value_on.ensures)
     (ap (option_map row_shown) c.in_default.is) c.loop-i.invariant
 

@@ -20,4 +20,5 @@ loop-at-preserved g c =
     }
 
 pub returns : goal.returns
-returns g c = dts_end (apart_dts 0 c.args.found.now) c.loop-at.dts.items c.loop-at.at c.args.found.now c.loop-at.place c.loop-at.invariant.all c.loop-at-test.false
+returns g c = dts_end (apart_dts 0 c.args.found.now) c.loop-at.dts.items c.loop-at.at c.args.found.now c.loop-at.place c.loop-at.invariant.all
+    c.loop-at-test.false

@@ -18,7 +18,8 @@ returns-then-row-group c = λ units is.
 
 pub overflow_add-row : goal.overflow_add-row
 overflow_add-row c =
-    let entering = entering_is c.args.group c.loop-at.at c.min.result c.args.numbers.now c.split_at.result.1.now c.min.ensures c.split_at.ensures.back c.loop-at-test.true in
+    let entering = entering_is c.args.group c.loop-at.at c.min.result c.args.numbers.now c.split_at.result.1.now c.min.ensures c.split_at.ensures.back
+    c.loop-at-test.true in
     omega (
       arith,
       entering.1,
@@ -31,12 +32,14 @@ overflow_add-row c =
 
 pub overflow_sub-row : goal.overflow_sub-row
 overflow_sub-row c =
-    let entering = entering_is c.args.group c.loop-at.at c.min.result c.args.numbers.now c.split_at.result.1.now c.min.ensures c.split_at.ensures.back c.loop-at-test.true in
+    let entering = entering_is c.args.group c.loop-at.at c.min.result c.args.numbers.now c.split_at.result.1.now c.min.ensures c.split_at.ensures.back
+    c.loop-at-test.true in
     omega (arith, entering.1, row_step c.args.group c.loop-at.at c.args.numbers.now entering.0, c.loop-at.invariant.row)
 
 pub loop-at-preserved : goal.loop-at-preserved
 loop-at-preserved c =
-    let entering = entering_is c.args.group c.loop-at.at c.min.result c.args.numbers.now c.split_at.result.1.now c.min.ensures c.split_at.ensures.back c.loop-at-test.true in
+    let entering = entering_is c.args.group c.loop-at.at c.min.result c.args.numbers.now c.split_at.result.1.now c.min.ensures c.split_at.ensures.back
+    c.loop-at-test.true in
     record {
       most = λ units is. omega (
         arith,
@@ -50,7 +53,8 @@ loop-at-preserved c =
 
 pub returns : goal.returns
 returns c = λ units is.
-    let over = none_enters c.args.group c.loop-at.at c.min.result c.args.numbers.now c.split_at.result.1.now c.min.ensures c.split_at.ensures.back c.loop-at-test.false in
+    let over = none_enters c.args.group c.loop-at.at c.min.result c.args.numbers.now c.split_at.result.1.now c.min.ensures c.split_at.ensures.back
+    c.loop-at-test.false in
     omega (
       arith,
       c.loop-at.invariant.most units is,

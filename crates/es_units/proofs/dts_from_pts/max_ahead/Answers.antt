@@ -9,8 +9,10 @@ returns-in_default c =
 
 pub loop-moment-preserved : goal.loop-moment-preserved
 loop-moment-preserved c =
-    let step = ahead_more c.loop-moment.moment-index c.in-Some.first.now c.loop-moment.later.now c.in-Some.rest.now c.args.moments.now c.loop-moment-test.true c.in-Some.ensures.cases.0 in
-    let made : c.max-greatest.result ≡ max c.loop-moment.greatest (c.in-Some.first.now - get_or c.args.moments.now c.loop-moment.moment-index 0) = search rules in
+    let step = ahead_more c.loop-moment.moment-index c.in-Some.first.now c.loop-moment.later.now c.in-Some.rest.now c.args.moments.now c.loop-moment-test.true
+    c.in-Some.ensures.cases.0 in
+    let made : c.max-greatest.result ≡ max c.loop-moment.greatest (c.in-Some.first.now - get_or c.args.moments.now c.loop-moment.moment-index 0) =
+    search rules in
     omega (arith, c.loop-moment.invariant, step, made)
 
 pub returns : goal.returns

@@ -4,7 +4,8 @@ use Rattle.es_units.specs.Shown.{role_view}
 use Rattle.es_units.specs.CarriedUnits.{RoleView, role_of, units_in}
 use Rattle.es_units.specs.UnitWarnings.{current_after}
 use Rattle.es_units.specs.UnitSteps.{UnitsSoFar, cuts, goes_on_as, has_cut, made_whole, after_finding}
-use Rattle.es_units.proofs.UnitSteps.{units_with, units_start, units_step, units_skip, units_finish, cut_start, cut_step, cut_skip, cut_finish, id_under_way, same_id}
+use Rattle.es_units.proofs.UnitSteps.{units_with, units_start, units_step, units_skip, units_finish, cut_start, cut_step, cut_skip, cut_finish, id_under_way}
+use Rattle.es_units.proofs.UnitSteps.{same_id}
 use Rattle.es_units.proofs.found.units_by.Goals as goal
 
 pub loop-finding-init : goal.loop-finding-init
@@ -45,7 +46,8 @@ loop-finding-preserved g c =
     let after = c.take_role.new.self in
     let taken = c.in_ok-unit.ensures in
     let role : role_view c.role_of-role.result ≡ role_of before.pid (view f) = c.role_of-role.ensures ∙ ap (λ (p : ℕ). role_of p (view f)) (sym inv.pid) in
-    let goes : after ≡ after_finding before (view f) = taken.kept ∙ ap (λ (r : RoleView). let s : UnitsSoFar = record before { unit = goes_on_as before.unit r } in s) role in
+    let goes : after ≡ after_finding before (view f) =
+    taken.kept ∙ ap (λ (r : RoleView). let s : UnitsSoFar = record before { unit = goes_on_as before.unit r } in s) role in
     let cut_as : c.cuts_any-cut.result ≡ (c.loop-finding.cut || cuts (id_under_way before.unit) (role_of pid (view f))) =
     c.cuts_any-cut.ensures ∙ ap₂ (λ (o : Option ℕ) (r : RoleView). c.loop-finding.cut || cuts o r) c.stream_id.ensures c.role_of-role.ensures in
     record {
@@ -55,7 +57,8 @@ loop-finding-preserved g c =
           c.loop-finding-test.true c.finding-item.is inv.units (taken.given ∙ ap (made_whole before.split before.unit) role) goes c.in_ok-push_unit.ensures;
       cut = cut_step view pid c.loop-finding.finding-index fs f (id_under_way before.unit) (id_under_way after.unit)
           c.loop-finding.cut c.cuts_any-cut.result (has_cut pid (map view fs)) c.loop-finding-test.true c.finding-item.is cut_as
-          (ap (λ (s : UnitsSoFar). id_under_way s.unit) taken.kept ∙ same_id before.unit (role_view c.role_of-role.result) ∙ ap (current_after (id_under_way before.unit)) c.role_of-role.ensures) inv.cut;
+          (ap (λ (s : UnitsSoFar). id_under_way s.unit) taken.kept ∙ same_id before.unit (role_view c.role_of-role.result)
+          ∙ ap (current_after (id_under_way before.unit)) c.role_of-role.ensures) inv.cut;
     }
 
 pub returns-clause-units : goal.returns-clause-units

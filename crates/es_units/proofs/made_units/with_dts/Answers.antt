@@ -13,7 +13,8 @@ units-preserved g c =
     let made : c.restamped.result ≡ unit_with u.packet u.stream_id c.in-Some-split_first.first.now u.unit.pts u.unit.marks u.unit.bytes = search rules in
     let pushed : c.push.new.self.items ≡ c.units.units.items ++ c.restamped.result ∷ [] = search rules in
     c.units.invariant
-    ∙ dts_more c.units.later.now later c.in-Some-split_first.first.now c.units.left.items rest c.units.units.items u c.restamped.result c.in-Some-split_first.ensures.cases.0 c.in-Some.ensures.items made
+    ∙ dts_more c.units.later.now later c.in-Some-split_first.first.now c.units.left.items rest c.units.units.items u c.restamped.result
+    c.in-Some-split_first.ensures.cases.0 c.in-Some.ensures.items made
     ∙ ap (λ (l : List CarriedUnit). l ++ with_dts later rest) (sym pushed)
 
 pub returns-in_default-split_first : goal.returns-in_default-split_first

@@ -26,4 +26,5 @@ returns-in-Some g c =
 
 pub returns : goal.returns
 returns g c =
-    sym (c.loop-finding.invariant ∙ first_end (finding_view {A = g.row.A.Denot}) c.args.pid c.loop-finding.finding-index c.args.findings.now c.loop-finding-test.false)
+    sym (c.loop-finding.invariant ∙ first_end (finding_view {A = g.row.A.Denot}) c.args.pid c.loop-finding.finding-index c.args.findings.now
+    c.loop-finding-test.false)

@@ -25,4 +25,5 @@ returns-in-Some g c =
 
 pub returns : goal.returns
 returns g c =
-    sym (c.loop-finding.invariant ∙ cut_end (finding_view {A = g.row.A.Denot}) c.args.id c.args.pid c.loop-finding.finding-index c.args.later.now c.loop-finding-test.false)
+    sym (c.loop-finding.invariant ∙ cut_end (finding_view {A = g.row.A.Denot}) c.args.id c.args.pid c.loop-finding.finding-index c.args.later.now
+    c.loop-finding-test.false)

@@ -6,4 +6,5 @@ use Rattle.es_units.proofs.split_units.is_split.Given as goal
 
 abbrev pub invariant-loop-finding : goal.invariant-loop-finding
 invariant-loop-finding g l =
-    list_any (λ x. is_part l.first (role_of l.pid x)) (map finding_view l.findings) ≡ list_any (λ x. is_part l.first (role_of l.pid x)) (map finding_view (drop l.finding-index l.findings))
+    list_any (λ x. is_part l.first (role_of l.pid x)) (map finding_view l.findings) ≡ list_any (λ x. is_part l.first (role_of l.pid x))
+    (map finding_view (drop l.finding-index l.findings))

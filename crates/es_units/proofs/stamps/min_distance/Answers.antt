@@ -16,4 +16,5 @@ loop-stamp-preserved c =
     }
 
 pub returns-clause-value : goal.returns-clause-value
-returns-clause-value c = sym (c.loop-stamp.invariant.least ∙ after_end c.args.from c.loop-stamp.least c.loop-stamp.stamp-index c.args.stamps.now c.loop-stamp-test.false)
+returns-clause-value c =
+    sym (c.loop-stamp.invariant.least ∙ after_end c.args.from c.loop-stamp.least c.loop-stamp.stamp-index c.args.stamps.now c.loop-stamp-test.false)

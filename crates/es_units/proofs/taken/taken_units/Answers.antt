@@ -40,7 +40,8 @@ findings-preserved g c =
       units = units_step view taker c.take_next.new.taker at fs f (made_whole taker.split taker.unit (role_of taker.pid (view f)))
           (carried_units c.args.pid (map view all)) c.findings.units.items c.take_next.new.units.items
           c.findings-test.true here inv.units refl kept c.in_ok-take_next.ensures.units
-          ∙ ap (λ (l : List _). c.take_next.new.units.items ++ units_with c.take_next.new.taker.split c.take_next.new.taker.pid c.take_next.new.taker.unit (map view l)) (sym past);
+          ∙ ap (λ (l : List _). c.take_next.new.units.items ++ units_with c.take_next.new.taker.split c.take_next.new.taker.pid c.take_next.new.taker.unit
+          (map view l)) (sym past);
     }
 
 pub returns-clause-units : goal.returns-clause-units

@@ -9,7 +9,8 @@ abbrev pub invariant-findings : goal.invariant-findings
 invariant-findings g l = record {
   pid : l.taker.pid ≡ l.pid;
   others : OthersStay l.pid (map finding_view l.fn.findings) (map finding_view l.findings);
-  units : carried_units l.pid (map finding_view l.fn.findings) ≡ l.units.items ++ units_with l.taker.split l.taker.pid l.taker.unit (map finding_view (drop l.at l.findings));
+  units : carried_units l.pid (map finding_view l.fn.findings) ≡ l.units.items
+      ++ units_with l.taker.split l.taker.pid l.taker.unit (map finding_view (drop l.at l.findings));
 }
 
 abbrev pub decreases-findings : goal.decreases-findings

@@ -14,7 +14,8 @@ units-preserved g c =
     let made : c.unit_at.result ≡ at.unit_at m u = search rules in
     let pushed : c.push.new.self.items ≡ c.units.units.items ++ c.unit_at.result ∷ [] = search rules in
     c.units.invariant
-    ∙ at_more c.units.later.now later m c.units.left.items rest u c.units.units.items c.unit_at.result c.in-Some-split_first.ensures.cases.0 c.in-Some.ensures.items made
+    ∙ at_more c.units.later.now later m c.units.left.items rest u c.units.units.items c.unit_at.result c.in-Some-split_first.ensures.cases.0
+    c.in-Some.ensures.items made
     ∙ ap (λ (l : List AccessUnit). l ++ units_at later rest) (sym pushed)
 
 pub returns-in_default-split_first : goal.returns-in_default-split_first

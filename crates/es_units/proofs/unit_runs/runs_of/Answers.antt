@@ -8,7 +8,8 @@ use Rattle.es_units.proofs.unit_runs.runs_of.Goals as goal
 
 pub loop-weight-preserved : goal.loop-weight-preserved
 loop-weight-preserved g c = record {
-  steps = counted_more c.loop-weight.weight-index c.loop-weight.last c.saturating_sub-time.result c.args.weights.now (get_or c.args.weights.now c.loop-weight.weight-index none)
+  steps = counted_more c.loop-weight.weight-index c.loop-weight.last c.saturating_sub-time.result c.args.weights.now
+      (get_or c.args.weights.now c.loop-weight.weight-index none)
       _ _ _ c.loop-weight-test.true refl c.saturating_sub-time.ensures c.in_ok-run.ensures.steps c.loop-weight.invariant.steps;
   run = c.in_ok-run.ensures.next;
   runs = c.in_ok-run.ensures.runs;
@@ -22,4 +23,5 @@ returns-clause-steps g c =
     ∙ append-nil (flat_map steps_of c.loop-weight.runs.items ++ steps_of c.loop-weight.run))
 
 pub returns-clause-runs : goal.returns-clause-runs
-returns-clause-runs g c = rw c.in_ok-push.ensures.items (All-push IsRun c.loop-weight.runs.items c.loop-weight.run c.loop-weight.invariant.runs c.loop-weight.invariant.run)
+returns-clause-runs g c =
+    rw c.in_ok-push.ensures.items (All-push IsRun c.loop-weight.runs.items c.loop-weight.run c.loop-weight.invariant.runs c.loop-weight.invariant.run)

@@ -6,7 +6,8 @@ use Rattle.es_units.proofs.unit_weights.unit_weights.Goals as goal
 
 pub loop-unit-preserved : goal.loop-unit-preserved
 loop-unit-preserved g c = record {
-  weights = λ id. weight_more id c.args.base0 c.loop-unit.unit-index c.args.units.now c.unit-item.result c.weight_of.result c.loop-unit.weights.items c.push.new.self.items
+  weights = λ id. weight_more id c.args.base0 c.loop-unit.unit-index c.args.units.now c.unit-item.result c.weight_of.result c.loop-unit.weights.items
+      c.push.new.self.items
       c.loop-unit-test.true c.unit-item.is (c.weight_of.ensures.value id) (c.loop-unit.invariant.weights id) c.in_ok-push.ensures.items;
   bound = rw c.in_ok-push.ensures.items (All-push IsWeight c.loop-unit.weights.items c.weight_of.result c.loop-unit.invariant.bound c.weight_of.ensures.bound);
 }

@@ -41,4 +41,5 @@ returns-in_default g c =
 pub returns : goal.returns
 returns g c =
     sym (c.loop-finding.invariant
-    ∙ ap (λ (xs : List ℕ). length xs == 0) (continuation_end (finding_view {A = g.row.A.Denot}) c.args.id c.args.pid c.loop-finding.finding-index c.args.later.now c.loop-finding-test.false))
+    ∙ ap (λ (xs : List ℕ). length xs == 0)
+    (continuation_end (finding_view {A = g.row.A.Denot}) c.args.id c.args.pid c.loop-finding.finding-index c.args.later.now c.loop-finding-test.false))

@@ -29,7 +29,8 @@ loop-at-preserved-then-not-is_on g c =
           ∙ ap (λ (ws : List UnitWarning). c.loop-at.out.items ++ ws)
           (left_skip view c.args.split c.args.pid c.args.count c.loop-at.at c.loop-at.current fs
           f c.loop-at-test.true c.index-findings-at.is (sym c.is_on.ensures.same ∙ c.if-not-is_on.true));
-      cut = cut_skip view c.args.pid c.loop-at.at fs f c.loop-at.current c.loop-at.cut (has_cut c.args.pid (map view fs)) c.loop-at-test.true c.index-findings-at.is
+      cut = cut_skip view c.args.pid c.loop-at.at fs f c.loop-at.current c.loop-at.cut (has_cut c.args.pid (map view fs)) c.loop-at-test.true
+          c.index-findings-at.is
           (c.is_on.ensures.other c.if-not-is_on.true) inv.cut;
     }
 
@@ -40,7 +41,8 @@ loop-at-preserved g c =
     let fs = c.args.findings.now in
     let f = c.index-findings-at.result in
     let later : c.split_at.result.1.now ≡ drop (c.loop-at.at + 1) fs = search rules in
-    let made = c.in_ok-push_warning.ensures ∙ ap₂ (λ (n : ℕ) (cause : Option UnitWarningCause). c.loop-at.out.items ++ warning_list n cause) c.first_packet-packet.ensures c.cause_of.ensures in
+    let made = c.in_ok-push_warning.ensures ∙ ap₂ (λ (n : ℕ) (cause : Option UnitWarningCause). c.loop-at.out.items ++ warning_list n cause)
+    c.first_packet-packet.ensures c.cause_of.ensures in
     let goes = c.current_after-current.ensures ∙ ap (λ (r : RoleView). current_after c.loop-at.current r) c.role_of-role.ensures in
     let cut_as = c.cuts_any-cut.ensures ∙ ap (λ (r : RoleView). c.loop-at.cut || cuts c.loop-at.current r) c.role_of-role.ensures in
     record {
@@ -55,7 +57,8 @@ pub returns-clause-warnings : goal.returns-clause-warnings
 returns-clause-warnings g c =
     let view = finding_view {A = g.row.A.Denot} in
     sym (c.loop-at.invariant.warnings
-    ∙ ap (λ (out : List UnitWarning). c.loop-at.out.items ++ out) (left_end view c.args.split c.args.pid c.args.count c.loop-at.at c.loop-at.current c.args.findings.now c.loop-at-test.false)
+    ∙ ap (λ (out : List UnitWarning). c.loop-at.out.items ++ out)
+    (left_end view c.args.split c.args.pid c.args.count c.loop-at.at c.loop-at.current c.args.findings.now c.loop-at-test.false)
     ∙ append-nil c.loop-at.out.items)
 
 pub returns-clause-cut : goal.returns-clause-cut

@@ -7,6 +7,7 @@ use Rattle.es_units.proofs.warnings.warnings_by.Given as goal
 
 abbrev pub invariant-loop-at : goal.invariant-loop-at
 invariant-loop-at g l = record {
-  warnings : warnings_from l.split l.pid l.count None (map finding_view l.findings) ≡ l.out.items ++ warnings_from l.split l.pid l.count l.current (map finding_view (drop l.at l.findings));
+  warnings : warnings_from l.split l.pid l.count None (map finding_view l.findings) ≡ l.out.items
+      ++ warnings_from l.split l.pid l.count l.current (map finding_view (drop l.at l.findings));
   cut : has_cut l.pid (map finding_view l.findings) ≡ (l.cut || cut_with l.pid l.current (map finding_view (drop l.at l.findings)));
 }

@@ -16,5 +16,6 @@ returns c =
     let f_inaccuracy : c.number-6.result ≡ number_field (codes "inaccuracy") e.inaccuracy = search rules in
     subst (λ (fields : List FieldView). OnOk c.write_line.result (string_bytes c.write_line.new.text
     ≡ string_bytes c.args.text.now ++ line_of c.args.json (codes "clock") fields))
-    (six c.number.result c.number-2.result c.number-3.result c.number-4.result c.number-5.result c.number-6.result _ _ _ _ _ _ f_pid f_references f_announced f_rate f_interval f_inaccuracy)
+    (six c.number.result c.number-2.result c.number-3.result c.number-4.result c.number-5.result c.number-6.result _ _ _ _ _ _ f_pid f_references f_announced
+    f_rate f_interval f_inaccuracy)
     c.write_line.ensures

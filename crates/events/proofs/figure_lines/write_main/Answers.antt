@@ -17,5 +17,6 @@ returns c =
     let f_unread : c.number-7.result ≡ number_field (codes "unread") e.unread = search rules in
     subst (λ (fields : List FieldView). OnOk c.write_line.result (string_bytes c.write_line.new.text
     ≡ string_bytes c.args.text.now ++ line_of c.args.json (codes "main") fields))
-    (seven c.number.result c.number-2.result c.number-3.result c.number-4.result c.number-5.result c.number-6.result c.number-7.result _ _ _ _ _ _ _ f_pid f_most f_size f_excesses f_units f_late f_unread)
+    (seven c.number.result c.number-2.result c.number-3.result c.number-4.result c.number-5.result c.number-6.result c.number-7.result _ _ _ _ _ _ _ f_pid
+    f_most f_size f_excesses f_units f_late f_unread)
     c.write_line.ensures

@@ -17,5 +17,6 @@ returns c =
     let f_main_excesses : c.number-7.result ≡ number_field (codes "main_excesses") e.main_excesses = search rules in
     subst (λ (fields : List FieldView). OnOk c.write_line.result (string_bytes c.write_line.new.text
     ≡ string_bytes c.args.text.now ++ line_of c.args.json (codes "system") fields))
-    (seven c.number.result c.number-2.result c.number-3.result c.number-4.result c.number-5.result c.number-6.result c.number-7.result _ _ _ _ _ _ _ f_program f_transport f_transport_size f_transport_excesses f_main f_main_size f_main_excesses)
+    (seven c.number.result c.number-2.result c.number-3.result c.number-4.result c.number-5.result c.number-6.result c.number-7.result _ _ _ _ _ _ _ f_program
+    f_transport f_transport_size f_transport_excesses f_main f_main_size f_main_excesses)
     c.write_line.ensures

@@ -16,5 +16,6 @@ returns c =
     let f_limit : c.number-6.result ≡ number_field (codes "limit") e.limit = search rules in
     subst (λ (fields : List FieldView). OnOk c.write_line.result (string_bytes c.write_line.new.text
     ≡ string_bytes c.args.text.now ++ line_of c.args.json (codes "table") fields))
-    (six c.number.result c.number-2.result c.number-3.result c.number-4.result c.number-5.result c.number-6.result _ _ _ _ _ _ f_pid f_table f_sections f_interval f_packet f_limit)
+    (six c.number.result c.number-2.result c.number-3.result c.number-4.result c.number-5.result c.number-6.result _ _ _ _ _ _ f_pid f_table f_sections
+    f_interval f_packet f_limit)
     c.write_line.ensures

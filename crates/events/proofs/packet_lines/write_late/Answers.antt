@@ -16,5 +16,6 @@ returns c =
     let f_bytes : c.number-6.result ≡ number_field (codes "bytes") e.bytes = search rules in
     subst (λ (fields : List FieldView). OnOk c.write_line.result (string_bytes c.write_line.new.text
     ≡ string_bytes c.args.text.now ++ line_of c.args.json (codes "late") fields))
-    (six c.number.result c.number-2.result c.number-3.result c.number-4.result c.number-5.result c.number-6.result _ _ _ _ _ _ f_pid f_packet f_due f_left f_by f_bytes)
+    (six c.number.result c.number-2.result c.number-3.result c.number-4.result c.number-5.result c.number-6.result _ _ _ _ _ _ f_pid f_packet f_due f_left f_by
+    f_bytes)
     c.write_line.ensures

@@ -18,5 +18,6 @@ returns c =
     let f_packet : c.number-6.result ≡ number_field (codes "packet") e.packet = search rules in
     subst (λ (fields : List FieldView). OnOk c.write_line.result (string_bytes c.write_line.new.text
     ≡ string_bytes c.args.text.now ++ line_of c.args.json (codes "stream") fields))
-    (seven c.number.result c.number-2.result c.number-3.result c.word.result c.number-4.result c.number-5.result c.number-6.result _ _ _ _ _ _ _ f_pid f_program f_type f_coding f_rx f_main f_packet)
+    (seven c.number.result c.number-2.result c.number-3.result c.word.result c.number-4.result c.number-5.result c.number-6.result _ _ _ _ _ _ _ f_pid f_program
+    f_type f_coding f_rx f_main f_packet)
     c.write_line.ensures

@@ -11,7 +11,8 @@ returns c =
     let f : c.word-2.result ≡ word_field (codes "kind") (word_of c.args.e.now.kind) = search rules in
     let kind : string_bytes c.write_field.new.text
     ≡ string_bytes c.write_first.new.text ++ field_text c.args.json (word_field (codes "kind") (word_of c.args.e.now.kind)) =
-    subst (λ (x : FieldView). string_bytes c.write_field.new.text ≡ string_bytes c.write_first.new.text ++ field_text c.args.json x) f c.in_ok-write_field.ensures in
+    subst (λ (x : FieldView). string_bytes c.write_field.new.text ≡ string_bytes c.write_first.new.text ++ field_text c.args.json x) f
+    c.in_ok-write_field.ensures in
     on_ok c.write_times.result
     (λ e. six _ _ _ _ _ _ _ _ _ _ _ _ _ c.in_ok-write_first.ensures kind c.in_ok-write_source.ensures
     c.in_ok-write_count.ensures c.in_ok-write_worst.ensures e) c.write_times.ensures

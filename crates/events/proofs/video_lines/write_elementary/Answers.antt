@@ -16,5 +16,6 @@ returns c =
     let f_late : c.number-6.result ≡ number_field (codes "late") e.late = search rules in
     subst (λ (fields : List FieldView). OnOk c.write_line.result (string_bytes c.write_line.new.text
     ≡ string_bytes c.args.text.now ++ line_of c.args.json (codes "elementary") fields))
-    (six c.number.result c.number-2.result c.number-3.result c.number-4.result c.number-5.result c.number-6.result _ _ _ _ _ _ f_pid f_most f_size f_excesses f_units f_late)
+    (six c.number.result c.number-2.result c.number-3.result c.number-4.result c.number-5.result c.number-6.result _ _ _ _ _ _ f_pid f_most f_size f_excesses
+    f_units f_late)
     c.write_line.ensures

@@ -18,5 +18,6 @@ returns c =
     let f_cause : c.word-2.result ≡ word_field (codes "cause") (word_of e.cause) = search rules in
     subst (λ (fields : List FieldView). OnOk c.write_line.result (string_bytes c.write_line.new.text
     ≡ string_bytes c.args.text.now ++ line_of c.args.json (codes "elementary_late") fields))
-    (seven c.number.result c.number-2.result c.number-3.result c.number-4.result c.number-5.result c.number-6.result c.word-2.result _ _ _ _ _ _ _ f_pid f_packet f_due f_left f_by f_bytes f_cause)
+    (seven c.number.result c.number-2.result c.number-3.result c.number-4.result c.number-5.result c.number-6.result c.word-2.result _ _ _ _ _ _ _ f_pid
+    f_packet f_due f_left f_by f_bytes f_cause)
     c.write_line.ensures

@@ -15,7 +15,8 @@ returns-clause-moved c = λ d p findings units n k s base ranges serving are few
     let kept = (all_kept units_kept false line findings units ranges are).kept k s is in
     let back = (c.carried.ensures d p findings units n ranges serving are few).given_back in
     let sixteen = units_sixteen false findings d units are k s is in
-    again base line (apart_wire_units s.pid findings) units n k s (output_of false line (job_history units n)) (c.accepted_plan.ensures d p ranges serving) is kept sixteen moved due back
+    again base line (apart_wire_units s.pid findings) units n k s (output_of false line (job_history units n)) (c.accepted_plan.ensures d p ranges serving) is
+    kept sixteen moved due back
 
 pub returns-clause-own : goal.returns-clause-own
 returns-clause-own c = λ d p findings units n k s base ranges serving are few is moved due.
@@ -23,7 +24,8 @@ returns-clause-own c = λ d p findings units n k s base ranges serving are few i
     let kept = (all_kept units_kept false line findings units ranges are).kept k s is in
     let back = (c.carried.ensures d p findings units n ranges serving are few).given_back in
     let sixteen = units_sixteen false findings d units are k s is in
-    again base line (wire_units s.pid findings) units n k s (output_of false line (job_history units n)) (c.accepted_plan.ensures d p ranges serving) is kept sixteen moved due back
+    again base line (wire_units s.pid findings) units n k s (output_of false line (job_history units n)) (c.accepted_plan.ensures d p ranges serving) is kept
+    sixteen moved due back
 
 pub returns-clause-same : goal.returns-clause-same
 returns-clause-same c = λ d p findings units n k s ranges serving are few is moved due stamps.
@@ -31,5 +33,6 @@ returns-clause-same c = λ d p findings units n k s ranges serving are few is mo
     let kept = (all_kept units_kept false line findings units ranges are).kept k s is in
     let back = (c.carried.ensures d p findings units n ranges serving are few).given_back in
     let sixteen = units_sixteen false findings d units are k s is in
-    again d.base0 line (apart_wire_units s.pid findings) units n k s (output_of false line (job_history units n)) (c.accepted_plan.ensures d p ranges serving) is kept sixteen moved due back
+    again d.base0 line (apart_wire_units s.pid findings) units n k s (output_of false line (job_history units n)) (c.accepted_plan.ensures d p ranges serving)
+    is kept sixteen moved due back
     ∙ same_stamps d.base0 (apart_wire_units s.pid findings) stamps

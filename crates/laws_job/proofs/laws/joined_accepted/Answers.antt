@@ -5,4 +5,5 @@ use Rattle.laws_job.proofs.AcceptedUnits.{none_refused_in}
 use Rattle.laws_job.proofs.laws.joined_accepted.Goals as goal
 
 pub returns : goal.returns
-returns c = λ made line inputs origins units ranges are. c.room_for_all.ensures line units ∙ none_refused_in units_kept taken_one_by_one made line inputs origins units ranges are
+returns c = λ made line inputs origins units ranges are. c.room_for_all.ensures line units
+    ∙ none_refused_in units_kept taken_one_by_one made line inputs origins units ranges are

@@ -13,7 +13,8 @@ loop-i-preserved g c =
     let ends = map finding_view c.end_of_pid.new.found.items in
     let empty : none ≡ [] = ap (λ xs. map finding_view xs) c.new-ends.ensures.items in
     let less : c.loop-i.i < length demux.states = omega (arith, c.loop-i-test.true, c.pids-i-end.ensures) in
-    let noted : c.note_all.new.self ≡ all_noted found ends = c.in_ok-note_all.ensures ∙ ap (λ xs. all_noted found (map finding_view xs)) c.as_slice.ensures.value in
+    let noted : c.note_all.new.self ≡ all_noted found ends =
+    c.in_ok-note_all.ensures ∙ ap (λ xs. all_noted found (map finding_view xs)) c.as_slice.ensures.value in
     ap (λ n. all_noted c.note_all.new.self (ended_found demux.packets (drop n demux.states))) (add-one c.loop-i.i)
     ∙ ends_more demux.packets c.loop-i.i demux.states found c.note_all.new.self none ends less empty c.in_ok-end_of_pid.ensures noted
     ∙ c.loop-i.invariant

@@ -5,7 +5,8 @@ use Rattle.std.proofs.lemmas.List.Sorted.{Contains-permutation, IsPermutation-sy
 use Rattle.monitor.proofs.reports.each_once.Goals as goal
 
 pub returns-clause-order : goal.returns-clause-order
-returns-clause-order g c = rw (dedup_is _ _ _ c.dedup.ensures.filtered) (IsStrictlySortedBy-dedup g.met.T.Ord.total g.met.T.Ord.matches_eq _ c.sort_unstable.ensures.sorted)
+returns-clause-order g c =
+    rw (dedup_is _ _ _ c.dedup.ensures.filtered) (IsStrictlySortedBy-dedup g.met.T.Ord.total g.met.T.Ord.matches_eq _ c.sort_unstable.ensures.sorted)
 
 pub returns-clause-kept : goal.returns-clause-kept
 returns-clause-kept g c = let is = dedup_is _ _ _ c.dedup.ensures.filtered in

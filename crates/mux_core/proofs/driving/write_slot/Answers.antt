@@ -9,7 +9,8 @@ returns-in-Ok-clause-stands g c = λ h st. slot_given h c.args.mux.now c.next_pa
 pub returns-in-Ok-clause-written : goal.returns-in-Ok-clause-written
 returns-in-Ok-clause-written g c = λ h st.
     let items : c.extend_from_slice.new.self.items ≡ c.args.out.now.items ++ c.in-Ok.packet = search rules in
-    subst (λ (l : List ℕ). Adds c.args.mux.now.schedule h (step_history c.args.mux.now.schedule c.args.mux.now.capacity h SlotStep) c.args.out.now.items l) (sym items)
+    subst (λ (l : List ℕ). Adds c.args.mux.now.schedule h (step_history c.args.mux.now.schedule c.args.mux.now.capacity h SlotStep) c.args.out.now.items l)
+    (sym items)
     (slot_added h c.args.mux.now c.next_packet.new.self c.in-Ok.packet c.args.out.now.items (c.in-Ok.ensures.next h st))
 
 pub returns-in_default-clause-stands : goal.returns-in_default-clause-stands

@@ -5,7 +5,8 @@ pub new-requires : goal.new-requires
 new-requires g c =
     let at = rw c.streams-stream-items.ensures.value at c.stream-item.is in
     rw c.parameters_of-parameters.ensures
-    (parameters_here c.args.description.now c.loop-stream.stream-index c.stream-item.result c.keeps_ranges.ensures at (rw c.streams-stream-items.ensures.value at c.loop-stream-test.true))
+    (parameters_here c.args.description.now c.loop-stream.stream-index c.stream-item.result c.keeps_ranges.ensures at
+    (rw c.streams-stream-items.ensures.value at c.loop-stream-test.true))
 
 pub loop-stream-preserved : goal.loop-stream-preserved
 loop-stream-preserved g c =

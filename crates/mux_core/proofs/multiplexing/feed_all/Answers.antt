@@ -8,7 +8,8 @@ pub units-preserved : goal.units-preserved
 units-preserved g c = record {
   index = omega (arith, c.units.invariant.index, ap (length {A = ℕ × AccessUnit}) c.in-Some.ensures.items);
   fed = λ st.
-      let w = subst (λ (l : List (ℕ × AccessUnit)). FedSoFar c.args.mux.now c.from-left.result.items c.units.mux c.units.index l) c.in-Some.ensures.items (c.units.invariant.fed st) in
+      let w = subst (λ (l : List (ℕ × AccessUnit)). FedSoFar c.args.mux.now c.from-left.result.items c.units.mux c.units.index l) c.in-Some.ensures.items
+      (c.units.invariant.fed st) in
       fed_more c.args.mux.now c.units.mux c.from-left.result.items c.units.index (c.in-Some.stream, c.in-Some.unit) c.pop_front.new.self.items c.feed.new.self w
       (c.in-Ok.ensures.takes (job_history w.fed 0) w.stands);
 }
@@ -16,9 +17,11 @@ units-preserved g c = record {
 pub returns-in-Err : goal.returns-in-Err
 returns-in-Err g c = record {
   fed = λ st.
-      let w = subst (λ (l : List (ℕ × AccessUnit)). FedSoFar c.args.mux.now c.from-left.result.items c.units.mux c.units.index l) c.in-Some.ensures.items (c.units.invariant.fed st) in
+      let w = subst (λ (l : List (ℕ × AccessUnit)). FedSoFar c.args.mux.now c.from-left.result.items c.units.mux c.units.index l) c.in-Some.ensures.items
+      (c.units.invariant.fed st) in
       ap (λ (l : List (ℕ × AccessUnit)). first_refused c.args.mux.now.schedule c.args.mux.now.capacity [] l) (sym c.from-left.ensures.0)
-      ∙ fed_refused c.args.mux.now c.units.mux c.from-left.result.items c.units.index (c.in-Some.stream, c.in-Some.unit) c.pop_front.new.self.items c.in-Err.cause c.feed.new.self w
+      ∙ fed_refused c.args.mux.now c.units.mux c.from-left.result.items c.units.index (c.in-Some.stream, c.in-Some.unit) c.pop_front.new.self.items
+      c.in-Err.cause c.feed.new.self w
       (c.in-Err.ensures.takes (job_history w.fed 0) w.stands);
 }
 

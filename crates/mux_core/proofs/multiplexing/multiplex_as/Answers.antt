@@ -19,10 +19,12 @@ returns-clause-refused g c =
 
 pub returns-clause-headline : goal.returns-clause-headline
 returns-clause-headline g c =
-    subst (λ (d : Scheduled). OnWriting c.write_job-written.result (Headline d (λ k. units_of k c.args.units.items) c.args.slots (bytes_of d (job_history c.args.units.items c.args.slots))))
+    subst (λ (d : Scheduled). OnWriting c.write_job-written.result
+    (Headline d (λ k. units_of k c.args.units.items) c.args.slots (bytes_of d (job_history c.args.units.items c.args.slots))))
     c.in-Ok.ensures.schedule c.write_job-written.ensures.headline
 
 pub returns-clause-measured : goal.returns-clause-measured
 returns-clause-measured g c =
-    subst (λ (d : Scheduled). OnWriting c.write_job-written.result (MeasuresWell d c.args.units.items (bytes_of d (job_history c.args.units.items c.args.slots))))
+    subst (λ (d : Scheduled). OnWriting c.write_job-written.result
+    (MeasuresWell d c.args.units.items (bytes_of d (job_history c.args.units.items c.args.slots))))
     c.in-Ok.ensures.schedule c.write_job-written.ensures.measured

@@ -17,7 +17,8 @@ pub returns-clause-written : goal.returns-clause-written
 returns-clause-written g c =
     let fed = c.in-Ok.ensures.fed c.requires.stands in
     let all = c.write_all.ensures.answers (job_history c.args.units.items 0) fed.stands refl in
-    writes _ _ _ c.write_all.result (fed_short c.args.mux.now c.feed_all.new.mux c.args.units.items c.args.hex c.args.slots c.keeps_promises.ensures.ranges c.requires.slots fed)
+    writes _ _ _ c.write_all.result
+    (fed_short c.args.mux.now c.feed_all.new.mux c.args.units.items c.args.hex c.args.slots c.keeps_promises.ensures.ranges c.requires.slots fed)
     (fed_writes c.args.mux.now c.feed_all.new.mux c.args.units.items c.args.hex c.args.slots _ _ c.write_all.result c.in-Ok-new.packets.hex fed
     c.in-Ok-new.ensures.hex all)
 
@@ -32,10 +33,12 @@ returns-clause-sent g c =
 
 pub returns-clause-headline : goal.returns-clause-headline
 returns-clause-headline g c =
-    on_writing c.write_all.result (fed_headline c.args.mux.now c.feed_all.new.mux c.args.units.items c.args.slots c.keeps_promises.ensures.ranges c.keeps_promises.ensures.promised
+    on_writing c.write_all.result
+    (fed_headline c.args.mux.now c.feed_all.new.mux c.args.units.items c.args.slots c.keeps_promises.ensures.ranges c.keeps_promises.ensures.promised
     (c.in-Ok.ensures.fed c.requires.stands))
 
 pub returns-clause-measured : goal.returns-clause-measured
 returns-clause-measured g c =
-    on_writing c.write_all.result (fed_measured c.args.mux.now c.feed_all.new.mux c.args.units.items c.args.slots c.keeps_promises.ensures.ranges c.keeps_promises.ensures.promised
+    on_writing c.write_all.result
+    (fed_measured c.args.mux.now c.feed_all.new.mux c.args.units.items c.args.slots c.keeps_promises.ensures.ranges c.keeps_promises.ensures.promised
     (c.in-Ok.ensures.fed c.requires.stands))

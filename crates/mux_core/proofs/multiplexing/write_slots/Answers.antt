@@ -19,8 +19,10 @@ returns-in_default-clause-ok g c = λ h start stands none holds.
 pub returns-in-Err-clause-err : goal.returns-in-Err-clause-err
 returns-in-Err-clause-err g c = λ h start stands none holds.
     let w = c.slots.invariant.written h start stands none holds in
-    written_failed h _ _ _ _ c.slots.packets.hex c.slots.counter c.args.slots c.in-Err.fault.sent start _ _ c.slots.packets _ w (omega (arith, c.slots-test.true)) c.slots.invariant.hex
-    (c.in-Ok.ensures.next (at_slot h c.slots.counter) w.stands) (c.in-Err.ensures.err start _ c.write_next.new.packet (next_is c.slots.packets c.write_next.new.packet c.room.ensures.there)
+    written_failed h _ _ _ _ c.slots.packets.hex c.slots.counter c.args.slots c.in-Err.fault.sent start _ _ c.slots.packets _ w
+    (omega (arith, c.slots-test.true)) c.slots.invariant.hex
+    (c.in-Ok.ensures.next (at_slot h c.slots.counter) w.stands)
+    (c.in-Err.ensures.err start _ c.write_next.new.packet (next_is c.slots.packets c.write_next.new.packet c.room.ensures.there)
     (next_put start _ c.slots.packets _ c.write_next.new.packet w.holds))
 
 pub slots-preserved : goal.slots-preserved

@@ -15,4 +15,5 @@ loop-text-preserved c =
     (sym (rw c.from.ensures at c.number_in.ensures.value) ∙ c.in-Some.is) c.loop-text.invariant)
 
 pub returns : goal.returns
-returns c = all_taken (number_in 0 c.args.most) (λ s. s.now) c.loop-text.numbers.items c.args.texts.now c.loop-text.text-index _ c.loop-text-test.false c.loop-text.invariant
+returns c = all_taken (number_in 0 c.args.most) (λ s. s.now) c.loop-text.numbers.items c.args.texts.now c.loop-text.text-index _ c.loop-text-test.false
+    c.loop-text.invariant

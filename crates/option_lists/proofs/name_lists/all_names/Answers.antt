@@ -12,8 +12,10 @@ returns-in-None c =
 pub loop-part-preserved : goal.loop-part-preserved
 loop-part-preserved c =
     rw c.in_ok-push-in-Some.ensures.items
-    (more (λ text. name_of (colon_parts text)) (λ s. s.now) c.loop-part.all.items c.args.parts.now c.loop-part.part-index _ c.in-Some.name _ c.loop-part-test.true
+    (more (λ text. name_of (colon_parts text)) (λ s. s.now) c.loop-part.all.items c.args.parts.now c.loop-part.part-index _ c.in-Some.name _
+    c.loop-part-test.true
     (sym c.in_ok-name.ensures ∙ c.in-Some.is) c.loop-part.invariant)
 
 pub returns : goal.returns
-returns c = all_taken (λ text. name_of (colon_parts text)) (λ s. s.now) c.loop-part.all.items c.args.parts.now c.loop-part.part-index _ c.loop-part-test.false c.loop-part.invariant
+returns c = all_taken (λ text. name_of (colon_parts text)) (λ s. s.now) c.loop-part.all.items c.args.parts.now c.loop-part.part-index _ c.loop-part-test.false
+    c.loop-part.invariant

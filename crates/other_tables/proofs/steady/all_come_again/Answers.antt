@@ -11,5 +11,6 @@ unfolding comes_again
 returns c =
     let all = map section_view c.args.all.now in
     let known = c.args.known.now in
-    all_from_yields_List (λ (x : FoundSection). comes_again all (section_view x)) _ _ _ c.all.ensures.ran (YieldsList-from_slice known cc) (λ x b q k. search (rules, tests))
+    all_from_yields_List (λ (x : FoundSection). comes_again all (section_view x)) _ _ _ c.all.ensures.ran (YieldsList-from_slice known cc)
+    (λ x b q k. search (rules, tests))
     ∙ all_view section_view (comes_again all) known

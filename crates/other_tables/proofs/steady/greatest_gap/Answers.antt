@@ -23,4 +23,6 @@ loop-section-preserved c =
     ]
 
 pub returns : goal.returns
-returns c = sym (c.loop-section.invariant ∙ gap_end c.args.bytes.now c.loop-section.section-index c.args.all.now c.loop-section.gap c.loop-section.last c.loop-section-test.false)
+returns c = sym
+    (c.loop-section.invariant ∙ gap_end c.args.bytes.now c.loop-section.section-index c.args.all.now c.loop-section.gap c.loop-section.last
+    c.loop-section-test.false)

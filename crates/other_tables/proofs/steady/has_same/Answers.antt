@@ -10,5 +10,6 @@ pub returns : goal.returns
 returns c =
     let all = c.args.others.now in
     let s = c.args.section.now in
-    any_from_yields_List (λ (x : FoundSection). is_same_section (section_view s) (section_view x)) _ _ _ c.any.ensures.ran (YieldsList-from_slice all cc) (λ x b q k. search (rules, tests))
+    any_from_yields_List (λ (x : FoundSection). is_same_section (section_view s) (section_view x)) _ _ _ c.any.ensures.ran (YieldsList-from_slice all cc)
+    (λ x b q k. search (rules, tests))
     ∙ any_view section_view (is_same_section (section_view s)) all

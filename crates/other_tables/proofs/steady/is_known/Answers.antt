@@ -12,5 +12,6 @@ unfolding is_known
 returns c =
     let all = c.args.known.now in
     let s = c.args.section.now in
-    any_from_yields_List (λ (x : FoundSection). bytes_eq x.bytes.now s.bytes.now) _ _ _ c.any.ensures.ran (YieldsList-from_slice all cc) (λ x b q k. search (rules, tests))
+    any_from_yields_List (λ (x : FoundSection). bytes_eq x.bytes.now s.bytes.now) _ _ _ c.any.ensures.ran (YieldsList-from_slice all cc)
+    (λ x b q k. search (rules, tests))
     ∙ any_view section_view (λ (k : PidSection). bytes_eq k.bytes s.bytes.now) all

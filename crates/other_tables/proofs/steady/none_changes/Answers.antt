@@ -12,7 +12,8 @@ returns-then-has_same c =
     let i = c.loop-at.at in
     let k = get_or ks i _ in
     let found : same_after i ks k ≡ true =
-    ap (λ (l : List FoundSection). list_any (is_same_section (section_view k)) (map section_view l)) (sym (all_after i ks)) ∙ (sym c.has_same.ensures ∙ c.if-has_same.true) in
+    ap (λ (l : List FoundSection). list_any (is_same_section (section_view k)) (map section_view l)) (sym (all_after i ks))
+    ∙ (sym c.has_same.ensures ∙ c.if-has_same.true) in
     sym (c.loop-at.invariant ∙ (none_from i ks k c.loop-at-test.true (same_default i ks _ c.loop-at-test.true)
     ∙ ap (λ (b : Bool). not b && none_changes (map section_view (drop (i + 1) ks))) found))
 
@@ -22,7 +23,8 @@ loop-at-preserved c =
     let i = c.loop-at.at in
     let k = get_or ks i _ in
     let other : same_after i ks k ≡ false =
-    ap (λ (l : List FoundSection). list_any (is_same_section (section_view k)) (map section_view l)) (sym (all_after i ks)) ∙ (sym c.has_same.ensures ∙ c.if-has_same.false) in
+    ap (λ (l : List FoundSection). list_any (is_same_section (section_view k)) (map section_view l)) (sym (all_after i ks))
+    ∙ (sym c.has_same.ensures ∙ c.if-has_same.false) in
     c.loop-at.invariant ∙ (none_from i ks k c.loop-at-test.true (same_default i ks _ c.loop-at-test.true)
     ∙ ap (λ (b : Bool). not b && none_changes (map section_view (drop (i + 1) ks))) other)
 

@@ -10,7 +10,8 @@ loop-section-preserved c =
     let known = c.args.known.now in
     let k = get_or known l.section-index no_section in
     l.invariant
-    ∙ widest_more all l.section-index known k l.widest c.max-widest.result c.loop-section-test.true (same_default l.section-index known no_section c.loop-section-test.true)
+    ∙ widest_more all l.section-index known k l.widest c.max-widest.result c.loop-section-test.true
+    (same_default l.section-index known no_section c.loop-section-test.true)
     (c.max-widest.ensures ∙ ap (λ (gap : ℕ). max gap l.widest) c.greatest_gap.ensures)
 
 pub returns : goal.returns

@@ -31,7 +31,8 @@ loop-finding-preserved c =
       seen = subst (λ (xs : List OtherTable). AreSeen c.note_seen.new.seen.items xs) (sym made)
           (subst (λ (xs : List Bool). AreSeen xs (found ++ table_at all found f)) (sym c.note_seen.ensures.seen) after);
       found = c.loop-finding.invariant.found
-          ∙ tables_more (finding_view {A = Global}) all c.loop-finding.finding-index c.args.findings.now c.finding-item.result found c.push_table.new.found.items
+          ∙ tables_more (finding_view {A = Global}) all c.loop-finding.finding-index c.args.findings.now c.finding-item.result found
+          c.push_table.new.found.items
           c.loop-finding-test.true c.finding-item.is made;
     }
 
@@ -39,5 +40,6 @@ pub returns : goal.returns
 unfolding other_tables
 returns c =
     sym (c.loop-finding.invariant.found
-    ∙ tables_end (finding_view {A = Global}) (map (finding_view {A = Global}) c.args.findings.now) c.loop-finding.finding-index c.args.findings.now c.loop-finding.found.items
+    ∙ tables_end (finding_view {A = Global}) (map (finding_view {A = Global}) c.args.findings.now) c.loop-finding.finding-index c.args.findings.now
+    c.loop-finding.found.items
     c.loop-finding-test.false)

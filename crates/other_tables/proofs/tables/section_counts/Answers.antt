@@ -14,12 +14,15 @@ findings-preserved c =
     let before : c.findings.left ≡ c.findings.left - 1 + 1 = omega (arith, c.findings-test.true) in
     let inside : c.findings.left - 1 < length c.args.findings.now = omega (arith, c.findings-test.true, c.findings.invariant.inside) in
     let next =
-    counted (finding_view {A = Global}) c.findings.counts.items c.findings.left (c.findings.left - 1) c.args.findings.now c.index-findings-left.result before inside
+    counted (finding_view {A = Global}) c.findings.counts.items c.findings.left (c.findings.left - 1) c.args.findings.now c.index-findings-left.result before
+    inside
     c.index-findings-left.is c.count_section.ensures.fits c.findings.invariant.counts in
     record {
       inside = omega (arith, inside);
-      counts = subst (λ (xs : List ℕ). CountsFrom (finding_view {A = Global}) xs (c.findings.left - 1) c.args.findings.now) (sym c.count_section.ensures.counts) next;
+      counts = subst (λ (xs : List ℕ). CountsFrom (finding_view {A = Global}) xs (c.findings.left - 1) c.args.findings.now) (sym c.count_section.ensures.counts)
+          next;
     }
 
 pub returns : goal.returns
-returns c = all_counted (finding_view {A = Global}) c.findings.counts.items c.findings.left c.args.findings.now (omega (arith, c.findings-test.false)) c.findings.invariant.counts
+returns c = all_counted (finding_view {A = Global}) c.findings.counts.items c.findings.left c.args.findings.now (omega (arith, c.findings-test.false))
+    c.findings.invariant.counts

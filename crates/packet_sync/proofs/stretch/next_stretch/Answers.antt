@@ -1,5 +1,6 @@
 use Rattle.std.proofs.Common.{◌≤◌, suc, ◌+◌, ◌++◌, inl, inr, refl, length, arith}
-use Rattle.packet_sync.proofs.Stretches.{known_by, a_packet, no_packet, so_far_none, so_far_packet, next_slip, next_last, steady_last, steady_none, steady_packet, stepped_none, stepped_slip}
+use Rattle.packet_sync.proofs.Stretches.{known_by, a_packet, no_packet, so_far_none, so_far_packet, next_slip, next_last, steady_last, steady_none}
+use Rattle.packet_sync.proofs.Stretches.{steady_packet, stepped_none, stepped_slip}
 use Rattle.packet_sync.proofs.stretch.next_stretch.Goals as goal
 
 pub loop-at-preserved : goal.loop-at-preserved
@@ -11,9 +12,11 @@ loop-at-preserved c =
     record {
       within = long;
       packets = (suc i.packets.0, omega (arith, i.packets.1));
-      steady = λ more none. steady_packet bs more at i.packets.0 i.packets.1 long (known_by c.args.ended bs more at c.decisive.result c.decisive.ensures i.within c.loop-at-test.true none)
+      steady = λ more none. steady_packet bs more at i.packets.0 i.packets.1 long
+          (known_by c.args.ended bs more at c.decisive.result c.decisive.ensures i.within c.loop-at-test.true none)
           c.in-None.ensures.value (i.steady more none);
-      carried = λ more none. so_far_packet bs more at long (known_by c.args.ended bs more at c.decisive.result c.decisive.ensures i.within c.loop-at-test.true none)
+      carried = λ more none. so_far_packet bs more at long
+          (known_by c.args.ended bs more at c.decisive.result c.decisive.ensures i.within c.loop-at-test.true none)
           c.in-None.ensures.value (i.carried more none);
     }
 
@@ -24,7 +27,8 @@ returns-in-Some-clause-stretch c =
     let i = c.loop-at.invariant in
     let long = a_packet c.args.ended bs at c.decisive.result c.decisive.ensures i.within c.loop-at-test.true in
     let within : at + c.in-Some.slipped ≤ length bs = omega (arith, c.in-Some.ensures.within) in
-    λ more none. next_slip bs more at c.in-Some.slipped long within (known_by c.args.ended bs more at c.decisive.result c.decisive.ensures i.within c.loop-at-test.true none)
+    λ more none. next_slip bs more at c.in-Some.slipped long within
+    (known_by c.args.ended bs more at c.decisive.result c.decisive.ensures i.within c.loop-at-test.true none)
     c.in-Some.ensures.value (i.carried more none)
 
 pub returns-then-ended-clause-stretch : goal.returns-then-ended-clause-stretch
@@ -36,7 +40,14 @@ returns-then-ended-clause-stretch c =
     λ more none. next_last bs more at i.within short (none c.if-ended.true) (i.carried more none)
 
 pub loop-at-init : goal.loop-at-init
-loop-at-init c = record { within = omega arith; packets = (0, refl); steady = λ more none. steady_none (c.args.bytes.now ++ more); carried = λ more none. so_far_none c.args.bytes.now more }
+loop-at-init c =
+    record {
+      within = omega arith;
+      packets = (0, refl);
+      steady = λ more none. steady_none (c.args.bytes.now ++ more);
+      carried =
+          λ more none. so_far_none c.args.bytes.now more;
+    }
 
 pub returns-in-Some-clause-packets : goal.returns-in-Some-clause-packets
 returns-in-Some-clause-packets c = inl c.loop-at.invariant.packets
@@ -53,7 +64,8 @@ returns-in-Some-clause-stepped c =
     let at = c.loop-at.at in
     let i = c.loop-at.invariant in
     let long = a_packet c.args.ended bs at c.decisive.result c.decisive.ensures i.within c.loop-at-test.true in
-    λ more none. stepped_slip bs more at c.in-Some.slipped long (known_by c.args.ended bs more at c.decisive.result c.decisive.ensures i.within c.loop-at-test.true none)
+    λ more none. stepped_slip bs more at c.in-Some.slipped long
+    (known_by c.args.ended bs more at c.decisive.result c.decisive.ensures i.within c.loop-at-test.true none)
     c.in-Some.ensures.value (i.steady more none)
 
 pub returns-then-ended-clause-stepped : goal.returns-then-ended-clause-stepped

@@ -12,10 +12,20 @@ product_most count time rate a b d = mul-le (count * time) rate (2 ^ 32 * 576000
 pub overflow_mul-result-2 : goal.overflow_mul-result-2
 overflow_mul-result-2 c =
     let time = time_most c.args.lead c.args.units c.args.interval c.requires.lead c.requires.units c.requires.interval in
-    record { fits = omega (arith, product_most c.args.count (c.args.lead + (c.args.units - 1) * c.args.interval) c.args.rate c.requires.count time c.requires.rate) }
+    record {
+      fits =
+          omega (arith, product_most c.args.count (c.args.lead + (c.args.units - 1) * c.args.interval) c.args.rate c.requires.count time c.requires.rate);
+    }
 
 pub overflow_mul-result-3 : goal.overflow_mul-result-3
 overflow_mul-result-3 c =
     let time = time_most c.args.lead c.args.units c.args.interval c.requires.lead c.requires.units c.requires.interval in
     let most = product_most c.args.count (c.args.lead + (c.args.units - 1) * c.args.interval) c.args.rate c.requires.count time c.requires.rate in
-    record { fits = omega (arith, mul-le (c.args.count * (c.args.lead + (c.args.units - 1) * c.args.interval) * c.args.rate) c.args.rx (2 ^ 32 * 5760000 * 100000000) 200000000 most c.requires.rx) }
+    record {
+      fits =
+          omega (
+            arith,
+            mul-le (c.args.count * (c.args.lead + (c.args.units - 1) * c.args.interval) * c.args.rate) c.args.rx (2 ^ 32 * 5760000 * 100000000)
+                200000000 most c.requires.rx,
+          );
+    }

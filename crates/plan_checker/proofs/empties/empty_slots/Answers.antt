@@ -37,7 +37,8 @@ loop-at-preserved c =
       bound = omega (arith, c.next_work-work.ensures.bound, c.loop-at.invariant.bound);
       walks = subst (λ (w : EmptyWalk). Walks E (at + 1) w) (sym c.passed-walk.ensures)
           (walk_on E at c.loop-at.walk c.is_emptied.result inside
-          (empty_at c.args.rate c.args.drain c.args.start own_marks at c.owns-owns.result c.loop-at.work within mark c.loop-at.invariant.now ∙ sym c.is_emptied.ensures)
+          (empty_at c.args.rate c.args.drain c.args.start own_marks at c.owns-owns.result c.loop-at.work within mark c.loop-at.invariant.now
+          ∙ sym c.is_emptied.ensures)
           c.loop-at.invariant.walks);
     }
 
@@ -57,24 +58,28 @@ pub returns-clause-count : goal.returns-clause-count
 returns-clause-count c =
     let e : c.loop-at.at ≡ length c.args.slots.now = omega arith in
     ap (λ (r : EmptySlots). r.count) c.rounded.ensures
-    ∙ all_counted _ c.loop-at.walk (at_end c.args.rate c.args.drain c.args.start c.args.item c.args.slots.now c.loop-at.at c.loop-at.walk e c.loop-at.invariant.walks)
+    ∙ all_counted _ c.loop-at.walk
+    (at_end c.args.rate c.args.drain c.args.start c.args.item c.args.slots.now c.loop-at.at c.loop-at.walk e c.loop-at.invariant.walks)
 
 pub returns-clause-first : goal.returns-clause-first
 returns-clause-first c =
     let e : c.loop-at.at ≡ length c.args.slots.now = omega arith in
     ap (λ (r : EmptySlots). r.first) c.rounded.ensures
-    ∙ first_found _ c.loop-at.walk (at_end c.args.rate c.args.drain c.args.start c.args.item c.args.slots.now c.loop-at.at c.loop-at.walk e c.loop-at.invariant.walks)
+    ∙ first_found _ c.loop-at.walk
+    (at_end c.args.rate c.args.drain c.args.start c.args.item c.args.slots.now c.loop-at.at c.loop-at.walk e c.loop-at.invariant.walks)
 
 pub returns-clause-back : goal.returns-clause-back
 returns-clause-back c =
     let e : c.loop-at.at ≡ length c.args.slots.now = omega arith in
     ap (λ (r : EmptySlots). r.back) c.rounded.ensures
     ∙ ap (λ (n : ℕ). n - c.loop-at.walk.last) (period c.args.rate c.args.drain c.args.start c.args.item c.args.slots.now)
-    ∙ back_found _ c.loop-at.walk (at_end c.args.rate c.args.drain c.args.start c.args.item c.args.slots.now c.loop-at.at c.loop-at.walk e c.loop-at.invariant.walks)
+    ∙ back_found _ c.loop-at.walk
+    (at_end c.args.rate c.args.drain c.args.start c.args.item c.args.slots.now c.loop-at.at c.loop-at.walk e c.loop-at.invariant.walks)
 
 pub returns-clause-gap : goal.returns-clause-gap
 returns-clause-gap c =
     let e : c.loop-at.at ≡ length c.args.slots.now = omega arith in
     ap (λ (r : EmptySlots). r.gap) c.rounded.ensures
     ∙ ap (round_gap c.loop-at.walk) (period c.args.rate c.args.drain c.args.start c.args.item c.args.slots.now)
-    ∙ gap_found _ c.loop-at.walk (at_end c.args.rate c.args.drain c.args.start c.args.item c.args.slots.now c.loop-at.at c.loop-at.walk e c.loop-at.invariant.walks)
+    ∙ gap_found _ c.loop-at.walk
+    (at_end c.args.rate c.args.drain c.args.start c.args.item c.args.slots.now c.loop-at.at c.loop-at.walk e c.loop-at.invariant.walks)

@@ -14,7 +14,8 @@ use Rattle.plan_checker.proofs.OwnMarks.{mark_at, length_marks, own_before_none,
 pub loop-at-init : goal.loop-at-init
 loop-at-init c = record {
   found = sym (greatest_none (ahead (marks c.args.item c.args.slots.now) c.args.row));
-  next = let e : c.args.row ≡ own_before (own (marks c.args.item c.args.slots.now)) 0 + c.args.row = omega (arith, own_before_none c.args.item c.args.slots.now) in
+  next = let e : c.args.row ≡ own_before (own (marks c.args.item c.args.slots.now)) 0 + c.args.row =
+      omega (arith, own_before_none c.args.item c.args.slots.now) in
       c.position-ahead.ensures ∙ ap (position (marks c.args.item c.args.slots.now)) e;
 }
 
@@ -51,13 +52,16 @@ loop-at-preserved c = elim c.if-owns.branch [
           c.loop-at.invariant.next,
           gap_more (marks c.args.item c.args.slots.now) c.args.row c.loop-at.at y,
         );
-        next = w.ahead-is ∙ w.next_own_slot-ahead.ensures ∙ one_ahead c.args.item c.args.slots.now c.loop-at.at c.args.row c.loop-at.ahead y c.loop-at.invariant.next c.requires.owned;
+        next = w.ahead-is ∙ w.next_own_slot-ahead.ensures ∙ one_ahead c.args.item c.args.slots.now c.loop-at.at c.args.row c.loop-at.ahead y
+            c.loop-at.invariant.next c.requires.owned;
       }
   | else-owns w ↦
       let n = mark_at c.args.item c.args.slots.now c.loop-at.at _ c.loop-at-test.true ∙ sym c.owns.ensures ∙ w.if-owns.false in
       record {
         found = w.greatest-is ∙ c.loop-at.invariant.found ∙ sym (gap_same (marks c.args.item c.args.slots.now) c.args.row c.loop-at.at n);
-        next = w.ahead-is ∙ c.loop-at.invariant.next ∙ sym (ap (λ (v : ℕ). position (marks c.args.item c.args.slots.now) (v + c.args.row)) (own_before_after_other c.args.item c.args.slots.now c.loop-at.at n));
+        next = w.ahead-is ∙ c.loop-at.invariant.next
+            ∙ sym (ap (λ (v : ℕ). position (marks c.args.item c.args.slots.now) (v + c.args.row))
+            (own_before_after_other c.args.item c.args.slots.now c.loop-at.at n));
       }
 ]
 

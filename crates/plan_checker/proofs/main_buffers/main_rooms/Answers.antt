@@ -8,4 +8,5 @@ pub returns : goal.returns
 returns g c =
     let s = c.args.stream.now in
     let whole : List Entry = main_buffer_entry c.args.plans.now.description.now c.args.plans.now.plan.now c.args.i s ∷ [] in
-    then_next _ _ _ whole (frame_entries c.args.plans.now.description.now c.args.plans.now.plan.now c.args.i s s.framing) c.main_room.ensures c.frame_rooms.ensures
+    then_next _ _ _ whole (frame_entries c.args.plans.now.description.now c.args.plans.now.plan.now c.args.i s s.framing) c.main_room.ensures
+    c.frame_rooms.ensures

@@ -11,7 +11,8 @@ loop-at-init c = record { counted = sym (own_before_none c.args.item c.args.slot
 
 pub returns-then-count-number-clause-slot : goal.returns-then-count-number-clause-slot
 returns-then-count-number-clause-slot c =
-    sym (position_found c.args.item c.args.slots.now c.loop-at.at c.args.number _ c.loop-at-test.true (sym c.owns.ensures ∙ c.if-owns.true) (omega arith) (omega arith))
+    sym (position_found c.args.item c.args.slots.now c.loop-at.at c.args.number _ c.loop-at-test.true (sym c.owns.ensures ∙ c.if-owns.true) (omega arith)
+    (omega arith))
 
 pub loop-at-preserved : goal.loop-at-preserved
 loop-at-preserved c = elim c.if-owns.branch [

@@ -23,4 +23,5 @@ loop-at-preserved c =
 pub returns : goal.returns
 returns c =
     let e : c.loop-at.at ≡ c.args.from + length c.args.slots.now = omega (arith, some_slots c.args.item c.args.slots.now c.requires.owned) in
-    sym (a_period_on c.args.item c.args.slots.now c.args.from _ c.requires.own (sym (ap (own_before (own (marks c.args.item c.args.slots.now))) e) ∙ c.loop-at.invariant) c.requires.owned)
+    sym (a_period_on c.args.item c.args.slots.now c.args.from _ c.requires.own
+    (sym (ap (own_before (own (marks c.args.item c.args.slots.now))) e) ∙ c.loop-at.invariant) c.requires.owned)

@@ -15,4 +15,5 @@ split item slots i count first e pos f =
     ∙ sym (position_split item slots i pos)
 
 pub returns : goal.returns
-returns c = split c.args.item c.args.slots.now c.args.number c.own_count-count.result c.own_slot.result c.own_count-count.ensures.count c.requires.owned c.own_slot.ensures.slot
+returns c = split c.args.item c.args.slots.now c.args.number c.own_count-count.result c.own_slot.result c.own_count-count.ensures.count c.requires.owned
+    c.own_slot.ensures.slot

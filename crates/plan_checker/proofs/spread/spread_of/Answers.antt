@@ -60,12 +60,36 @@ pub loop-at-preserved : goal.loop-at-preserved
 loop-at-preserved c = elim c.if-owns.branch [
   | then-owns w ↦
       let y = mark_at c.args.item c.args.slots.now c.loop-at.at _ c.loop-at-test.true ∙ sym c.owns.ensures ∙ w.if-owns.true in
-      let here = raised_here c.args.item c.args.slots.now c.own_count-count.result c.loop-at.at c.loop-at.number c.own_count-count.ensures.count c.loop-at.invariant.counted in
+      let here = raised_here c.args.item c.args.slots.now c.own_count-count.result c.loop-at.at c.loop-at.number c.own_count-count.ensures.count
+      c.loop-at.invariant.counted in
       record {
         counted = omega (arith, w.number-is, c.loop-at.invariant.counted, own_before_after_own c.args.item c.args.slots.now c.loop-at.at y);
-        high = omega (arith, w.highest-is, w.max-highest.ensures, max_is c.loop-at.highest (c.own_count-count.result * c.loop-at.at + (c.own_count-count.result - c.loop-at.number) * length c.args.slots.now), here, c.loop-at.invariant.high, highest_more (marks c.args.item c.args.slots.now) c.loop-at.at y);
-        few = omega (arith, w.highest-is, w.max-highest.ensures, max_is c.loop-at.highest (c.own_count-count.result * c.loop-at.at + (c.own_count-count.result - c.loop-at.number) * length c.args.slots.now), c.loop-at.invariant.few, raised_few c.own_count-count.result c.loop-at.at c.loop-at.number (length c.args.slots.now) c.loop-at-test.true);
-        low = omega (arith, w.lowest-is, w.min-lowest.ensures, min_is c.loop-at.lowest (c.own_count-count.result * c.loop-at.at + (c.own_count-count.result - c.loop-at.number) * length c.args.slots.now), here, c.loop-at.invariant.low, lowest_more (marks c.args.item c.args.slots.now) c.loop-at.at y);
+        high = omega (
+          arith,
+          w.highest-is,
+          w.max-highest.ensures,
+          max_is c.loop-at.highest (c.own_count-count.result * c.loop-at.at + (c.own_count-count.result - c.loop-at.number) * length c.args.slots.now),
+          here,
+          c.loop-at.invariant.high,
+          highest_more (marks c.args.item c.args.slots.now) c.loop-at.at y,
+        );
+        few = omega (
+          arith,
+          w.highest-is,
+          w.max-highest.ensures,
+          max_is c.loop-at.highest (c.own_count-count.result * c.loop-at.at + (c.own_count-count.result - c.loop-at.number) * length c.args.slots.now),
+          c.loop-at.invariant.few,
+          raised_few c.own_count-count.result c.loop-at.at c.loop-at.number (length c.args.slots.now) c.loop-at-test.true,
+        );
+        low = omega (
+          arith,
+          w.lowest-is,
+          w.min-lowest.ensures,
+          min_is c.loop-at.lowest (c.own_count-count.result * c.loop-at.at + (c.own_count-count.result - c.loop-at.number) * length c.args.slots.now),
+          here,
+          c.loop-at.invariant.low,
+          lowest_more (marks c.args.item c.args.slots.now) c.loop-at.at y,
+        );
       }
   | else-owns w ↦
       let n = mark_at c.args.item c.args.slots.now c.loop-at.at _ c.loop-at-test.true ∙ sym c.owns.ensures ∙ w.if-owns.false in

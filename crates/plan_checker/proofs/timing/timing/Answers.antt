@@ -1,6 +1,7 @@
 use Rattle.std.proofs.Common.{◌++◌, List}
 use Rattle.slot_plan.specs.Entries.{Entry}
-use Rattle.slot_plan.specs.Conditions.{pcr_gaps, table_gaps, spreads, stream_rates, stream_buffers, transport_buffers, stream_leads, main_buffers, system_buffers, multiplexing_buffers, elementary_leads}
+use Rattle.slot_plan.specs.Conditions.{pcr_gaps, table_gaps, spreads, stream_rates, stream_buffers, transport_buffers, stream_leads, main_buffers}
+use Rattle.slot_plan.specs.Conditions.{system_buffers, multiplexing_buffers, elementary_leads}
 use Rattle.plan_checker.proofs.FailingSearch.{then_next}
 use Rattle.plan_checker.proofs.timing.timing.Goals as goal
 

@@ -64,9 +64,11 @@ loop-slot-preserved c = elim c.if-owns.branch [
       record {
         now = omega (arith, w.work-is, c.saturating_sub-left.ensures, c.loop-slot.invariant.now, next);
         bound = omega (arith, w.work-is, c.saturating_sub-left.ensures, c.loop-slot.invariant.bound);
-        before = w.most_before-is ∙ c.loop-slot.invariant.before ∙ sym (before_same c.args.rate c.args.drain c.args.start (marks c.args.item c.args.slots.now) c.loop-slot.slot-index n);
+        before = w.most_before-is ∙ c.loop-slot.invariant.before
+            ∙ sym (before_same c.args.rate c.args.drain c.args.start (marks c.args.item c.args.slots.now) c.loop-slot.slot-index n);
         few_after = omega (arith, w.most_after-is, c.loop-slot.invariant.few_after);
-        after = w.most_after-is ∙ c.loop-slot.invariant.after ∙ sym (after_same c.args.rate c.args.drain c.args.start (marks c.args.item c.args.slots.now) c.loop-slot.slot-index n);
+        after = w.most_after-is ∙ c.loop-slot.invariant.after
+            ∙ sym (after_same c.args.rate c.args.drain c.args.start (marks c.args.item c.args.slots.now) c.loop-slot.slot-index n);
       }
 ]
 

@@ -10,8 +10,10 @@ loop-i-preserved g c =
     let i = c.loop-i.i in
     let below : i < length d.programs = search rules in
     record {
-      entries = rw (c.in_ok-push.ensures.items, c.program_entry.ensures.entry) (numbers_pushed (program_entry_of d c.args.slots.now) d.programs [] c.loop-i.entries.items i below c.loop-i.invariant.entries);
-      small = rw c.in_ok-push.ensures.items (still_all is_small_program c.loop-i.entries.items c.program_entry.result c.loop-i.invariant.small c.program_entry.ensures.small);
+      entries = rw (c.in_ok-push.ensures.items, c.program_entry.ensures.entry)
+          (numbers_pushed (program_entry_of d c.args.slots.now) d.programs [] c.loop-i.entries.items i below c.loop-i.invariant.entries);
+      small = rw c.in_ok-push.ensures.items
+          (still_all is_small_program c.loop-i.entries.items c.program_entry.result c.loop-i.invariant.small c.program_entry.ensures.small);
     }
 
 pub returns-clause-entries : goal.returns-clause-entries

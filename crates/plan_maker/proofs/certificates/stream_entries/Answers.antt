@@ -12,8 +12,10 @@ loop-i-preserved g c =
     let at : x ≡ get_or d.streams i x = rw c.streams-stream-items.ensures.value at c.stream-item.is in
     let below : i < length d.streams = rw c.streams-stream-items.ensures.value at c.loop-i-test.true in
     record {
-      entries = rw (c.in_ok-push.ensures.items, c.stream_entry.ensures.entry) (pushed (stream_entry_of d c.args.slots.now) d.streams [] c.loop-i.entries.items i x below at c.loop-i.invariant.entries);
-      small = rw c.in_ok-push.ensures.items (still_all is_small_stream c.loop-i.entries.items c.stream_entry.result c.loop-i.invariant.small c.stream_entry.ensures.small);
+      entries = rw (c.in_ok-push.ensures.items, c.stream_entry.ensures.entry)
+          (pushed (stream_entry_of d c.args.slots.now) d.streams [] c.loop-i.entries.items i x below at c.loop-i.invariant.entries);
+      small = rw c.in_ok-push.ensures.items
+          (still_all is_small_stream c.loop-i.entries.items c.stream_entry.result c.loop-i.invariant.small c.stream_entry.ensures.small);
     }
 
 pub returns-clause-entries : goal.returns-clause-entries

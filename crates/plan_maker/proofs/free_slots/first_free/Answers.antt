@@ -13,7 +13,8 @@ loop-first-preserved c =
 
 pub returns-then-is_free : goal.returns-then-is_free
 returns-then-is_free c =
-    sym (first_here c.args.spacing (is_free c.args.slots.now c.args.spacing) c.loop-first.first c.loop-first-test.true c.loop-first.invariant (sym c.is_free.ensures ∙ c.if-is_free.true))
+    sym (first_here c.args.spacing (is_free c.args.slots.now c.args.spacing) c.loop-first.first c.loop-first-test.true c.loop-first.invariant
+    (sym c.is_free.ensures ∙ c.if-is_free.true))
 
 pub returns : goal.returns
 returns c =

@@ -16,4 +16,5 @@ loop-s-preserved c = elim c.if-s-spacing.branch [
 ]
 
 pub returns : goal.returns
-returns c = record { slots = given_all c.args.item c.args.spacing c.args.first c.args.slots.now c.loop-s.slots c.loop-s.s c.loop-s-test.false c.loop-s.invariant }
+returns c = record
+    { slots = given_all c.args.item c.args.spacing c.args.first c.args.slots.now c.loop-s.slots c.loop-s.s c.loop-s-test.false c.loop-s.invariant }

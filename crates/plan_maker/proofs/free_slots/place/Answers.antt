@@ -6,7 +6,8 @@ use Rattle.plan_maker.proofs.SpacingOrder.{placed_one, not_placed_one, never, ne
 use Rattle.plan_maker.proofs.free_slots.place.Goals as goal
 
 pub give-requires : goal.give-requires
-give-requires c = omega (arith, first_below c.args.item.spacing (is_free c.args.slots.now c.args.item.spacing) c.in-Some.first (sym c.first_free.ensures ∙ c.in-Some.is))
+give-requires c =
+    omega (arith, first_below c.args.item.spacing (is_free c.args.slots.now c.args.item.spacing) c.in-Some.first (sym c.first_free.ensures ∙ c.in-Some.is))
 
 pub returns-in-None : goal.returns-in-None
 returns-in-None c = record {

@@ -8,11 +8,14 @@ loop-item-preserved c =
     let inv = c.loop-item.invariant in
     elim c.else-item-spacing.branch [
       | else-item-spacing-via-then-item-spacing+else-not-place w ↦ record {
-        rest = rw w.slots-is (place_next c.args.spacing c.args.items.now c.loop-item.item-index _ c.loop-item.slots _ c.loop-item-test.true inv.rest _ w.if-item-spacing.true (w.place.ensures.given w.if-not-place.false));
+        rest = rw w.slots-is
+            (place_next c.args.spacing c.args.items.now c.loop-item.item-index _ c.loop-item.slots _ c.loop-item-test.true inv.rest _ w.if-item-spacing.true
+            (w.place.ensures.given w.if-not-place.false));
         same = rw w.slots-is (w.place.ensures.same_length ∙ inv.same);
       }
       | else-item-spacing-via-else-item-spacing w ↦ record {
-        rest = rw w.slots-is (place_other c.args.spacing c.args.items.now c.loop-item.item-index _ c.loop-item.slots _ c.loop-item-test.true inv.rest w.if-item-spacing.false);
+        rest = rw w.slots-is
+            (place_other c.args.spacing c.args.items.now c.loop-item.item-index _ c.loop-item.slots _ c.loop-item-test.true inv.rest w.if-item-spacing.false);
         same = rw w.slots-is inv.same;
       }
     ]

@@ -28,7 +28,8 @@ returns-then-not-place_spacing c =
     let inv = c.loop-exponent.invariant in
     record {
       given = λ e. never_true e;
-      full = λ _. spacing_full c.args.items.now c.loop-exponent.exponent c.loop-exponent.power c.loop-exponent.slots _ c.loop-exponent-test.true inv.power inv.rest
+      full = λ _. spacing_full c.args.items.now c.loop-exponent.exponent c.loop-exponent.power c.loop-exponent.slots _ c.loop-exponent-test.true inv.power
+          inv.rest
           (c.place_spacing.ensures.full c.if-not-place_spacing.true);
       same_length = c.place_spacing.ensures.same_length ∙ inv.same;
     }

@@ -12,7 +12,8 @@ loop-i-preserved g c =
     let at : x ≡ get_or d.programs i x = rw c.programs-program-items.ensures.value at c.program-item.is in
     let below : i < length d.programs = rw c.programs-program-items.ensures.value at c.loop-i-test.true in
     let is : c.spacing_of-spacing.result ≡ spacing (pcr_room d x) = c.spacing_of-spacing.ensures.spacing ∙ ap spacing c.pcr_room.ensures in
-    rw (c.in_ok-push.ensures.items, is) (pushed (λ i x. record { slot = Pcr i; spacing = spacing (pcr_room d x) }) d.programs _ c.loop-i.items.items i x below at c.loop-i.invariant)
+    rw (c.in_ok-push.ensures.items, is)
+    (pushed (λ i x. record { slot = Pcr i; spacing = spacing (pcr_room d x) }) d.programs _ c.loop-i.items.items i x below at c.loop-i.invariant)
 
 pub returns : goal.returns
 returns g c =

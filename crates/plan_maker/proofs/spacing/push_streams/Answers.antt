@@ -12,7 +12,8 @@ loop-i-preserved g c =
     let at : x ≡ get_or d.streams i x = rw c.streams-stream-items.ensures.value at c.stream-item.is in
     let below : i < length d.streams = rw c.streams-stream-items.ensures.value at c.loop-i-test.true in
     let is : c.spacing_of-spacing.result ≡ spacing (stream_room d x) = c.spacing_of-spacing.ensures.spacing ∙ ap spacing c.stream_room.ensures in
-    rw (c.in_ok-push.ensures.items, is) (pushed (λ i x. record { slot = Stream i; spacing = spacing (stream_room d x) }) d.streams _ c.loop-i.items.items i x below at c.loop-i.invariant)
+    rw (c.in_ok-push.ensures.items, is)
+    (pushed (λ i x. record { slot = Stream i; spacing = spacing (stream_room d x) }) d.streams _ c.loop-i.items.items i x below at c.loop-i.invariant)
 
 pub returns : goal.returns
 returns g c =

@@ -6,4 +6,5 @@ use Rattle.plan_maker.proofs.spacing.push_streams.Given as goal
 
 abbrev pub invariant-loop-i : goal.invariant-loop-i
 invariant-loop-i g l =
-    l.items.items ≡ l.initial.items.items ++ numbered (λ i x. record { slot = Stream i; spacing = spacing (stream_room l.description x) } ∷ []) 0 (take l.i l.description.streams)
+    l.items.items ≡ l.initial.items.items ++ numbered (λ i x. record { slot = Stream i; spacing = spacing (stream_room l.description x) } ∷ []) 0
+    (take l.i l.description.streams)

@@ -15,7 +15,8 @@ loop-t-preserved g c =
     let t = c.loop-t.t in
     let below : t < length (table_kinds d) = search rules in
     let is : c.spacing_of-spacing.result ≡ spacing (table_room d t) = c.spacing_of-spacing.ensures.spacing ∙ ap spacing c.table_room.ensures in
-    rw (c.in_ok-push.ensures.items, is) (numbers_pushed (λ t. record { slot = Table t; spacing = spacing (table_room d t) }) (table_kinds d) _ c.loop-t.items.items t below c.loop-t.invariant)
+    rw (c.in_ok-push.ensures.items, is)
+    (numbers_pushed (λ t. record { slot = Table t; spacing = spacing (table_room d t) }) (table_kinds d) _ c.loop-t.items.items t below c.loop-t.invariant)
 
 pub returns : goal.returns
 returns g c =

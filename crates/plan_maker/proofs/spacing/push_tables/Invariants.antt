@@ -7,4 +7,5 @@ use Rattle.plan_maker.proofs.spacing.push_tables.Given as goal
 
 abbrev pub invariant-loop-t : goal.invariant-loop-t
 invariant-loop-t g l =
-    l.items.items ≡ l.initial.items.items ++ numbered (λ t _. record { slot = Table t; spacing = spacing (table_room l.description t) } ∷ []) 0 (take l.t (table_kinds l.description))
+    l.items.items ≡ l.initial.items.items ++ numbered (λ t _. record { slot = Table t; spacing = spacing (table_room l.description t) } ∷ []) 0
+    (take l.t (table_kinds l.description))

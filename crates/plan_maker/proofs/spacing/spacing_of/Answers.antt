@@ -23,7 +23,8 @@ loop-exponent-preserved c =
     let more = c.max-spacing.ensures ∙ max_is c.loop-exponent.spacing c.within.result in
     record {
       power = omega (arith, inv.power, pow_more 2 e);
-      spacing = more ∙ ap₂ max inv.spacing (c.within.ensures.within ∙ ap (within c.args.room) inv.power) ∙ sym (greatest_more e (λ e. within c.args.room (2 ^ e)));
+      spacing = more ∙ ap₂ max inv.spacing (c.within.ensures.within ∙ ap (within c.args.room) inv.power)
+          ∙ sym (greatest_more e (λ e. within c.args.room (2 ^ e)));
       few = omega (arith, more, inv.few, inv.power, few, c.within.ensures.bound);
     }
 

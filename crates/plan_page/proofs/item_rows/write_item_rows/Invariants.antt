@@ -4,4 +4,5 @@ use Rattle.plan_page.specs.ItemRows.{item_row}
 use Rattle.plan_page.proofs.item_rows.write_item_rows.Given as goal
 
 abbrev pub invariant-loop-item : goal.invariant-loop-item
-invariant-loop-item l = string_bytes l.text ++ flat_map (item_row l.rate l.slots) (drop l.item-index l.items) ≡ string_bytes l.fn.text ++ flat_map (item_row l.rate l.slots) l.items
+invariant-loop-item l = string_bytes l.text ++ flat_map (item_row l.rate l.slots) (drop l.item-index l.items) ≡ string_bytes l.fn.text
+    ++ flat_map (item_row l.rate l.slots) l.items

@@ -10,8 +10,11 @@ returns c =
     let slots = c.args.slots.now in
     let owner = c.args.item.owner in
     let head : string_bytes c.write_lane_head.new.text ≡ string_bytes c.write_label.new.text ++ spec.lane_head (spec.lane_class owner) (length slots) =
-    c.in_ok-write_lane_head.ensures ∙ ap (λ (class : List ℕ). string_bytes c.write_label.new.text ++ spec.lane_head class (length slots)) c.lane_class.ensures in
-    four c.push_str.result (string_bytes c.args.text.now) (string_bytes c.write_label.new.text) (string_bytes c.write_lane_head.new.text) (string_bytes c.write_ticks.new.text)
-    (string_bytes c.push_str.new.self) (spec.label c.args.item) (spec.lane_head (spec.lane_class owner) (length slots)) (spec.ticks owner slots) (codes "\"/></svg>\n")
+    c.in_ok-write_lane_head.ensures ∙ ap (λ (class : List ℕ). string_bytes c.write_label.new.text ++ spec.lane_head class (length slots))
+    c.lane_class.ensures in
+    four c.push_str.result (string_bytes c.args.text.now) (string_bytes c.write_label.new.text) (string_bytes c.write_lane_head.new.text)
+    (string_bytes c.write_ticks.new.text)
+    (string_bytes c.push_str.new.self) (spec.label c.args.item) (spec.lane_head (spec.lane_class owner) (length slots)) (spec.ticks owner slots)
+    (codes "\"/></svg>\n")
     c.in_ok-write_label.ensures head c.in_ok-write_ticks.ensures
     (pushed c.push_str.result (string_bytes c.write_ticks.new.text) (string_bytes c.push_str.new.self) (codes "\"/></svg>\n") c.push_str.ensures.bytes)

@@ -10,7 +10,8 @@ unfolding spec.period_words
 returns c =
     let time : string_bytes c.write_millis.new.text ≡ string_bytes c.write_rate_words.new.text ++ millis (time_of c.args.count c.args.rate) =
     c.in_ok-write_millis.ensures ∙ ap (λ (t : ℕ). string_bytes c.write_rate_words.new.text ++ millis t) c.time_of.ensures in
-    three c.push_str.result (string_bytes c.args.text.now) (string_bytes c.write_rate_words.new.text) (string_bytes c.write_millis.new.text) (string_bytes c.push_str.new.self)
+    three c.push_str.result (string_bytes c.args.text.now) (string_bytes c.write_rate_words.new.text) (string_bytes c.write_millis.new.text)
+    (string_bytes c.push_str.new.self)
     (spec.rate_words c.args.rate c.args.count) (millis (time_of c.args.count c.args.rate)) (codes " ms. ")
     c.in_ok-write_rate_words.ensures time
     (pushed c.push_str.result (string_bytes c.write_millis.new.text) (string_bytes c.push_str.new.self) (codes " ms. ") c.push_str.ensures.bytes)

@@ -3,4 +3,5 @@ use Rattle.psi_tables.proofs.Linear.{after_byte_is}
 use Rattle.psi_tables.proofs.crc.step.Goals as goal
 
 pub returns : goal.returns
-returns c = ap (λ (n : ℕ). bit_xor (c.args.register * 256 % 4294967296) n) c.crc_table_entry.ensures ∙ sym (after_byte_is c.args.register c.args.byte (omega arith))
+returns c = ap (λ (n : ℕ). bit_xor (c.args.register * 256 % 4294967296) n) c.crc_table_entry.ensures
+    ∙ sym (after_byte_is c.args.register c.args.byte (omega arith))

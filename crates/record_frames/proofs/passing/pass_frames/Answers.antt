@@ -19,5 +19,6 @@ returns g c =
     let f0 : Port = record { bytes = g.E.Write.contents c.args.faults.now; failed = g.E.Sink.fault_count c.args.faults.now } in
     let f1 : Port = record { bytes = g.E.Write.contents c.pass_pieces-passed.new.faults; failed = g.E.Sink.fault_count c.pass_pieces-passed.new.faults } in
     let f2 : Port = record { bytes = g.E.Write.contents c.report_end-status.new.faults; failed = g.E.Sink.fault_count c.report_end-status.new.faults } in
-    frames_done (between i0 i1) (between o0 o1) f0 f1 f2 c.pass_pieces-passed.new.feed c.pass_pieces-passed.result c.report_end-status.result c.pass_pieces-passed.ensures.passes
+    frames_done (between i0 i1) (between o0 o1) f0 f1 f2 c.pass_pieces-passed.new.feed c.pass_pieces-passed.result c.report_end-status.result
+    c.pass_pieces-passed.ensures.passes
     c.report_end-status.ensures

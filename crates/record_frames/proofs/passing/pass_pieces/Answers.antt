@@ -47,8 +47,10 @@ returns-in-Err-let_out-clause-passes g c =
     let f1 : Port = record { bytes = g.E.Write.contents c.loop.faults; failed = g.E.Sink.fault_count c.loop.faults } in
     let o2 : Port = record { bytes = g.W.Write.contents c.let_out.new.output; failed = g.W.Sink.fault_count c.let_out.new.output } in
     let f2 : Port = record { bytes = g.E.Write.contents c.let_out.new.faults; failed = g.E.Sink.fault_count c.let_out.new.faults } in
-    out_stops i0 i1 i2 o0 o1 o2 (between f0 f1) (between f1 f2) c.loop.feed c.take_piece.new.feed c.let_out.new.feed c.loop.counter c.in-Err-let_out.halt c.loop.invariant.come
-    c.loop.invariant.records (takes_some c.loop.feed c.take_piece.new.feed (between i1 i2) c.in-Ok-true.field-0 c.in-Ok-true.field-0-test c.in-Ok-true.ensures) c.in-Err-let_out.ensures.out
+    out_stops i0 i1 i2 o0 o1 o2 (between f0 f1) (between f1 f2) c.loop.feed c.take_piece.new.feed c.let_out.new.feed c.loop.counter c.in-Err-let_out.halt
+    c.loop.invariant.come
+    c.loop.invariant.records (takes_some c.loop.feed c.take_piece.new.feed (between i1 i2) c.in-Ok-true.field-0 c.in-Ok-true.field-0-test c.in-Ok-true.ensures)
+    c.in-Err-let_out.ensures.out
 
 pub loop-preserved : goal.loop-preserved
 loop-preserved g c =
@@ -67,7 +69,8 @@ loop-preserved g c =
       opens = subst (λ (f : OpenFrame). IsOpen f.begun) (sym out.frame) some.taken.is_open;
       records = out.records;
       drops = out.drops;
-      come = piece_more i0 i1 i2 o0 o1 o2 f0 f1 f2 c.loop.feed c.take_piece.new.feed c.let_out.new.feed c.loop.counter c.loop.invariant.come c.loop.invariant.records c.loop.invariant.drops some out;
+      come = piece_more i0 i1 i2 o0 o1 o2 f0 f1 f2 c.loop.feed c.take_piece.new.feed c.let_out.new.feed c.loop.counter c.loop.invariant.come
+          c.loop.invariant.records c.loop.invariant.drops some out;
     }
 
 pub returns-in-Ok-false-clause-opens : goal.returns-in-Ok-false-clause-opens

@@ -6,4 +6,5 @@ use Rattle.service_information.proofs.event_surplus.event_surplus.Given as goal
 
 abbrev pub invariant-loop-finding : goal.invariant-loop-finding
 invariant-loop-finding l =
-    first_packet (is_surplus l.numbers l.taken) (map finding_view l.findings) ≡ first_packet (is_surplus l.numbers l.taken) (map finding_view (drop l.finding-index l.findings))
+    first_packet (is_surplus l.numbers l.taken) (map finding_view l.findings) ≡ first_packet (is_surplus l.numbers l.taken)
+    (map finding_view (drop l.finding-index l.findings))

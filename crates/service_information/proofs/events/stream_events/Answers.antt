@@ -7,7 +7,8 @@ use Rattle.service_information.proofs.events.stream_events.Goals as goal
 
 pub loop-finding-init : goal.loop-finding-init
 loop-finding-init c =
-    ap (λ (taken : List FoundEventView). with_findings c.args.numbers.now taken (map (finding_view {A = Global}) c.args.findings.now)) (sym c.new-taken.ensures.items)
+    ap (λ (taken : List FoundEventView). with_findings c.args.numbers.now taken (map (finding_view {A = Global}) c.args.findings.now))
+    (sym c.new-taken.ensures.items)
 
 pub loop-finding-preserved : goal.loop-finding-preserved
 loop-finding-preserved c =
@@ -20,4 +21,5 @@ pub returns : goal.returns
 unfolding stream_events
 returns c =
     sym (c.loop-finding.invariant
-    ∙ events_end (finding_view {A = Global}) c.args.numbers.now c.loop-finding.finding-index c.args.findings.now c.loop-finding.taken.items c.loop-finding-test.false)
+    ∙ events_end (finding_view {A = Global}) c.args.numbers.now c.loop-finding.finding-index c.args.findings.now c.loop-finding.taken.items
+    c.loop-finding-test.false)

@@ -20,4 +20,5 @@ returns-then-is_bad_on c =
 
 pub returns : goal.returns
 returns c =
-    sym (c.loop-finding.invariant ∙ packet_end (finding_view {A = Global}) (is_bad_on c.args.pid) c.loop-finding.finding-index c.args.findings.now c.loop-finding-test.false)
+    sym (c.loop-finding.invariant ∙ packet_end (finding_view {A = Global}) (is_bad_on c.args.pid) c.loop-finding.finding-index c.args.findings.now
+    c.loop-finding-test.false)

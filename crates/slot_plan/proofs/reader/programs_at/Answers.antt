@@ -7,7 +7,8 @@ pub returns-in_default-clause-read : goal.returns-in_default-clause-read
 returns-in_default-clause-read g c =
     let begins : begins_with 112 c.loop-number.rest.now ≡ true = search rules in
     let none : program_at c.loop-number.number c.loop-number.rest.now ≡ None = is_none_read _ _ _ c.program_at.ensures c.in_default.is in
-    c.loop-number.invariant.same ∙ program_none c.args.line c.loop-number.number c.loop-number.rest.now c.loop-number.entries.items c.loop-number-test.true begins none
+    c.loop-number.invariant.same ∙ program_none c.args.line c.loop-number.number c.loop-number.rest.now c.loop-number.entries.items c.loop-number-test.true
+    begins none
 
 pub loop-number-preserved : goal.loop-number-preserved
 loop-number-preserved g c =
@@ -16,7 +17,9 @@ loop-number-preserved g c =
     = is_some_read _ _ _ _ c.program_at.ensures c.in-Some.is in
     let pushed : c.push.new.self.items ≡ c.loop-number.entries.items ++ c.in-Some.entry ∷ [] = search rules in
     record {
-      same = rw pushed (c.loop-number.invariant.same ∙ program_more c.args.line c.loop-number.number c.loop-number.rest.now c.in-Some.after.now c.loop-number.entries.items c.in-Some.entry c.loop-number-test.true begins some);
+      same = rw pushed
+          (c.loop-number.invariant.same ∙ program_more c.args.line c.loop-number.number c.loop-number.rest.now c.in-Some.after.now c.loop-number.entries.items
+          c.in-Some.entry c.loop-number-test.true begins some);
       count = search rules;
     }
 

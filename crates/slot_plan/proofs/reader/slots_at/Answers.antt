@@ -15,4 +15,5 @@ loop-index-preserved g c =
     let some : slot_at (slot_ending c.args.period c.loop-index.index) c.loop-index.rest.now ≡ Some (c.in-Some.slot, c.in-Some.after.now)
     = is_some_read _ _ _ _ (rw c.slot_ending.ensures at c.slot_at.ensures) c.in-Some.is in
     let pushed : c.push.new.self.items ≡ c.loop-index.slots.items ++ c.in-Some.slot ∷ [] = search rules in
-    rw pushed (c.loop-index.invariant ∙ slot_more c.args.period c.loop-index.index c.loop-index.rest.now c.in-Some.after.now c.loop-index.slots.items c.in-Some.slot c.loop-index-test.true some)
+    rw pushed (c.loop-index.invariant ∙ slot_more c.args.period c.loop-index.index c.loop-index.rest.now c.in-Some.after.now c.loop-index.slots.items
+    c.in-Some.slot c.loop-index-test.true some)

@@ -21,10 +21,12 @@ pub returns-clause-holds : goal.returns-clause-holds
 returns-clause-holds g c =
     let burst : ℕ → ℕ = g.U.PacedUnits.burst c.args.units.now in
     let is = found c.args.needs burst c.args.delay c.args.max_lead c.in_ok-first.first c.requires.ranges (sym c.in_ok-first.ensures.value) in
-    subst (λ (x : Choice). IsChoice c.args.needs c.args.max_lead x) (sym (c.paced.ensures ∙ ap (paced burst c.args.delay) c.halved-pace.ensures.value)) is.is_choice
+    subst (λ (x : Choice). IsChoice c.args.needs c.args.max_lead x) (sym (c.paced.ensures ∙ ap (paced burst c.args.delay) c.halved-pace.ensures.value))
+    is.is_choice
 
 pub returns-clause-pace : goal.returns-clause-pace
 returns-clause-pace g c =
     let burst : ℕ → ℕ = g.U.PacedUnits.burst c.args.units.now in
     let is = found c.args.needs burst c.args.delay c.args.max_lead c.in_ok-first.first c.requires.ranges (sym c.in_ok-first.ensures.value) in
-    subst (λ (x : Choice). IsPaceChoice c.args.needs burst c.args.delay c.args.max_lead x) (sym (c.paced.ensures ∙ ap (paced burst c.args.delay) c.halved-pace.ensures.value)) is.is_paced
+    subst (λ (x : Choice). IsPaceChoice c.args.needs burst c.args.delay c.args.max_lead x)
+    (sym (c.paced.ensures ∙ ap (paced burst c.args.delay) c.halved-pace.ensures.value)) is.is_paced

@@ -13,19 +13,22 @@ loop-turn-preserved g c =
     let next : ℕ → ℕ → ℕ = λ a b. halved (27 - (c.loop-turn.turn + 1)) f a b in
     elim c.if-low-high.branch [
       | then-low-high+then-serves w ↦ record {
-        same = inv.same ∙ halved_below 27 c.loop-turn.turn f low high (omega (arith, c.loop-turn-test.true)) (omega (arith, w.if-low-high.true)) (sym w.serves.ensures ∙ w.if-serves.true)
+        same = inv.same ∙ halved_below 27 c.loop-turn.turn f low high (omega (arith, c.loop-turn-test.true)) (omega (arith, w.if-low-high.true))
+            (sym w.serves.ensures ∙ w.if-serves.true)
             ∙ ap₂ next (sym w.low-is) (sym w.high-is);
         order = omega (arith, w.low-is, w.high-is, inv.order);
         bound = omega (arith, w.high-is, inv.order, inv.bound);
       }
       | then-low-high+else-serves w ↦ record {
-        same = inv.same ∙ halved_above 27 c.loop-turn.turn f low high (omega (arith, c.loop-turn-test.true)) (omega (arith, w.if-low-high.true)) (sym w.serves.ensures ∙ w.if-serves.false)
+        same = inv.same ∙ halved_above 27 c.loop-turn.turn f low high (omega (arith, c.loop-turn-test.true)) (omega (arith, w.if-low-high.true))
+            (sym w.serves.ensures ∙ w.if-serves.false)
             ∙ ap₂ next (sym w.low-is) (sym w.high-is);
         order = omega (arith, w.low-is, w.high-is, inv.order);
         bound = omega (arith, w.high-is, inv.bound);
       }
       | else-low-high w ↦ record {
-        same = inv.same ∙ halved_here 27 c.loop-turn.turn f low high (omega (arith, c.loop-turn-test.true)) (omega (arith, w.if-low-high.false)) ∙ ap₂ next (sym w.low-is) (sym w.high-is);
+        same = inv.same ∙ halved_here 27 c.loop-turn.turn f low high (omega (arith, c.loop-turn-test.true)) (omega (arith, w.if-low-high.false))
+            ∙ ap₂ next (sym w.low-is) (sym w.high-is);
         order = omega (arith, w.low-is, w.high-is, inv.order);
         bound = omega (arith, w.high-is, inv.bound);
       }

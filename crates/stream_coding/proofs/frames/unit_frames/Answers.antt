@@ -25,7 +25,12 @@ frames-preserved c =
           ∙ walk_on c.args.kind c.frames.steps c.frames.frames c.frames.left.now c.in_ok-header.header c.in_ok-header.rest.now some
           (sym c.is_empty.ensures ∙ c.if-is_empty.false) next
           ∙ ap (λ (d : UnitFrames). walked c.args.kind (c.frames.steps - 1) d c.in_ok-header.rest.now) (sym c.with_frame-frames.ensures);
-      bound = omega (arith, ap (λ (d : UnitFrames). d.count) c.with_frame-frames.ensures ∙ counted c.frames.frames c.in_ok-header.header, c.frames.invariant.bound, some);
+      bound = omega (
+        arith,
+        ap (λ (d : UnitFrames). d.count) c.with_frame-frames.ensures ∙ counted c.frames.frames c.in_ok-header.header,
+        c.frames.invariant.bound,
+        some,
+      );
     }
 
 pub returns-then-is_empty-2 : goal.returns-then-is_empty-2

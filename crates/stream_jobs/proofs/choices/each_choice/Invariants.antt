@@ -6,7 +6,8 @@ use Rattle.stream_jobs.proofs.choices.each_choice.Given as goal
 
 abbrev pub invariant-loop-stream : goal.invariant-loop-stream
 invariant-loop-stream l = record {
-  each : each (chosen l.declare_by l.greatest_lead l.sum) (zip l.fn.streams l.fn.all) ≡ after l.choices.items (each (chosen l.declare_by l.greatest_lead l.sum) (zip l.left l.others));
+  each : each (chosen l.declare_by l.greatest_lead l.sum) (zip l.fn.streams l.fn.all) ≡ after l.choices.items
+      (each (chosen l.declare_by l.greatest_lead l.sum) (zip l.left l.others));
   known : IfSome l.known (λ k. k.choice ≡ asked_groups l.declare_by l.greatest_lead l.sum k.unit_counts.now.multiplexing k.unit_counts.now);
 }
 

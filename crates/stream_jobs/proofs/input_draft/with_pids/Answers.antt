@@ -21,24 +21,38 @@ returns-clause-value c =
     let findings = map finding_view c.args.findings.now in
     let streams = c.in_ok-streams.streams.items in
     let are : wire_streams options findings c.args.found.streams ≡ streams = search rules in
-    let empties : c.wire_streams.new.warnings.items ≡ c.in_ok-warnings.warnings.items ++ all_left_out_warnings options c.args.count findings c.args.found.streams = search rules in
-    let programs : c.job_programs.new.warnings.items ≡ c.wire_streams.new.warnings.items ++ all_program_warnings streams c.args.found.programs c.args.assigned.items = search rules in
-    let pids : c.push_stream_warnings.new.warnings.items ≡ c.job_programs.new.warnings.items ++ flat_map (λ s. pid_warnings c.args.count findings s.pid) streams =
-    c.in_ok-push_stream_warnings.ensures ∙ ap (λ (all : List WireStreamView). c.job_programs.new.warnings.items ++ flat_map (λ s. pid_warnings c.args.count findings s.pid) all) c.deref-2.ensures.value in
+    let empties : c.wire_streams.new.warnings.items ≡ c.in_ok-warnings.warnings.items
+    ++ all_left_out_warnings options c.args.count findings c.args.found.streams = search rules in
+    let programs : c.job_programs.new.warnings.items ≡ c.wire_streams.new.warnings.items
+    ++ all_program_warnings streams c.args.found.programs c.args.assigned.items = search rules in
+    let pids : c.push_stream_warnings.new.warnings.items ≡ c.job_programs.new.warnings.items
+    ++ flat_map (λ s. pid_warnings c.args.count findings s.pid) streams =
+    c.in_ok-push_stream_warnings.ensures
+    ∙ ap (λ (all : List WireStreamView). c.job_programs.new.warnings.items ++ flat_map (λ s. pid_warnings c.args.count findings s.pid) all)
+    c.deref-2.ensures.value in
     let named = ap (λ (f : FoundProgramsView). f.programs) c.found.view_is in
-    let made : c.in_ok-programs.programs.items ≡ job_programs streams c.args.found.programs c.args.assigned.items = search (rules, c.in_ok-programs.ensures.programs, c.deref.ensures.value, named) in
+    let made : c.in_ok-programs.programs.items ≡ job_programs streams c.args.found.programs c.args.assigned.items =
+    search (rules, c.in_ok-programs.ensures.programs, c.deref.ensures.value, named) in
     let names = ap (λ (o : JobOptionsView). o.names) c.options.view_is in
-    let pushed : c.push_service_warnings.new.warnings.items ≡ c.push_stream_warnings.new.warnings.items ++ service_warnings c.options.inside.names.now findings c.deref-3.result.now = c.in_ok-push_service_warnings.ensures in
-    let texts : c.push_service_warnings.new.warnings.items ≡ c.push_stream_warnings.new.warnings.items ++ service_warnings options.names findings (job_programs streams c.args.found.programs c.args.assigned.items) =
-    pushed ∙ ap₂ (λ (ns : List ServiceNameView) (ps : List JobProgramView). c.push_stream_warnings.new.warnings.items ++ service_warnings ns findings ps) names (c.deref-3.ensures.value ∙ made) in
-    let tables : c.in_ok-tables.tables.items ≡ job_tables options.without c.args.count findings c.in_ok-programs.programs.items streams c.args.found.tables = search (rules, c.in_ok-tables.ensures) in
+    let pushed : c.push_service_warnings.new.warnings.items ≡ c.push_stream_warnings.new.warnings.items
+    ++ service_warnings c.options.inside.names.now findings c.deref-3.result.now = c.in_ok-push_service_warnings.ensures in
+    let texts : c.push_service_warnings.new.warnings.items ≡ c.push_stream_warnings.new.warnings.items
+    ++ service_warnings options.names findings (job_programs streams c.args.found.programs c.args.assigned.items) =
+    pushed ∙ ap₂ (λ (ns : List ServiceNameView) (ps : List JobProgramView). c.push_stream_warnings.new.warnings.items ++ service_warnings ns findings ps) names
+    (c.deref-3.ensures.value ∙ made) in
+    let tables : c.in_ok-tables.tables.items ≡ job_tables options.without c.args.count findings c.in_ok-programs.programs.items streams c.args.found.tables =
+    search (rules, c.in_ok-tables.ensures) in
     let left : c.told-told.result.items ≡ told c.in_ok-tables.tables.items c.push_service_warnings.new.warnings.items = search (rules, c.told-told.ensures) in
     let id = ap (λ (a : AssociationView). a.transport_stream_id) c.association.view_is in
-    let value : Leads (with_streams options findings c.args.association.now.transport_stream_id c.in_ok-programs.programs.items c.in_ok-tables.tables.items c.told-told.result.items streams) (finished options findings) c.with_streams.result =
+    let value : Leads
+    (with_streams options findings c.args.association.now.transport_stream_id c.in_ok-programs.programs.items c.in_ok-tables.tables.items
+    c.told-told.result.items streams) (finished options findings) c.with_streams.result =
     search (rules, c.with_streams.ensures.value, id) in
     let warnings = all_warnings options c.args.count findings c.args.association.now c.args.named.now c.args.found c.args.assigned.items streams
-    c.in_ok-warnings.warnings.items c.wire_streams.new.warnings.items c.job_programs.new.warnings.items c.push_stream_warnings.new.warnings.items c.push_service_warnings.new.warnings.items
+    c.in_ok-warnings.warnings.items c.wire_streams.new.warnings.items c.job_programs.new.warnings.items c.push_stream_warnings.new.warnings.items
+    c.push_service_warnings.new.warnings.items
     c.in_ok-warnings.ensures empties programs pids texts in
     in_pids options c.args.count findings c.args.association.now c.args.named.now c.args.found c.args.assigned.items streams
-    c.in_ok-programs.programs.items c.in_ok-tables.tables.items c.push_service_warnings.new.warnings.items c.told-told.result.items (finished options findings) c.with_streams.result
+    c.in_ok-programs.programs.items c.in_ok-tables.tables.items c.push_service_warnings.new.warnings.items c.told-told.result.items (finished options findings)
+    c.with_streams.result
     are made tables warnings left value

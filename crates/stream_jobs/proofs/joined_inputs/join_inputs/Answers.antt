@@ -8,4 +8,5 @@ pub returns-clause-streams : goal.returns-clause-streams
 returns-clause-streams c made inputs of = found_answered made inputs c.args.first c.args.more.items c.all_joined.result c.all_joined.ensures.joined of
 
 pub returns-clause-constants : goal.returns-clause-constants
-returns-clause-constants c made inputs constant all = constants_answered made inputs constant c.args.first c.args.more.items c.all_joined.result c.all_joined.ensures.joined all
+returns-clause-constants c made inputs constant all =
+    constants_answered made inputs constant c.args.first c.args.more.items c.all_joined.result c.all_joined.ensures.joined all

@@ -14,4 +14,5 @@ invariant-loop-stream l =
     All (IsCarried l.make_dts (map finding_view l.findings)) l.stream-iterator.rest.items ×
     All (IsMoved l.make_dts (map finding_view l.findings)) (map (timed_stream (map finding_view l.findings)) l.moved.items) ×
     (each (moved_by (map finding_view l.findings) l.earliest l.programs l.firsts) l.fn.streams.items
-    ≡ after (map (timed_stream (map finding_view l.findings)) l.moved.items) (each (moved_by (map finding_view l.findings) l.earliest l.programs l.firsts) l.stream-iterator.rest.items))
+    ≡ after (map (timed_stream (map finding_view l.findings)) l.moved.items)
+    (each (moved_by (map finding_view l.findings) l.earliest l.programs l.firsts) l.stream-iterator.rest.items))

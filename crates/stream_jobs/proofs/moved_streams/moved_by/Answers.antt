@@ -18,10 +18,12 @@ returns-in-Ok-clause-value c =
     let base = c.in_ok-base.base in
     let us : c.deref.result.now ≡ s.units = c.deref.ensures.value ∙ ap (λ (w : WireStreamView). w.units) c.stream.view_is in
     let based = c.in_ok-base.ensures.value
-    ∙ ap (base_of c.args.earliest c.args.firsts.now) (c.clock_in-clock.ensures ∙ ap (λ (w : WireStreamView). clock_in c.args.programs.now w.program) c.stream.view_is) in
+    ∙ ap (base_of c.args.earliest c.args.firsts.now)
+    (c.clock_in-clock.ensures ∙ ap (λ (w : WireStreamView). clock_in c.args.programs.now w.program) c.stream.view_is) in
     let limit : c.stream_limit-limit.result ≡ pts_limit_of s.stream_type s.descriptors = c.stream_limit-limit.ensures in
     let sound = subst (λ (n : ℕ). first_fault n base None 0 (map (λ (u : CarriedUnit). u.unit) s.units) ≡ None) limit
-    (subst (λ (l : List CarriedUnit). first_fault c.stream_limit-limit.result base None 0 (map (λ (u : CarriedUnit). u.unit) l) ≡ None) us (c.in-Ok.ensures.sound)) in
+    (subst (λ (l : List CarriedUnit). first_fault c.stream_limit-limit.result base None 0 (map (λ (u : CarriedUnit). u.unit) l) ≡ None) us
+    (c.in-Ok.ensures.sound)) in
     let moments = c.in-Ok.ensures.moments ∙ ap (λ (l : List CarriedUnit). map moment_of (moved base None (map (λ (u : CarriedUnit). u.unit) l))) us in
     moved_leads c.args.make_dts (map finding_view c.args.findings.now) c.args.earliest base c.args.programs.now c.args.firsts.now s c.in-Ok.units.items _
     based c.requires sound moments (ap (λ (w : WireStreamView). head_of w c.in-Ok.units.items) c.stream.view_is)
@@ -33,7 +35,8 @@ returns-in-Ok-clause-moved c =
     let us : c.deref.result.now ≡ s.units = c.deref.ensures.value ∙ ap (λ (w : WireStreamView). w.units) c.stream.view_is in
     let limit : c.stream_limit-limit.result ≡ pts_limit_of s.stream_type s.descriptors = c.stream_limit-limit.ensures in
     let sound = subst (λ (n : ℕ). first_fault n base None 0 (map (λ (u : CarriedUnit). u.unit) s.units) ≡ None) limit
-    (subst (λ (l : List CarriedUnit). first_fault c.stream_limit-limit.result base None 0 (map (λ (u : CarriedUnit). u.unit) l) ≡ None) us (c.in-Ok.ensures.sound)) in
+    (subst (λ (l : List CarriedUnit). first_fault c.stream_limit-limit.result base None 0 (map (λ (u : CarriedUnit). u.unit) l) ≡ None) us
+    (c.in-Ok.ensures.sound)) in
     let moments = c.in-Ok.ensures.moments ∙ ap (λ (l : List CarriedUnit). map moment_of (moved base None (map (λ (u : CarriedUnit). u.unit) l))) us in
     moved_is c.args.make_dts (map finding_view c.args.findings.now) base s c.in-Ok.units.items _
     c.in_ok-base.ensures.bound c.requires sound moments (ap (λ (w : WireStreamView). head_of w c.in-Ok.units.items) c.stream.view_is)

@@ -20,10 +20,13 @@ loop-number-preserved c =
     let given : c.push.new.self.items ≡ l.given.items ++ c.in-Some.place ∷ [] = search rules in
     let taken : c.push-in-loop-number.new.self.items ≡ l.taken.items ++ c.in-Some.place ∷ [] = search rules in
     record {
-      taken = more_taken (before ++ own) l.given.items l.taken.items c.push.new.self.items c.push-in-loop-number.new.self.items c.in-Some.place l.invariant.taken given taken;
-      places = l.invariant.places ∙ next_place c.args.least before own l.given.items c.push.new.self.items l.number-index c.in-Some.place c.loop-number-test.true is given;
+      taken = more_taken (before ++ own) l.given.items l.taken.items c.push.new.self.items c.push-in-loop-number.new.self.items c.in-Some.place
+          l.invariant.taken given taken;
+      places = l.invariant.places ∙ next_place c.args.least before own l.given.items c.push.new.self.items l.number-index c.in-Some.place
+          c.loop-number-test.true is given;
     }
 
 pub returns : goal.returns
 returns c =
-    sym (c.loop-number.invariant.places ∙ all_places c.args.least c.args.before.now c.args.own.now c.loop-number.given.items c.loop-number.number-index c.loop-number-test.false)
+    sym (c.loop-number.invariant.places ∙ all_places c.args.least c.args.before.now c.args.own.now c.loop-number.given.items c.loop-number.number-index
+    c.loop-number-test.false)

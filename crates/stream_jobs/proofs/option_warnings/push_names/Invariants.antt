@@ -3,4 +3,5 @@ use Rattle.stream_jobs.specs.Warnings.{name_warning}
 use Rattle.stream_jobs.proofs.option_warnings.push_names.Given as goal
 
 abbrev pub invariant-loop-name : goal.invariant-loop-name
-invariant-loop-name l = l.fn.warnings.items ++ flat_map (name_warning l.association) l.names ≡ l.warnings.items ++ flat_map (name_warning l.association) (drop l.name-index l.names)
+invariant-loop-name l = l.fn.warnings.items ++ flat_map (name_warning l.association) l.names ≡ l.warnings.items
+    ++ flat_map (name_warning l.association) (drop l.name-index l.names)

@@ -5,7 +5,8 @@ use Rattle.stream_jobs.proofs.option_warnings.push_option_warnings.Goals as goal
 
 -- lists, one after the other
 three : (old a b c one two all : List Warning) → one ≡ old ++ a → two ≡ one ++ b → all ≡ two ++ c → all ≡ old ++ ((a ++ b) ++ c)
-three old a b c one two all first second third = rw (third, second, first) (ap (λ (ws : List Warning). ws ++ c) (append_assoc old a b) ∙ append_assoc old (a ++ b) c)
+three old a b c one two all first second third =
+    rw (third, second, first) (ap (λ (ws : List Warning). ws ++ c) (append_assoc old a b) ∙ append_assoc old (a ++ b) c)
 
 four : (old a b c d one two more all : List Warning) → one ≡ old ++ a → two ≡ one ++ b → more ≡ two ++ c → all ≡ more ++ d → all ≡ old ++ (((a ++ b) ++ c) ++ d)
 four old a b c d one two more all first second third fourth =

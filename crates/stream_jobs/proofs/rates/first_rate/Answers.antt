@@ -19,6 +19,7 @@ returns-clause-refused c =
       record {
         description = d;
         read = read;
-        too_much = subst (λ (s : List _). IsTooMuch s (recurring_of d)) shares_are (subst (λ (r : List Recurring). IsTooMuch c.deref-3.result.now r) recurring_are none);
+        too_much = subst (λ (s : List _). IsTooMuch s (recurring_of d)) shares_are
+            (subst (λ (r : List Recurring). IsTooMuch c.deref-3.result.now r) recurring_are none);
       },
     )

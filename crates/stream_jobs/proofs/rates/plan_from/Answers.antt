@@ -38,7 +38,8 @@ returns-in_err-planned-clause-refused c =
     let m = c.args.draft.now.input.now in
     let refused : IsWhyNotReadAtOne (IsTriedFrom w m c.args.first) w m c.in_err-planned.field-0.0 = record {
       rate = c.loop-tried.rate;
-      is_read = tried_after w m c.loop-tried.tried c.args.first c.loop-tried.rate c.loop-tried.invariant c.loop-tried-test.true (omega (arith, c.if-rate-gt-GREATEST_RATE.false));
+      is_read = tried_after w m c.loop-tried.tried c.args.first c.loop-tried.rate c.loop-tried.invariant c.loop-tried-test.true
+          (omega (arith, c.if-rate-gt-GREATEST_RATE.false));
       unread = c.in_err-planned.ensures.refused;
     } in
     let p = err_from_is_err_and c.from_residual.result c.from_residual.ensures.1 in

@@ -6,7 +6,8 @@ use Rattle.stream_jobs.proofs.rates.push_tables.Goals as goal
 
 pub loop-table-preserved : goal.loop-table-preserved
 loop-table-preserved c =
-    rw (c.in_ok-push.ensures.items, c.table_recurs.ensures) (pushed_table (table_recurs c.args.description.now) _ c.loop-table.recurring.items c.loop-table.table c.loop-table.invariant)
+    rw (c.in_ok-push.ensures.items, c.table_recurs.ensures)
+    (pushed_table (table_recurs c.args.description.now) _ c.loop-table.recurring.items c.loop-table.table c.loop-table.invariant)
 
 pub returns : goal.returns
 returns c =

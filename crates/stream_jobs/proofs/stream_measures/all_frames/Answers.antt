@@ -11,7 +11,8 @@ pub loop-unit-preserved : goal.loop-unit-preserved
 loop-unit-preserved c =
     let next : unit_frames c.args.kind c.in-Some.unit.now.bytes ≡ Some c.in_ok-others.others = search rules in
     c.loop-unit.invariant
-    ∙ frames_more c.args.kind c.loop-unit.frames c.in_ok-others.others c.loop-unit.left.now c.in-Some.later.now c.in-Some.unit.now c.in-Some.ensures.cases.0 next
+    ∙ frames_more c.args.kind c.loop-unit.frames c.in_ok-others.others c.loop-unit.left.now c.in-Some.later.now c.in-Some.unit.now c.in-Some.ensures.cases.0
+    next
     ∙ ap (λ (d : UnitFrames). all_frames c.args.kind d (all_bytes c.in-Some.later.now)) (sym c.joined-frames.ensures)
 
 pub returns-in_err-others : goal.returns-in_err-others

@@ -7,16 +7,20 @@ use Rattle.stream_jobs.proofs.timed_streams.timed_streams.Goals as goal
 pub streams-init : goal.streams-init
 streams-init c =
     let pids : c.as_slice-later.result.now ≡ pids_of c.from-left.result.items = search rules in
-    taken_start (map finding_view c.args.findings.now) c.as_slice-later.result.now c.from-left.result.items c.in_ok-timed.timed.items pids (let none : c.in_ok-timed.timed.items ≡ [] = search rules in none)
+    taken_start (map finding_view c.args.findings.now) c.as_slice-later.result.now c.from-left.result.items c.in_ok-timed.timed.items pids
+    (let none : c.in_ok-timed.timed.items ≡ [] = search rules in none)
 
 pub streams-preserved : goal.streams-preserved
 streams-preserved c =
     let old = map finding_view c.args.findings.now in
     let all = map (timed_stream old) c.from-left.result.items in
     let pushed : c.push.new.self.items ≡ c.streams.timed.items ++ c.in_ok-timed_stream.field-0 ∷ [] = search rules in
-    taken_more old (map finding_view c.streams.findings) (map finding_view c.units_of.new.findings) c.streams.later.now c.in-Some-split_first.rest.now c.in-Some-split_first.pid.now
-    c.streams.left.items c.pop_front.new.self.items c.in-Some.next c.in_ok-units.units.items c.in_ok-timed_stream.field-0 all c.streams.timed.items c.push.new.self.items
-    c.streams.invariant c.in-Some-split_first.ensures.cases.0 c.in-Some.ensures.items c.in_ok-units.ensures.units c.in_ok-units.ensures.others c.in_ok-timed_stream.ensures pushed
+    taken_more old (map finding_view c.streams.findings) (map finding_view c.units_of.new.findings) c.streams.later.now c.in-Some-split_first.rest.now
+    c.in-Some-split_first.pid.now
+    c.streams.left.items c.pop_front.new.self.items c.in-Some.next c.in_ok-units.units.items c.in_ok-timed_stream.field-0 all c.streams.timed.items
+    c.push.new.self.items
+    c.streams.invariant c.in-Some-split_first.ensures.cases.0 c.in-Some.ensures.items c.in_ok-units.ensures.units c.in_ok-units.ensures.others
+    c.in_ok-timed_stream.ensures pushed
 
 pub returns : goal.returns
 returns c =

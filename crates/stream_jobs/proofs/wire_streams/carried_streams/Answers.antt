@@ -33,4 +33,5 @@ pub returns-clause-streams : goal.returns-clause-streams
 returns-clause-streams c =
     let none : length c.loop-stream.stream-iterator.rest.items ≡ 0 = search (rules, arith) in
     sym (c.loop-stream.invariant.2
-    ∙ list_end (carried_stream c.args.options.now (map finding_view c.args.findings.now)) c.loop-stream.stream-iterator.rest.items c.loop-stream.streams.items none)
+    ∙ list_end (carried_stream c.args.options.now (map finding_view c.args.findings.now)) c.loop-stream.stream-iterator.rest.items c.loop-stream.streams.items
+    none)

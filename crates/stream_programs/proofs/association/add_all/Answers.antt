@@ -12,4 +12,5 @@ loop-finding-preserved g c =
 pub returns : goal.returns
 returns g c =
     sym (c.loop-finding.invariant
-    ∙ entries_end (finding_view {A = g.row.A.Denot}) c.args.version c.loop-finding.finding-index c.args.findings.now c.loop-finding.programs c.loop-finding-test.false)
+    ∙ entries_end (finding_view {A = g.row.A.Denot}) c.args.version c.loop-finding.finding-index c.args.findings.now c.loop-finding.programs
+    c.loop-finding-test.false)

@@ -19,4 +19,5 @@ returns-then-is_other g c =
 
 pub returns : goal.returns
 returns g c =
-    sym (c.loop-finding.invariant ∙ change_end (finding_view {A = g.row.A.Denot}) c.args.association.now c.loop-finding.finding-index c.args.findings.now c.loop-finding-test.false)
+    sym (c.loop-finding.invariant ∙ change_end (finding_view {A = g.row.A.Denot}) c.args.association.now c.loop-finding.finding-index c.args.findings.now
+    c.loop-finding-test.false)

@@ -14,4 +14,5 @@ pub returns : goal.returns
 returns g c =
     let view = finding_view {A = g.row.A.Denot} in
     sym (c.loop-finding.invariant
-    ∙ changes_end view c.args.part (map view c.args.findings.now) c.loop-finding.packets.entries c.loop-finding.finding-index c.args.findings.now c.loop-finding-test.false)
+    ∙ changes_end view c.args.part (map view c.args.findings.now) c.loop-finding.packets.entries c.loop-finding.finding-index c.args.findings.now
+    c.loop-finding-test.false)

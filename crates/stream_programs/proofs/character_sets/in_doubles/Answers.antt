@@ -7,7 +7,8 @@ pub loop-first-preserved : goal.loop-first-preserved
 loop-first-preserved g c =
     c.loop-first.invariant
     ∙ doubles_more c.args.wide c.loop-first.left.now c.in-Some.rest.now c.loop-first.characters.items c.push.new.self.items c.in-Some.first.now
-    (c.next_character-next.result.0, c.next_character-next.result.1.now) c.in-Some.ensures.cases.0 c.next_character-next.ensures.value c.in_ok-push.ensures.items
+    (c.next_character-next.result.0, c.next_character-next.result.1.now) c.in-Some.ensures.cases.0 c.next_character-next.ensures.value
+    c.in_ok-push.ensures.items
 
 pub returns : goal.returns
 returns g c =

@@ -26,7 +26,8 @@ returns-then-not-is_taken-clause-value c = least_is c.args.from c.args.taken.now
 
 pub returns-clause-none : goal.returns-clause-none
 returns-clause-none c =
-    taken_less c.args.from c.loop-pid.pid 8191 c.args.taken.now (let past : 8191 ≤ c.loop-pid.pid = omega (arith, c.loop-pid-test.false) in past) c.loop-pid.invariant.1
+    taken_less c.args.from c.loop-pid.pid 8191 c.args.taken.now (let past : 8191 ≤ c.loop-pid.pid = omega (arith, c.loop-pid-test.false) in past)
+    c.loop-pid.invariant.1
 
 pub returns-clause-value : goal.returns-clause-value
 returns-clause-value c = none_is c.args.from c.args.taken.now (returns-clause-none c)

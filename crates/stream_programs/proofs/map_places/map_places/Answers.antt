@@ -6,7 +6,8 @@ use Rattle.stream_programs.proofs.map_places.map_places.Goals as goal
 pub loop-at-preserved : goal.loop-at-preserved
 loop-at-preserved g c =
     c.loop-at.invariant
-    ∙ places_more (finding_view {A = g.row.A.Denot}) c.loop-at.places.entries c.note_place.new.places.entries c.loop-at.at c.args.findings.now c.index-findings-at.result
+    ∙ places_more (finding_view {A = g.row.A.Denot}) c.loop-at.places.entries c.note_place.new.places.entries c.loop-at.at c.args.findings.now
+    c.index-findings-at.result
     c.loop-at-test.true c.index-findings-at.is c.in_ok-note_place.ensures
 
 pub returns : goal.returns

@@ -9,17 +9,20 @@ pub loop-finding-preserved : goal.loop-finding-preserved
 loop-finding-preserved g c =
     let stays : c.is_surplus.result ≡ false = search rules in
     c.loop-finding.invariant
-    ∙ surplus_later (finding_view {A = g.row.A.Denot}) c.args.stream (option_map found_network_view c.args.network) c.loop-finding.finding-index c.args.findings.now c.finding-item.result
+    ∙ surplus_later (finding_view {A = g.row.A.Denot}) c.args.stream (option_map found_network_view c.args.network) c.loop-finding.finding-index
+    c.args.findings.now c.finding-item.result
     c.loop-finding-test.true c.finding-item.is (sym c.is_surplus.ensures ∙ stays)
 
 pub returns-then-is_surplus : goal.returns-then-is_surplus
 returns-then-is_surplus g c =
     let differs : c.is_surplus.result ≡ true = search rules in
     sym (c.loop-finding.invariant
-    ∙ surplus_here (finding_view {A = g.row.A.Denot}) c.args.stream (option_map found_network_view c.args.network) c.loop-finding.finding-index c.args.findings.now c.finding-item.result
+    ∙ surplus_here (finding_view {A = g.row.A.Denot}) c.args.stream (option_map found_network_view c.args.network) c.loop-finding.finding-index
+    c.args.findings.now c.finding-item.result
     c.loop-finding-test.true c.finding-item.is (sym c.is_surplus.ensures ∙ differs))
 
 pub returns : goal.returns
 returns g c =
     sym (c.loop-finding.invariant
-    ∙ surplus_end (finding_view {A = g.row.A.Denot}) c.args.stream (option_map found_network_view c.args.network) c.loop-finding.finding-index c.args.findings.now c.loop-finding-test.false)
+    ∙ surplus_end (finding_view {A = g.row.A.Denot}) c.args.stream (option_map found_network_view c.args.network) c.loop-finding.finding-index
+    c.args.findings.now c.loop-finding-test.false)

@@ -15,7 +15,8 @@ loop-map_pid-preserved g c =
     let clock = c.in-Some.pcr_pid in
     let is : least_free 256 l.used ≡ Some clock = search rules in
     let used : c.add.new.self ≡ l.used ++ clock ∷ [] = search rules in
-    let given : c.push.new.self.items ≡ l.given.items ++ record { map_pid = slice_index_or c.args.maps.now l.map_pid-index 0; pcr_pid = clock } ∷ [] = search rules in
+    let given : c.push.new.self.items ≡ l.given.items ++ record { map_pid = slice_index_or c.args.maps.now l.map_pid-index 0; pcr_pid = clock } ∷ [] =
+    search rules in
     l.invariant
     ∙ next_clock l.used c.add.new.self c.args.maps.now l.given.items c.push.new.self.items l.map_pid-index clock c.loop-map_pid-test.true is used given
 

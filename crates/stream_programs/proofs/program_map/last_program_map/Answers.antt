@@ -26,4 +26,5 @@ loop-finding-preserved g c =
 pub returns : goal.returns
 returns g c =
     sym (c.loop-finding.invariant
-    ∙ last_end (finding_view {A = g.row.A.Denot}) pmt_view c.args.program c.loop-finding.finding-index c.args.findings.now c.loop-finding.last c.loop-finding-test.false)
+    ∙ last_end (finding_view {A = g.row.A.Denot}) pmt_view c.args.program c.loop-finding.finding-index c.args.findings.now c.loop-finding.last
+    c.loop-finding-test.false)

@@ -6,4 +6,5 @@ use Rattle.stream_programs.proofs.programs.any_ca.Given as goal
 
 abbrev pub invariant-loop-stream : goal.invariant-loop-stream
 invariant-loop-stream l =
-    list_any (λ (s : StreamView). has_ca s.descriptors) (streams_of l.stream-iterator) ≡ list_any (λ (s : StreamView). has_ca s.descriptors) (streams_of l.fn.streams)
+    list_any (λ (s : StreamView). has_ca s.descriptors) (streams_of l.stream-iterator) ≡ list_any (λ (s : StreamView). has_ca s.descriptors)
+    (streams_of l.fn.streams)

@@ -13,7 +13,8 @@ pub loop-finding-preserved-then-not-is_on : goal.loop-finding-preserved-then-not
 loop-finding-preserved-then-not-is_on g c =
     let view = finding_view {A = g.row.A.Denot} in
     c.loop-finding.invariant
-    ∙ service_more view found_service_view c.args.number c.loop-finding.finding-index c.args.findings.now c.finding-item.result None c.loop-finding.last c.loop-finding.last
+    ∙ service_more view found_service_view c.args.number c.loop-finding.finding-index c.args.findings.now c.finding-item.result None c.loop-finding.last
+    c.loop-finding.last
     c.loop-finding-test.true c.finding-item.is (sym (says_nothing c.args.number (view c.finding-item.result) (c.is_on.ensures c.if-not-is_on.true))) refl
 
 pub loop-finding-preserved : goal.loop-finding-preserved
@@ -26,4 +27,5 @@ loop-finding-preserved g c =
 pub returns : goal.returns
 returns g c =
     sym (c.loop-finding.invariant
-    ∙ service_end (finding_view {A = g.row.A.Denot}) found_service_view c.args.number c.loop-finding.finding-index c.args.findings.now c.loop-finding.last c.loop-finding-test.false)
+    ∙ service_end (finding_view {A = g.row.A.Denot}) found_service_view c.args.number c.loop-finding.finding-index c.args.findings.now c.loop-finding.last
+    c.loop-finding-test.false)

@@ -12,4 +12,5 @@ loop-finding-preserved g c =
 pub returns : goal.returns
 returns g c =
     sym (c.loop-finding.invariant
-    ∙ strays_end (finding_view {A = g.row.A.Denot}) c.args.known.now c.loop-finding.finding-index c.args.findings.now c.loop-finding.found c.loop-finding-test.false)
+    ∙ strays_end (finding_view {A = g.row.A.Denot}) c.args.known.now c.loop-finding.finding-index c.args.findings.now c.loop-finding.found
+    c.loop-finding-test.false)

@@ -22,11 +22,14 @@ returns-then-index-pid g c =
     let own : (c.index.result.now.pid == c.args.pid) ≡ true = search rules in
     let same = same_at ss c.loop-k.k c.index.result.now c.index_mut-stream.result.now below c.index.ensures c.index_mut-stream.ensures.value in
     let here : (c.index_mut-stream.result.now.pid == c.args.pid) ≡ true = subst (λ (s : FoundStreamView). (s.pid == c.args.pid) ≡ true) same own in
-    on_ok c.push_sharer.result (λ made. shared_here c.args.number c.args.pid c.loop-k.k ss c.index_mut-stream.result.now c.push_sharer.new.self below c.index_mut-stream.ensures.value here made c.loop-k.invariant.shared
+    on_ok c.push_sharer.result
+    (λ made. shared_here c.args.number c.args.pid c.loop-k.k ss c.index_mut-stream.result.now c.push_sharer.new.self below c.index_mut-stream.ensures.value
+    here made c.loop-k.invariant.shared
     ∙ ap (shared_by c.args.number c.args.pid) c.loop-k.invariant.same) c.push_sharer.ensures
 
 pub returns : goal.returns
 returns g c =
     let size = ap (length {A = _}) c.loop-k.invariant.same in
     let over : length c.loop-k.streams.items ≤ c.loop-k.k = omega (arith, c.loop-k-test.false, c.len-k-end.ensures, size) in
-    shared_end c.args.number c.args.pid c.loop-k.k c.loop-k.streams.items over c.loop-k.invariant.shared ∙ ap (shared_by c.args.number c.args.pid) c.loop-k.invariant.same
+    shared_end c.args.number c.args.pid c.loop-k.k c.loop-k.streams.items over c.loop-k.invariant.shared
+    ∙ ap (shared_by c.args.number c.args.pid) c.loop-k.invariant.same

@@ -8,5 +8,6 @@ use Rattle.stream_programs.proofs.texts.decode_text.Goals as goal
 
 pub returns-clause-printable : goal.returns-clause-printable
 returns-clause-printable g c =
-    IfOk-weaker c.fitting.result (λ text. string_bytes text ≡ fitting c.args.max_bytes [] (printable c.deref.result.now)) (λ text. NoCharPasses is_control (string_bytes text))
+    IfOk-weaker c.fitting.result (λ text. string_bytes text ≡ fitting c.args.max_bytes [] (printable c.deref.result.now))
+    (λ text. NoCharPasses is_control (string_bytes text))
     (λ text is. rw is (fitting_printable c.args.max_bytes c.deref.result.now)) c.fitting.ensures

@@ -17,7 +17,8 @@ loop-character-preserved g c =
     let room : fits c.args.max_bytes (string_bytes c.loop-character.text ++ encode_utf8 c.character-item.result) ≡ true = search rules in
     let made : string_bytes c.push_fitting.new.text ≡ string_bytes c.loop-character.text ++ encode_utf8 c.character-item.result = search rules in
     c.loop-character.invariant
-    ∙ with_room c.args.max_bytes c.loop-character.character-index (string_bytes c.loop-character.text) (string_bytes c.push_fitting.new.text) c.args.characters.now
+    ∙ with_room c.args.max_bytes c.loop-character.character-index (string_bytes c.loop-character.text) (string_bytes c.push_fitting.new.text)
+    c.args.characters.now
     c.character-item.result c.loop-character-test.true c.character-item.is shown room made
 
 pub returns-then-not-branch : goal.returns-then-not-branch

@@ -122,8 +122,8 @@ fn add_two_units(alloc: Global, pid: u16, pts: u64, found: &mut Found) -> Result
     add_unit(alloc, pid, 192, pts.saturating_add(2_160), 100, found)
 }
 
-/// Makes two programs, whose maps name these PIDs for clock references, with MPEG audio on PIDs 256 and 257, and two units of
-/// each.
+/// Makes two programs, whose maps name these PIDs for clock references, with MPEG audio on PIDs 256 and 257, and two
+/// units of each.
 pub fn two_programs(
     alloc: Global,
     references: [u16; 2],

@@ -32,8 +32,8 @@ fn burst_packets(alloc: Global, units: &[Unit], pace: u32) -> Option<u64> {
     Some(runs.burst_packets(pace))
 }
 
-// Whether that is what a stream declares of them. A packet takes 3,600 units of 90 kHz at 37,600 bits a second, and a little
-// less than 3,599 at 37,611.
+// Whether that is what a stream declares of them. A packet takes 3,600 units of 90 kHz at 37,600 bits a second, and a
+// little less than 3,599 at 37,611.
 fn is_declared(alloc: Global, units: &[Unit]) -> bool {
     min_interval(units) == 3_599
         && max_unit_size(units) == 340
@@ -132,8 +132,8 @@ fn are_few(alloc: Global) -> bool {
         && max_unit_size::<Global>(&[]) == 0
 }
 
-// What a stream declares of units, so that a queue takes each; with one packet less in a group of three, or in a burst, it
-// refuses the third.
+// What a stream declares of units, so that a queue takes each; with one packet less in a group of three, or in a burst,
+// it refuses the third.
 #[test]
 fn a_declaration_that_units_keep(rt: HostRuntime) {
     for (allowance, wanted) in &DECLARED {

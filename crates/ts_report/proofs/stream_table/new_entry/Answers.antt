@@ -19,7 +19,8 @@ returns c =
       held = subst (λ (h : Held). IsHeld c.view_video_if.new.buffers h) (sym (new_held (empty rate rx c.args.buffers.main) c.args.kind))
           (c.view_video_if.ensures.held (empty rate rx c.args.buffers.main) begun);
       tally = c.new.ensures ∙ sym (new_tally (empty rate rx c.args.buffers.main) c.args.kind);
-      video = subst (λ (h : Held). HoldsVideoOf c.view_video_if.new.buffers (sizes_if rate rx c.args.rates.now) h) (sym (new_held (empty rate rx c.args.buffers.main) c.args.kind))
+      video = subst (λ (h : Held). HoldsVideoOf c.view_video_if.new.buffers (sizes_if rate rx c.args.rates.now) h)
+          (sym (new_held (empty rate rx c.args.buffers.main) c.args.kind))
           (c.view_video_if.ensures.video (empty rate rx c.args.buffers.main) begun refl);
       video_tally = c.new-2.ensures;
       mark_tally = c.new-3.ensures;

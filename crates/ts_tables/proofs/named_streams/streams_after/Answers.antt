@@ -8,7 +8,8 @@ use Rattle.ts_tables.proofs.named_streams.streams_after.Goals as goal
 
 pub streams_by-requires : goal.streams_by-requires
 streams_by-requires c =
-    rw (c.place_of.ensures, c.in_ok-table.ensures) (before_all (map (finding_view {A = Global}) c.args.findings.now) c.args.before c.args.first c.requires.unknown)
+    rw (c.place_of.ensures, c.in_ok-table.ensures)
+    (before_all (map (finding_view {A = Global}) c.args.findings.now) c.args.before c.args.first c.requires.unknown)
 
 pub returns-then-not-branch : goal.returns-then-not-branch
 returns-then-not-branch c =

@@ -16,6 +16,7 @@ pub returns : goal.returns
 unfolding terms_of
 returns c =
     let rows = rows_of (found_of c.args.matches.now) in
-    all_given (number_of options (codes "wait") rows) (number_of options (codes "ahead") rows) (number_if options (codes "slots") rows) (number_if options (codes "room") rows)
+    all_given (number_of options (codes "wait") rows) (number_of options (codes "ahead") rows) (number_if options (codes "slots") rows)
+    (number_if options (codes "room") rows)
     c.in_ok-wait.field-0 c.in_ok-ahead.ahead c.in_ok-slots.slots c.in_ok-room.room
     c.in_ok-wait.ensures.value c.in_ok-ahead.ensures.value c.in_ok-slots.ensures.value c.in_ok-room.ensures.value

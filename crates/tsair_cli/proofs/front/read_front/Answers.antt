@@ -16,7 +16,8 @@ lines-preserved g c =
     record {
       grows = grown_on old mid new [] c.lines.text.items c.read_line.new.text.items c.lines.invariant.grows read.0;
       lined = read.2;
-      ended = ended_more c.lines.text.items c.read_line.new.text.items read.0.bytes c.deref-in-lines.result.now c.lines.ended c.ended_after-ended.result c.len-from.result read.0.grown short
+      ended = ended_more c.lines.text.items c.read_line.new.text.items read.0.bytes c.deref-in-lines.result.now c.lines.ended c.ended_after-ended.result
+          c.len-from.result read.0.grown short
           c.lines.invariant.lined c.lines.invariant.ended c.deref-in-lines.ensures.value at c.ended_after-ended.ensures;
       few = few_ended c.args.switch c.ended_after-ended.result c.have_ended.result c.have_ended.ensures c.if-have_ended.false;
     }
@@ -30,7 +31,8 @@ returns-then-have_ended g c =
     let at : c.len-from.result ≡ length c.lines.text.items = omega (arith, c.len-from.ensures) in
     let short : length c.lines.text.items ≤ max_front = omega (arith, c.lines-test.true, c.len.ensures) in
     let text = c.read_line.new.text.items in
-    let ended = ended_more c.lines.text.items text read.0.bytes c.deref-in-lines.result.now c.lines.ended c.ended_after-ended.result c.len-from.result read.0.grown short
+    let ended = ended_more c.lines.text.items text read.0.bytes c.deref-in-lines.result.now c.lines.ended c.ended_after-ended.result c.len-from.result
+    read.0.grown short
     c.lines.invariant.lined c.lines.invariant.ended c.deref-in-lines.ensures.value at c.ended_after-ended.ensures in
     front_read c.args.switch old new text c.deref-then-have_ended.result.now c.plans_of-then-have_ended.result
     (grown_on old mid new [] c.lines.text.items text c.lines.invariant.grows read.0)

@@ -29,7 +29,9 @@ records-preserved-else-stop g c =
           (record { bytes = g.E.Write.contents c.records.faults; failed = g.E.Sink.fault_count c.records.faults })
           (record { bytes = g.E.Write.contents c.report_refused.new.faults; failed = g.E.Sink.fault_count c.report_refused.new.faults })
           c.records.has_refused c.records.on_air c.hear_on.new.self c.follow.new.self c.in-Ok-Refused.index c.in-Ok-Refused.cause m
-          (rw c.in-Ok-Refused.field-0-is at (c.in-Ok-Refused.ensures.heard run m.airs.heard_is.count m.airs.came (g.R.Read.remaining c.args.input.now) start m.state m.airs.heard_is.heard_is))
+          (rw c.in-Ok-Refused.field-0-is at
+          (c.in-Ok-Refused.ensures.heard run m.airs.heard_is.count m.airs.came (g.R.Read.remaining c.args.input.now) start m.state
+          m.airs.heard_is.heard_is))
           (λ a on. c.in-Ok.ensures.ok run a start on)
           c.report_refused.ensures;
     }
@@ -49,7 +51,8 @@ returns-then-stop g c = λ run start h.
     (g.W.Write.contents c.records.output) (g.W.Write.contents c.hear_on.new.to) (g.W.Write.contents c.follow.new.to) before
     (record { bytes = g.E.Write.contents c.records.faults; failed = g.E.Sink.fault_count c.records.faults }) after
     c.records.has_refused c.records.on_air c.hear_on.new.self c.follow.new.self c.in-Ok-Refused.index c.in-Ok-Refused.cause m
-    (rw c.in-Ok-Refused.field-0-is at (c.in-Ok-Refused.ensures.heard run m.airs.heard_is.count m.airs.came (g.R.Read.remaining c.args.input.now) start m.state m.airs.heard_is.heard_is))
+    (rw c.in-Ok-Refused.field-0-is at
+    (c.in-Ok-Refused.ensures.heard run m.airs.heard_is.count m.airs.came (g.R.Read.remaining c.args.input.now) start m.state m.airs.heard_is.heard_is))
     (λ a on. c.in-Ok.ensures.ok run a start on)
     c.report_refused.ensures)
     (clean.0 ∙ c.records.invariant.reads) (c.in-Ok.ensures.clean ∙ clean.1 ∙ c.records.invariant.writes)
@@ -67,7 +70,8 @@ returns-in-Err-follow g c = λ run start h.
     follow_fails run (g.R.Read.remaining c.records.input) start (g.W.Write.contents c.records.output) (g.W.Write.contents c.hear_on.new.to) input output before
     (record { bytes = g.E.Write.contents c.records.faults; failed = g.E.Sink.fault_count c.records.faults }) after
     c.records.has_refused c.records.on_air c.hear_on.new.self c.in-Ok-Refused.index c.in-Ok-Refused.cause c.in-Err-follow.fault.sent m
-    (rw c.in-Ok-Refused.field-0-is at (c.in-Ok-Refused.ensures.heard run m.airs.heard_is.count m.airs.came (g.R.Read.remaining c.args.input.now) start m.state m.airs.heard_is.heard_is))
+    (rw c.in-Ok-Refused.field-0-is at
+    (c.in-Ok-Refused.ensures.heard run m.airs.heard_is.count m.airs.came (g.R.Read.remaining c.args.input.now) start m.state m.airs.heard_is.heard_is))
     (λ a on. c.in-Err-follow.ensures.err run a start on)
     c.report_refused.ensures
     (clean.0 ∙ c.records.invariant.reads)
@@ -82,10 +86,13 @@ returns-in-Ok-Ended g c = λ run start h.
     (record { bytes = g.W.Write.contents c.hear_on.new.to; failed = g.W.Sink.fault_count c.hear_on.new.to }) in
     let faults : Device = between (record { bytes = g.E.Write.contents c.args.faults.now; failed = g.E.Sink.fault_count c.args.faults.now })
     (record { bytes = g.E.Write.contents c.records.faults; failed = g.E.Sink.fault_count c.records.faults }) in
-    ends run c.args.stop (g.R.Read.remaining c.records.input) start (g.W.Write.contents c.records.output) input output faults c.records.has_refused c.records.on_air c.hear_on.new.self
+    ends run c.args.stop (g.R.Read.remaining c.records.input) start (g.W.Write.contents c.records.output) input output faults c.records.has_refused
+    c.records.on_air c.hear_on.new.self
     c.in-Ok-Ended.why m
-    (rw c.in-Ok-Ended.field-0-is at (c.in-Ok-Ended.ensures.heard run m.airs.heard_is.count m.airs.came (g.R.Read.remaining c.args.input.now) start m.state m.airs.heard_is.heard_is))
-    (names_same (Ok (Ended c.in-Ok-Ended.why)) _ _ _ _ _ _ c.records.invariant.reads c.records.invariant.writes (rw c.in-Ok-Ended.field-0-is at c.in-Ok-Ended.ensures.fault))
+    (rw c.in-Ok-Ended.field-0-is at
+    (c.in-Ok-Ended.ensures.heard run m.airs.heard_is.count m.airs.came (g.R.Read.remaining c.args.input.now) start m.state m.airs.heard_is.heard_is))
+    (names_same (Ok (Ended c.in-Ok-Ended.why)) _ _ _ _ _ _ c.records.invariant.reads c.records.invariant.writes
+    (rw c.in-Ok-Ended.field-0-is at c.in-Ok-Ended.ensures.fault))
 
 pub returns-in-Err : goal.returns-in-Err
 returns-in-Err g c = λ run start h.
@@ -96,6 +103,7 @@ returns-in-Err g c = λ run start h.
     (record { bytes = g.W.Write.contents c.hear_on.new.to; failed = g.W.Sink.fault_count c.hear_on.new.to }) in
     let faults : Device = between (record { bytes = g.E.Write.contents c.args.faults.now; failed = g.E.Sink.fault_count c.args.faults.now })
     (record { bytes = g.E.Write.contents c.records.faults; failed = g.E.Sink.fault_count c.records.faults }) in
-    fails run (g.R.Read.remaining c.records.input) start (g.W.Write.contents c.records.output) input output faults c.records.has_refused c.records.on_air c.hear_on.new.self c.in-Err.fault m
+    fails run (g.R.Read.remaining c.records.input) start (g.W.Write.contents c.records.output) input output faults c.records.has_refused c.records.on_air
+    c.hear_on.new.self c.in-Err.fault m
     (c.in-Err.ensures.heard run m.airs.heard_is.count m.airs.came (g.R.Read.remaining c.args.input.now) start m.state m.airs.heard_is.heard_is)
     (names_same (Err c.in-Err.fault) _ _ _ _ _ _ c.records.invariant.reads c.records.invariant.writes c.in-Err.ensures.fault)

@@ -25,4 +25,5 @@ returns-in-Err-begin g c =
     let told : Port = record { bytes = g.E.Write.contents c.args.faults.now; failed = g.E.Sink.fault_count c.args.faults.now } in
     let after : Port = record { bytes = g.E.Write.contents c.report_begin.new.faults; failed = g.E.Sink.fault_count c.report_begin.new.faults } in
     not_begun c.args.options (between before left) (between out out) (between told after) _ (plans_view c.in-Ok.plans []) c.in-Err-begin.cause
-    (begun c.args.options before left c.in-Ok.plans c.is_some.result c.is_some.ensures c.in-Ok.ensures) c.in-Err-begin.ensures.refused refl c.report_begin.ensures.report c.report_begin.ensures.status
+    (begun c.args.options before left c.in-Ok.plans c.is_some.result c.is_some.ensures c.in-Ok.ensures) c.in-Err-begin.ensures.refused refl
+    c.report_begin.ensures.report c.report_begin.ensures.status

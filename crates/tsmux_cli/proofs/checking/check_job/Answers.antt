@@ -21,5 +21,6 @@ unfolding checked
 returns-in-Err-write_verdict g c =
     let bytes = c.in-Ok.ensures.bytes in
     let is : verdict_of (option_map fault_view c.in-Ok.fault) ≡ checked c.args.switch bytes = ap verdict_of c.in-Ok.ensures.is in
-    text_unwritten ℕ (Checks c.args.switch) bytes _ (verdict_of (option_map fault_view c.in-Ok.fault)) _ _ _ _ c.in-Err-write_verdict.halt c.in-Ok.ensures.read is refl
+    text_unwritten ℕ (Checks c.args.switch) bytes _ (verdict_of (option_map fault_view c.in-Ok.fault)) _ _ _ _ c.in-Err-write_verdict.halt c.in-Ok.ensures.read
+    is refl
     c.in-Err-write_verdict.ensures.output c.report_halt-in-Err-write_verdict.ensures.reports c.report_halt-in-Err-write_verdict.ensures.status

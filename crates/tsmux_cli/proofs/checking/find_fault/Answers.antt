@@ -10,5 +10,6 @@ returns-in-Err-Fault g c =
       bytes = t.bytes;
       read = t.read;
       is = ap fault_in
-          ((rw c.in-Err-Fault.field-0-is at c.in-Err-Fault.ensures) c.new-taker.result.switch t.bytes t.taken ∙ ap (λ (b : Bool). job_of b t.bytes) c.new-taker.ensures.switch);
+          ((rw c.in-Err-Fault.field-0-is at c.in-Err-Fault.ensures) c.new-taker.result.switch t.bytes t.taken
+          ∙ ap (λ (b : Bool). job_of b t.bytes) c.new-taker.ensures.switch);
     }

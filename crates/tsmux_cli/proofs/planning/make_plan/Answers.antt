@@ -17,14 +17,16 @@ returns-in-Ok-write_text g c =
     let text = string_bytes c.in-Ok-text_for.text in
     let written = rw c.deref-in-Ok-text_for.ensures at c.in-Ok-write_text.ensures.0 in
     performed MakesPlan c.in-Ok.bytes.items (printed text 0) _ _ _ _ c.in-Ok.ensures
-    (given_plan c.in-Ok.bytes.items c.deref.result.now text c.in-Ok-read_description.description c.deref.ensures.value c.in-Ok-read_description.ensures c.in-Ok-text_for.ensures.text)
+    (given_plan c.in-Ok.bytes.items c.deref.result.now text c.in-Ok-read_description.description c.deref.ensures.value c.in-Ok-read_description.ensures
+    c.in-Ok-text_for.ensures.text)
     written c.in-Ok-write_text.ensures.1 (reports_none _ refl) refl
 
 pub returns-in-Ok-text_for : goal.returns-in-Ok-text_for
 returns-in-Ok-text_for g c =
     let text = string_bytes c.in-Ok-text_for.text in
     text_unwritten (Unit {0}) MakesPlan c.in-Ok.bytes.items c.deref-in-Ok-text_for.result.now (printed text 0) _ _ _ _ c.in-Err-write_text.halt c.in-Ok.ensures
-    (given_plan c.in-Ok.bytes.items c.deref.result.now text c.in-Ok-read_description.description c.deref.ensures.value c.in-Ok-read_description.ensures c.in-Ok-text_for.ensures.text)
+    (given_plan c.in-Ok.bytes.items c.deref.result.now text c.in-Ok-read_description.description c.deref.ensures.value c.in-Ok-read_description.ensures
+    c.in-Ok-text_for.ensures.text)
     c.deref-in-Ok-text_for.ensures c.in-Err-write_text.ensures c.report_halt-in-Err-write_text.ensures.reports c.report_halt-in-Err-write_text.ensures.status
 
 pub returns-in-Err-NotFound : goal.returns-in-Err-NotFound

@@ -29,12 +29,15 @@ pub returns-in-Ok-clause-value : goal.returns-in-Ok-clause-value
 returns-in-Ok-clause-value c =
     let t = texts c.args.words.now in
     c.subcommand_request.ensures.value ∙ ap subcommand_request c.in-Ok.ensures.ok
-    ∙ sym (faultless t (fault_of tsmux_app t) (subcommand_of tsmux_app t) (some_text c.args.words.now c.is_empty.result c.if-is_empty.false c.is_empty.ensures) c.in-Ok.ensures.fault)
+    ∙ sym (faultless t (fault_of tsmux_app t) (subcommand_of tsmux_app t) (some_text c.args.words.now c.is_empty.result c.if-is_empty.false c.is_empty.ensures)
+    c.in-Ok.ensures.fault)
 
 pub returns-clause-value : goal.returns-clause-value
 returns-clause-value c =
     let t = texts c.args.words.now in
     elim c.in-Err.ensures.fault [
       | inl e ↦ absurd (c.in_default.not-OutOfMemory (c.kind.ensures ∙ e))
-      | inr i ↦ sym (faulty _ t (fault_of tsmux_app t) (subcommand_of tsmux_app t) (some_text c.args.words.now c.is_empty.result c.if-is_empty.false c.is_empty.ensures) i)
+      | inr i ↦ sym
+          (faulty _ t (fault_of tsmux_app t) (subcommand_of tsmux_app t) (some_text c.args.words.now c.is_empty.result c.if-is_empty.false c.is_empty.ensures)
+          i)
     ]

@@ -11,5 +11,6 @@ returns-in-None-clause-value c = sym (ap subcommand_request (none_of (subcommand
 pub returns-in-Some-clause-value : goal.returns-in-Some-clause-value
 unfolding subcommand_request
 returns-in-Some-clause-value c =
-    c.request_of.ensures.value ∙ sym (ap subcommand_request (some_of (subcommand_rows_of c.args.matches.now) c.in-Some.name.now (rows_of (found_of c.in-Some.found.now))
+    c.request_of.ensures.value
+    ∙ sym (ap subcommand_request (some_of (subcommand_rows_of c.args.matches.now) c.in-Some.name.now (rows_of (found_of c.in-Some.found.now))
     (sym (in_two _ _ _) ∙ sym c.in-Some.ensures.name) (sym c.in-Some.ensures.rows)))

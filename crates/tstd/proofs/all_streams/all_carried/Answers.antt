@@ -23,7 +23,8 @@ loop-number-preserved g c =
     let i = c.loop-number.number in
     let at : u ≡ get_or d.streams i u = rw c.streams-stream-items.ensures.value at c.stream-item.is in
     let below : i < length d.streams = rw c.streams-stream-items.ensures.value at c.loop-number-test.true in
-    let same = carries_same u.pid u.stream_id c.base0.result (units_of i c.args.units.now) c.args.bytes.now c.as_chunks.result.0.now c.as_chunks.ensures.front in
+    let same = carries_same u.pid u.stream_id c.base0.result (units_of i c.args.units.now) c.args.bytes.now c.as_chunks.result.0.now
+    c.as_chunks.ensures.front in
     let yes : carries u.pid u.stream_id d.base0 (units_of i c.args.units.now) c.args.bytes.now ≡ true =
     rw c.base0.ensures.value at (sym same ∙ sym c.carries.ensures ∙ c.if-not-carries.false) in
     sym (carried_next d c.args.units.now c.args.bytes.now d.streams u i below at ∙ rw yes refl) ∙ c.loop-number.invariant
@@ -35,7 +36,8 @@ returns-then-not-carries g c =
     let i = c.loop-number.number in
     let at : u ≡ get_or d.streams i u = rw c.streams-stream-items.ensures.value at c.stream-item.is in
     let below : i < length d.streams = rw c.streams-stream-items.ensures.value at c.loop-number-test.true in
-    let same = carries_same u.pid u.stream_id c.base0.result (units_of i c.args.units.now) c.args.bytes.now c.as_chunks.result.0.now c.as_chunks.ensures.front in
+    let same = carries_same u.pid u.stream_id c.base0.result (units_of i c.args.units.now) c.args.bytes.now c.as_chunks.result.0.now
+    c.as_chunks.ensures.front in
     let no : carries u.pid u.stream_id d.base0 (units_of i c.args.units.now) c.args.bytes.now ≡ false =
     rw c.base0.ensures.value at (sym same ∙ sym c.carries.ensures ∙ c.if-not-carries.true) in
     sym (carried_next d c.args.units.now c.args.bytes.now d.streams u i below at ∙ rw no refl) ∙ c.loop-number.invariant

@@ -18,7 +18,8 @@ measure_stream-requires-clause-carried g c =
     let both = sym (carried_next d c.args.units.now c.args.bytes.now d.streams u i below at) ∙ c.loop-number.invariant.carried in
     let parts = and_parts (carries u.pid u.stream_id d.base0 (units_of i c.args.units.now) c.args.bytes.now)
     (all_carried d c.args.units.now c.args.bytes.now (i + 1) (drop (i + 1) d.streams)) both in
-    rw c.base0.ensures.value (enough u.pid u.stream_id d.base0 (units_of i c.args.units.now) c.args.bytes.now c.as_chunks.result.0.now c.as_chunks.ensures.front parts.0)
+    rw c.base0.ensures.value
+    (enough u.pid u.stream_id d.base0 (units_of i c.args.units.now) c.args.bytes.now c.as_chunks.result.0.now c.as_chunks.ensures.front parts.0)
 
 pub loop-number-preserved : goal.loop-number-preserved
 loop-number-preserved g c =
@@ -34,8 +35,10 @@ loop-number-preserved g c =
     let below : i < length d.streams = rw c.streams-stream-items.ensures.value at c.loop-number-test.true in
     let both = sym (carried_next d units bytes d.streams u i below at) ∙ inv.carried in
     let rate = c.bits_per_second-rate.ensures.value ∙ c.rate.ensures in
-    let is = full_same d.rate c.bits_per_second-rate.result d.base0 c.base0.result u (units_of i units) (packets_from u.pid 0 chunks) v rate c.base0.ensures.value c.in_ok-fullness.ensures.fullness in
-    let first = c.in_ok-fullness.ensures.late ∙ late_same d.rate c.bits_per_second-rate.result d.base0 c.base0.result (length chunks) u (units_of i units) bytes chunks
+    let is = full_same d.rate c.bits_per_second-rate.result d.base0 c.base0.result u (units_of i units) (packets_from u.pid 0 chunks) v rate
+    c.base0.ensures.value c.in_ok-fullness.ensures.fullness in
+    let first = c.in_ok-fullness.ensures.late ∙ late_same d.rate c.bits_per_second-rate.result d.base0 c.base0.result (length chunks) u (units_of i units) bytes
+    chunks
     rate c.base0.ensures.value c.as_chunks.ensures.front_len c.as_chunks.ensures.front in
     record {
       count = rw c.in_ok-push.ensures.items (length-append c.loop-number.streams.items (v ∷ []) ∙ omega (arith, inv.count));

@@ -15,7 +15,8 @@ loop-program-preserved g c =
     let chunks = c.as_chunks.result.0.now in
     let at : u ≡ get_or d.programs i u = rw c.programs-program-items.ensures.value at c.program-item.is in
     let is : IsSystemFullness d.rate (tables_from c.pmt_pid.result 0 chunks) v =
-    subst (λ (n : ℕ). IsSystemFullness n (tables_from c.pmt_pid.result 0 chunks) v) (c.bits_per_second-rate.ensures.value ∙ c.rate.ensures) c.measure_tables.ensures in
+    subst (λ (n : ℕ). IsSystemFullness n (tables_from c.pmt_pid.result 0 chunks) v) (c.bits_per_second-rate.ensures.value ∙ c.rate.ensures)
+    c.measure_tables.ensures in
     record {
       count = rw c.in_ok-push.ensures.items (length-append c.loop-program.programs.items (v ∷ []) ∙ omega (arith, inv.count));
       each = λ number p f there full. systems_next d.rate c.args.bytes.now chunks d.programs c.loop-program.programs.items v u c.pmt_pid.result i

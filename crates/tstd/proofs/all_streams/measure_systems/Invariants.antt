@@ -8,6 +8,7 @@ use Rattle.tstd.proofs.all_streams.measure_systems.Given as goal
 abbrev pub invariant-loop-program : goal.invariant-loop-program
 invariant-loop-program g l = record {
   count : length l.programs.items ≡ l.program-index;
-  each : (number : ℕ) (p : DescribedProgram) (f : SystemFullness) → slice_get l.description.programs number ≡ Some p → slice_get l.programs.items number ≡ Some f →
+  each : (number : ℕ) (p : DescribedProgram) (f : SystemFullness) → slice_get l.description.programs number ≡ Some p →
+      slice_get l.programs.items number ≡ Some f →
       IsSystemFullness l.description.rate (table_packets p.pmt_pid l.bytes) f;
 }

@@ -11,7 +11,8 @@ pub loop-entry-preserved-then-not-is_of : goal.loop-entry-preserved-then-not-is_
 loop-entry-preserved-then-not-is_of g c =
     let u = c.entry-item.result in
     let other : (u.0 == c.args.number) ≡ false = sym c.is_of.ensures ∙ c.if-not-is_of.true in
-    rw (texts_past c.args.id c.args.base0 c.args.number c.loop-entry.entry-index c.args.units.now u c.loop-entry-test.true c.entry-item.is other) at c.loop-entry.invariant
+    rw (texts_past c.args.id c.args.base0 c.args.number c.loop-entry.entry-index c.args.units.now u c.loop-entry-test.true c.entry-item.is other) at
+    c.loop-entry.invariant
 
 pub entry_agrees-requires : goal.entry_agrees-requires
 entry_agrees-requires g c =
@@ -37,7 +38,8 @@ returns-then-not-entry_agrees g c =
     let own : (u.0 == c.args.number) ≡ true = sym c.is_of.ensures ∙ c.if-not-is_of.false in
     let first = texts_first c.args.id c.args.base0 c.args.number i c.args.units.now u c.loop-entry-test.true c.entry-item.is own in
     let rest = concat (pes_packets_of c.args.id c.args.base0 (units_of c.args.number (drop (i + 1) c.args.units.now))) in
-    sym (c.loop-entry.invariant ∙ ap (λ (expected : List ℕ). starts_with nat_eq expected (bytes_ahead c.loop-entry.payloads)) first ∙ c.entry_agrees.ensures rest
+    sym (c.loop-entry.invariant ∙ ap (λ (expected : List ℕ). starts_with nat_eq expected (bytes_ahead c.loop-entry.payloads)) first
+    ∙ c.entry_agrees.ensures rest
     ∙ rw c.if-not-entry_agrees.true refl)
 
 pub returns : goal.returns

@@ -32,7 +32,8 @@ returns-clause-fullness g c =
     let times = arrivals s.rx (slots_of packets) in
     let pes_packets = timed_pes_packets s.stream_id c.args.base0 (units_of c.args.number c.args.units.now) in
     let left = pes_left c.args.rate s.rx 0 packets in
-    let none : c.next-end.result ≡ None = none_given c.next-end.result (bytes_ahead c.next-end.new.self) (bytes_ahead c.measure_units.new.walk) all.left end.ahead in
+    let none : c.next-end.result ≡ None =
+    none_given c.next-end.result (bytes_ahead c.next-end.new.self) (bytes_ahead c.measure_units.new.walk) all.left end.ahead in
     let step : c.next-end.new.self.transport.queue.step ≡ c.args.rate = end.step ∙ all.step ∙ walk.step in
     let longest_residence : c.next-end.new.self.transport.queue.longest_residence ≡ greatest_residence c.args.rate 0 times =
     ap (λ (both : ℕ × (ℕ × ℕ)). both.0) (sym (rw none at end.ended) ∙ end.residences ∙ all.residences ∙ rw c.from.ensures at walk.residences) in
@@ -56,7 +57,8 @@ overflow_cast-transport g c =
     let s = c.args.stream.now in
     let packets = packets_from s.pid 0 c.args.packets.now in
     let times = arrivals s.rx (slots_of packets) in
-    let none : c.next-end.result ≡ None = none_given c.next-end.result (bytes_ahead c.next-end.new.self) (bytes_ahead c.measure_units.new.walk) all.left end.ahead in
+    let none : c.next-end.result ≡ None =
+    none_given c.next-end.result (bytes_ahead c.next-end.new.self) (bytes_ahead c.measure_units.new.walk) all.left end.ahead in
     let step : c.next-end.new.self.transport.queue.step ≡ c.args.rate = end.step ∙ all.step ∙ walk.step in
     let longest_residence : c.next-end.new.self.transport.queue.longest_residence ≡ greatest_residence c.args.rate 0 times =
     ap (λ (both : ℕ × (ℕ × ℕ)). both.0) (sym (rw none at end.ended) ∙ end.residences ∙ all.residences ∙ rw c.from.ensures at walk.residences) in
@@ -81,5 +83,6 @@ returns-clause-late g c =
     let packets = packets_from s.pid 0 c.args.packets.now in
     let pes_packets = timed_pes_packets s.stream_id c.args.base0 (units_of c.args.number c.args.units.now) in
     let drain : drain_of c.new-walk.result ≡ s.rx = rw (walk.rx, walk.rbx, c.from.ensures) (omega arith) in
-    late_found c.args.rate c.new-walk.result.rate s.rx (drain_of c.new-walk.result) (length c.args.packets.now) (length c.args.packets.now) c.in_ok-late.late pes_packets (pes_left c.args.rate s.rx 0 packets)
+    late_found c.args.rate c.new-walk.result.rate s.rx (drain_of c.new-walk.result) (length c.args.packets.now) (length c.args.packets.now) c.in_ok-late.late
+    pes_packets (pes_left c.args.rate s.rx 0 packets)
     (bytes_ahead c.new-walk.result) walk.rate drain refl (rw c.from.ensures at walk.ahead) (all.late s.stream_id)

@@ -42,7 +42,8 @@ loop-index-preserved c =
       left = omega (arith, e.left);
       longest_residence = e.longest_residence;
       inner = e.inner;
-      transport = ap (λ (q : Queue). all_arrived q (arrivals 2000000 rest)) e.transport ∙ packet_arrives before (188 * i) i rest refl ∙ rw same at inv.transport;
+      transport = ap (λ (q : Queue). all_arrived q (arrivals 2000000 rest)) e.transport ∙ packet_arrives before (188 * i) i rest refl
+          ∙ rw same at inv.transport;
       system = rw (e.transport, e.system) (packet_passes before after (188 * i) i rest refl ∙ rw same at inv.system);
     }
 
@@ -55,7 +56,8 @@ returns c =
     let slots = tables_from c.args.pmt_pid 0 c.args.packets.now in
     let few : length slots ≤ length c.args.packets.now = tables_few c.args.pmt_pid 0 c.args.packets.now in
     tables_peak c.args.rate slots c.loop-index.transport c.loop-index.system c.peak.result c.peak-2.result
-    some (tables_rise c.args.pmt_pid c.args.packets.now) inv.step inv.system_step (rw none at inv.transport) (rw none at inv.system) c.peak.ensures c.peak-2.ensures
+    some (tables_rise c.args.pmt_pid c.args.packets.now) inv.step inv.system_step (rw none at inv.transport) (rw none at inv.system) c.peak.ensures
+    c.peak-2.ensures
 
 pub overflow_cast-result : goal.overflow_cast-result
 unfolding arrivals departures
@@ -80,6 +82,7 @@ overflow_cast-result-2 c =
     let slots = tables_from c.args.pmt_pid 0 c.args.packets.now in
     let few : length slots ≤ length c.args.packets.now = tables_few c.args.pmt_pid 0 c.args.packets.now in
     let full = tables_peak c.args.rate slots c.loop-index.transport c.loop-index.system c.peak.result c.peak-2.result
-    some (tables_rise c.args.pmt_pid c.args.packets.now) inv.step inv.system_step (rw none at inv.transport) (rw none at inv.system) c.peak.ensures c.peak-2.ensures in
+    some (tables_rise c.args.pmt_pid c.args.packets.now) inv.step inv.system_step (rw none at inv.transport) (rw none at inv.system) c.peak.ensures
+    c.peak-2.ensures in
     let bytes = tables_bytes c.args.rate slots (record { transport = c.peak.result; system = c.peak-2.result }) full in
     omega (arith, bytes.1, few, c.requires.count)

@@ -16,5 +16,6 @@ invariant-loop-index l = record {
   transport : all_arrived l.transport (arrivals 2000000 (tables_from l.pmt_pid l.index (drop l.index l.packets)))
       ≡ all_arrived (record { step = 2 * l.rate; last = 0; longest_residence = 0 }) (arrivals 2000000 (tables_from l.pmt_pid 0 l.packets));
   system : all_arrived l.system (departures l.transport.step l.transport.last (arrivals 2000000 (tables_from l.pmt_pid l.index (drop l.index l.packets))))
-      ≡ all_arrived (record { step = 25 * l.rate; last = 0; longest_residence = 0 }) (departures (2 * l.rate) 0 (arrivals 2000000 (tables_from l.pmt_pid 0 l.packets)));
+      ≡ all_arrived (record { step = 25 * l.rate; last = 0; longest_residence = 0 })
+      (departures (2 * l.rate) 0 (arrivals 2000000 (tables_from l.pmt_pid 0 l.packets)));
 }

@@ -44,12 +44,14 @@ loop-entry-preserved g c =
     let pes_packet : PesPacket = record { dts = due; size = size; front = field_size u.1.marks.random_access } in
     let drain : drain_of c.loop-entry.walk ≡ drain_of c.args.walk.now = rw (inv.rx, inv.rbx) refl in
     let own : (u.0 == c.args.stream) ≡ true = sym c.is_of.ensures ∙ c.if-not-is_of.false in
-    let same : (id : ℕ) → timed_pes_packets id c.args.base0 (units_of c.args.stream (drop i units)) ≡ pes_packet ∷ timed_pes_packets id c.args.base0 (units_of c.args.stream (drop (i + 1) units)) =
+    let same : (id : ℕ) → timed_pes_packets id c.args.base0 (units_of c.args.stream (drop i units)) ≡ pes_packet ∷ timed_pes_packets id c.args.base0
+    (units_of c.args.stream (drop (i + 1) units)) =
     λ id. texts_own id c.args.base0 c.args.stream i due size units u c.loop-entry-test.true c.entry-item.is own c.due_of.ensures (c.size_of.ensures.size id) in
     record {
       late = λ id. rw c.first_of-late.ensures
           (late_more c.args.walk.now.rate (drain_of c.args.walk.now) c.args.slots c.loop-entry.number size front due c.loop-entry.late c.in_ok-is_late.is_late
-          (timed_pes_packets id c.args.base0 (units_of c.args.stream (drop (i + 1) units))) (bytes_ahead c.loop-entry.walk) (bytes_ahead c.measure_unit.new.walk)
+          (timed_pes_packets id c.args.base0 (units_of c.args.stream (drop (i + 1) units))) (bytes_ahead c.loop-entry.walk)
+          (bytes_ahead c.measure_unit.new.walk)
           c.loop-entry.walk.rate (drain_of c.loop-entry.walk) inv.rate drain e.late e.left ∙ rw (same id) at (inv.late id));
       peak = λ id. e.peak (timed_pes_packets id c.args.base0 (units_of c.args.stream (drop (i + 1) units)))
           ∙ peak_front c.loop-entry.walk c.loop-entry.buffer due size front (timed_pes_packets id c.args.base0 (units_of c.args.stream (drop (i + 1) units)))

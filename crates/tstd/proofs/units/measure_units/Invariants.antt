@@ -10,7 +10,10 @@ use Rattle.tstd.proofs.units.measure_units.Given as goal
 
 abbrev pub invariant-loop-entry : goal.invariant-loop-entry
 invariant-loop-entry g l = record {
-  late : (id : ℕ) → option_or l.late (first_late l.fn.walk.rate (drain_of l.fn.walk) l.slots l.number (timed_pes_packets id l.base0 (units_of l.stream (drop l.entry-index l.units))) (bytes_ahead l.walk))
+  late : (id : ℕ) →
+      option_or l.late
+      (first_late l.fn.walk.rate (drain_of l.fn.walk) l.slots l.number (timed_pes_packets id l.base0 (units_of l.stream (drop l.entry-index l.units)))
+      (bytes_ahead l.walk))
       ≡ first_late l.fn.walk.rate (drain_of l.fn.walk) l.slots 0 (timed_pes_packets id l.base0 (units_of l.stream l.units)) (bytes_ahead l.fn.walk);
   peak : (id : ℕ) → peak_of l.walk l.buffer (timed_pes_packets id l.base0 (units_of l.stream (drop l.entry-index l.units)))
       ≡ peak_of l.fn.walk l.fn.buffer (timed_pes_packets id l.base0 (units_of l.stream l.units));

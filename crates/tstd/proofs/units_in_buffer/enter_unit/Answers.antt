@@ -25,7 +25,8 @@ returns-in_default-clause-left g c =
 pub returns-in_default-clause-peak : goal.returns-in_default-clause-peak
 returns-in_default-clause-peak g c = λ due pes_packets until.
     let inv = c.loop-taken.invariant in
-    most_none c.loop-taken.walk c.next.new.self c.loop-taken.buffer pes_packets (record { dts = due; size = c.args.size - c.loop-taken.taken; front = 0 } ∷ pes_packets)
+    most_none c.loop-taken.walk c.next.new.self c.loop-taken.buffer pes_packets
+    (record { dts = due; size = c.args.size - c.loop-taken.taken; front = 0 } ∷ pes_packets)
     c.in_default.ensures.ahead c.in_default.ensures.none ∙ inv.peak due pes_packets until
 
 pub loop-taken-preserved : goal.loop-taken-preserved
@@ -47,13 +48,17 @@ loop-taken-preserved g c =
       there = rw one (there_next i all time rest next);
       left = rw one (sym (drop_next i all time rest next));
       in_time = λ limit. rw (one, e.last, none_of_some i)
-          (all_next (λ d. nat_le (d * 720000) limit) i all time rest next ∙ rw (inv.in_time limit) (last_decides (nat_eq i 0) (last_of c.loop-taken.walk) time limit later));
+          (all_next (λ d. nat_le (d * 720000) limit) i all time rest next
+          ∙ rw (inv.in_time limit) (last_decides (nat_eq i 0) (last_of c.loop-taken.walk) time limit later));
       peak = λ due pes_packets until.
           let ends : c.loop-taken.buffer.current.until ≡ removal_time c.loop-taken.walk.rate (drain_of c.loop-taken.walk) due =
-          inv.until ∙ until ∙ sym (ap (λ (n : ℕ). removal_time n (drain_of c.loop-taken.walk) due) inv.rate ∙ ap (λ (n : ℕ). removal_time c.args.walk.now.rate n due) before) in
+          inv.until ∙ until
+          ∙ sym (ap (λ (n : ℕ). removal_time n (drain_of c.loop-taken.walk) due) inv.rate ∙ ap (λ (n : ℕ). removal_time c.args.walk.now.rate n due) before)
+          in
           most_byte c.loop-taken.walk c.next.new.self c.loop-taken.buffer c.enter.new.self due (c.args.size - (i + 1)) time pes_packets
           e.ahead e.last drain e.rate c.enter.ensures.there c.enter.ensures.peak ends
-          ∙ ap (λ (n : ℕ). peak_of c.loop-taken.walk c.loop-taken.buffer (record { dts = due; size = n; front = 0 } ∷ pes_packets)) (sym left) ∙ inv.peak due pes_packets until;
+          ∙ ap (λ (n : ℕ). peak_of c.loop-taken.walk c.loop-taken.buffer (record { dts = due; size = n; front = 0 } ∷ pes_packets)) (sym left)
+          ∙ inv.peak due pes_packets until;
       residences = e.residences ∙ inv.residences;
       rate = e.rate ∙ inv.rate;
       rx = e.rx ∙ inv.rx;

@@ -13,14 +13,16 @@ returns-then-is_due-clause-peak g c = λ pes_packets.
     let e = c.enter_unit-whole.ensures in
     let b = c.in_ok-begin.ensures in
     let pes_packet : PesPacket = record { dts = c.args.due; size = c.args.size; front = 0 } in
-    e.peak c.args.due pes_packets (b.until ∙ c.moments_of-last.ensures.first) ∙ most_begun c.args.walk.now c.args.buffer.now c.begin.new.self (pes_packet ∷ pes_packets) b.there b.peak
+    e.peak c.args.due pes_packets (b.until ∙ c.moments_of-last.ensures.first)
+    ∙ most_begun c.args.walk.now c.args.buffer.now c.begin.new.self (pes_packet ∷ pes_packets) b.there b.peak
 
 pub returns-else-is_due-clause-peak : goal.returns-else-is_due-clause-peak
 returns-else-is_due-clause-peak g c = λ pes_packets.
     let e = c.enter_unit-whole.ensures in
     let b = c.in_ok-begin.ensures in
     let pes_packet : PesPacket = record { dts = c.args.due; size = c.args.size; front = 0 } in
-    e.peak c.args.due pes_packets (b.until ∙ c.moments_of-last.ensures.first) ∙ most_begun c.args.walk.now c.args.buffer.now c.begin.new.self (pes_packet ∷ pes_packets) b.there b.peak
+    e.peak c.args.due pes_packets (b.until ∙ c.moments_of-last.ensures.first)
+    ∙ most_begun c.args.walk.now c.args.buffer.now c.begin.new.self (pes_packet ∷ pes_packets) b.there b.peak
 
 pub returns-then-is_due-clause-late : goal.returns-then-is_due-clause-late
 returns-then-is_due-clause-late g c =
@@ -29,7 +31,8 @@ returns-then-is_due-clause-late g c =
     let drain = drain_of walk in
     let ahead = bytes_ahead walk in
     let unit : PesPacket = record { dts = c.args.due; size = c.args.size; front = 0 } in
-    let due : is_due walk.rate c.args.slots unit ≡ true = le-leb (c.args.due * walk.rate) (c.args.slots * 135360000) (rw (c.from.ensures, c.from-2.ensures, c.from-3.ensures, e.rate) at c.if-is_due.true) in
+    let due : is_due walk.rate c.args.slots unit ≡ true =
+    le-leb (c.args.due * walk.rate) (c.args.slots * 135360000) (rw (c.from.ensures, c.from-2.ensures, c.from-3.ensures, e.rate) at c.if-is_due.true) in
     elim c.if-whole.branch [
       | then-whole w ↦
           let whole : nat_le c.args.size (length ahead) ≡ true = sym e.whole ∙ w.if-whole.true in

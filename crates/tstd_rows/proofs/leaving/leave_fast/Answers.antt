@@ -16,14 +16,16 @@ pub returns-clause-left : goal.returns-clause-left
 returns-clause-left c =
     let row : Row = c.args.row.now in
     rw (c.leaving_rows.ensures.waiting, c.leaving_rows.ensures.free)
-    (fast_left c.args.step c.args.prev row.from row.pace row.parts row.bytes c.max-first.result _ c.requires.bytes c.requires.timed.some c.requires.fast (first c)
+    (fast_left c.args.step c.args.prev row.from row.pace row.parts row.bytes c.max-first.result _ c.requires.bytes c.requires.timed.some c.requires.fast
+    (first c)
     (no_bytes (free_row c.args.step row row.bytes).from row.pace row.parts row.bytes))
 
 pub returns-clause-last : goal.returns-clause-last
 returns-clause-last c =
     let row : Row = c.args.row.now in
     rw (c.leaving_rows.ensures.last, c.from.ensures, c.from-2.ensures)
-    (fast_last c.args.step c.args.prev row.from row.pace row.parts row.bytes c.max-first.result c.requires.bytes c.requires.timed.some c.requires.fast (first c))
+    (fast_last c.args.step c.args.prev row.from row.pace row.parts row.bytes c.max-first.result c.requires.bytes c.requires.timed.some c.requires.fast
+    (first c))
 
 pub returns-clause-soon : goal.returns-clause-soon
 returns-clause-soon c = λ latest low early.

@@ -38,5 +38,6 @@ returns-clause-last c =
 
 pub returns-clause-soon : goal.returns-clause-soon
 returns-clause-soon c = λ latest low early.
-    rows_soon c.args.step c.args.prev latest c.multiples_below-count.result c.args.row.now c.leaving_rows.result c.leaving_rows.ensures.waiting c.leaving_rows.ensures.free
+    rows_soon c.args.step c.args.prev latest c.multiples_below-count.result c.args.row.now c.leaving_rows.result c.leaving_rows.ensures.waiting
+    c.leaving_rows.ensures.free
     c.multiples_below-count.ensures.bound low early

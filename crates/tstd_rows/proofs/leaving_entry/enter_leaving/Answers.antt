@@ -23,7 +23,8 @@ returns-clause-most g c =
     let old = c.args.buffer.now in
     let ts : List ℕ = times_of c.args.leaving.now.waiting in
     let us : List ℕ = times_of c.args.leaving.now.free in
-    let both = most_of_two (fullness_at old) (fullness_at c.enter_row-first.new.buffer) old.current.until 0 ts us c.requires.climbing c.enter_row-first.ensures.there in
+    let both = most_of_two (fullness_at old) (fullness_at c.enter_row-first.new.buffer) old.current.until 0 ts us c.requires.climbing
+    c.enter_row-first.ensures.there in
     let middle = c.enter_row-first.new.buffer in
     c.enter_row-least.ensures.peak
     ∙ ap (λ (u : ℕ). max middle.peak (greatest_at (λ x. fullness_at middle x + entered u x us) us)) c.enter_row-first.ensures.until

@@ -10,7 +10,8 @@ returns-then-from c =
     let first : c.max-first.result ≡ max (row.from / row.parts) c.args.prev = c.max-first.ensures ∙ rw (c.time.ensures.time, e) refl in
     let fast : row.pace ≤ c.args.step * row.parts = rw (c.from.ensures, c.from-2.ensures, c.from-3.ensures) at c.if-from.true in
     c.found.ensures ∙ rw (c.from-then-from.ensures, c.from-then-from-2.ensures, c.time-then-from.ensures.time)
-    (row_most_fast c.args.step c.args.prev row.from row.pace row.parts row.bytes c.max-first.result c.requires.some c.requires.timed.some fast c.requires.bytes first)
+    (row_most_fast c.args.step c.args.prev row.from row.pace row.parts row.bytes c.max-first.result c.requires.some c.requires.timed.some fast c.requires.bytes
+    first)
 
 pub returns-else-from : goal.returns-else-from
 returns-else-from c =

@@ -12,12 +12,14 @@ first c =
 room : (c : goal.After-split) → (j : ℕ) → j < c.multiples_below.result →
     j * (c.args.step * c.args.row.now.parts - c.args.row.now.pace)
     < c.args.row.now.from + (c.args.size - 1) * c.args.step * c.args.row.now.parts + 1 - c.max-first.result * c.args.row.now.parts
-room c = rw (c.saturating_sub-room.ensures, c.from-parts.ensures, c.from.ensures, c.from-2.ensures, c.from-3.ensures, c.from-4.ensures) at c.multiples_below.ensures.below
+room c = rw (c.saturating_sub-room.ensures, c.from-parts.ensures, c.from.ensures, c.from-2.ensures, c.from-3.ensures, c.from-4.ensures) at
+    c.multiples_below.ensures.below
 
 enough : (c : goal.After-split) → c.multiples_below.result < c.args.row.now.bytes →
     c.args.row.now.from + (c.args.size - 1) * c.args.step * c.args.row.now.parts + 1 - c.max-first.result * c.args.row.now.parts
     ≤ c.multiples_below.result * (c.args.step * c.args.row.now.parts - c.args.row.now.pace)
-enough c = rw (c.saturating_sub-room.ensures, c.from-parts.ensures, c.from.ensures, c.from-2.ensures, c.from-3.ensures, c.from-4.ensures) at c.multiples_below.ensures.next
+enough c = rw (c.saturating_sub-room.ensures, c.from-parts.ensures, c.from.ensures, c.from-2.ensures, c.from-3.ensures, c.from-4.ensures) at
+    c.multiples_below.ensures.next
 
 pub returns-clause-first : goal.returns-clause-first
 returns-clause-first c =

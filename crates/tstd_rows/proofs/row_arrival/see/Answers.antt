@@ -19,13 +19,17 @@ all_room : (buffer : TransportBuffer) (size most : ℕ) (row : Row) → most ≤
 all_room buffer size most row within is = none_over buffer.step size buffer.last (times_of row) (rw is at within)
 
 -- the excess under way ends then, if there is one
-ends : (buffer : TransportBuffer) (size : ℕ) (under_way : Option Excess) (row : Row) → 0 < row.bytes → AreOver false buffer.step size buffer.last (times_of row) →
+ends : (buffer : TransportBuffer) (size : ℕ) (under_way : Option Excess) (row : Row) → 0 < row.bytes →
+    AreOver false buffer.step size buffer.last (times_of row) →
     option_to_list under_way ≡ excesses_ended buffer.step size buffer.last under_way (times_of row)
-ends buffer size under_way row some room = sym (room_row_ended buffer.step size buffer.last under_way row.from row.pace row.parts row.bytes (some_bytes row.bytes some) room)
+ends buffer size under_way row some room =
+    sym (room_row_ended buffer.step size buffer.last under_way row.from row.pace row.parts row.bytes (some_bytes row.bytes some) room)
 
-leaves : (buffer : TransportBuffer) (size : ℕ) (under_way : Option Excess) (row : Row) → 0 < row.bytes → AreOver false buffer.step size buffer.last (times_of row) →
+leaves : (buffer : TransportBuffer) (size : ℕ) (under_way : Option Excess) (row : Row) → 0 < row.bytes →
+    AreOver false buffer.step size buffer.last (times_of row) →
     None ≡ excess_after buffer.step size buffer.last under_way (times_of row)
-leaves buffer size under_way row some room = sym (room_row_after buffer.step size buffer.last under_way row.from row.pace row.parts row.bytes (some_bytes row.bytes some) room)
+leaves buffer size under_way row some room =
+    sym (room_row_after buffer.step size buffer.last under_way row.from row.pace row.parts row.bytes (some_bytes row.bytes some) room)
 
 none_there : (o : Option Excess) → is_some o ≡ false → o ≡ None
 none_there None e = refl

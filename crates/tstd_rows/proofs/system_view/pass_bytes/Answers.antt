@@ -22,8 +22,11 @@ loop-j-preserved c =
       inner = omega (arith, inv.inner);
       transport = rw time (next_first c.loop-j.transport row.from row.pace row.parts row.bytes j c.loop-j-test.true) ∙ inv.transport;
       system = rw time (next_second c.loop-j.transport c.loop-j.system row.from row.pace row.parts row.bytes j c.loop-j-test.true) ∙ inv.system;
-      transport_ended = rw time (next_ended c.loop-j.transport c.loop-j.ended.transport.items row.from row.pace row.parts row.bytes j c.loop-j-test.true) ∙ inv.transport_ended;
-      system_ended = rw time (next_left c.loop-j.transport c.loop-j.system c.loop-j.ended.system.items row.from row.pace row.parts row.bytes j c.loop-j-test.true) ∙ inv.system_ended;
+      transport_ended = rw time (next_ended c.loop-j.transport c.loop-j.ended.transport.items row.from row.pace row.parts row.bytes j c.loop-j-test.true)
+          ∙ inv.transport_ended;
+      system_ended =
+          rw time (next_left c.loop-j.transport c.loop-j.system c.loop-j.ended.system.items row.from row.pace row.parts row.bytes j c.loop-j-test.true)
+          ∙ inv.system_ended;
     })
 
 pub returns-clause-passed : goal.returns-clause-passed

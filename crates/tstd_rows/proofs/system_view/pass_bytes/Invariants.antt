@@ -11,11 +11,13 @@ invariant-loop-j l = record {
   left : l.system.queue.last ≤ 2 ^ 87 + (l.before + l.j) * 2 ^ 34;
   longest_residence : l.transport.queue.longest_residence ≤ l.transport.queue.last;
   inner : l.system.queue.longest_residence ≤ l.system.queue.last;
-  transport : all_entered l.transport (times_in_row (l.row.from + l.j * l.row.pace) l.row.pace l.row.parts (l.row.bytes - l.j)) ≡ all_entered l.fn.transport (times_of l.row);
+  transport : all_entered l.transport (times_in_row (l.row.from + l.j * l.row.pace) l.row.pace l.row.parts (l.row.bytes - l.j)) ≡ all_entered l.fn.transport
+      (times_of l.row);
   system : all_entered l.system (left_at l.transport (times_in_row (l.row.from + l.j * l.row.pace) l.row.pace l.row.parts (l.row.bytes - l.j)))
       ≡ all_entered l.fn.system (left_at l.fn.transport (times_of l.row));
   transport_ended : l.ended.transport.items ++ ended_by l.transport (times_in_row (l.row.from + l.j * l.row.pace) l.row.pace l.row.parts (l.row.bytes - l.j))
       ≡ l.fn.ended.transport.items ++ ended_by l.fn.transport (times_of l.row);
-  system_ended : l.ended.system.items ++ ended_by l.system (left_at l.transport (times_in_row (l.row.from + l.j * l.row.pace) l.row.pace l.row.parts (l.row.bytes - l.j)))
+  system_ended : l.ended.system.items
+      ++ ended_by l.system (left_at l.transport (times_in_row (l.row.from + l.j * l.row.pace) l.row.pace l.row.parts (l.row.bytes - l.j)))
       ≡ l.fn.ended.system.items ++ ended_by l.fn.system (left_at l.fn.transport (times_of l.row));
 }

@@ -42,7 +42,8 @@ returns-clause-in_time c =
     let ways = c.in-Some.ensures in
     let first = c.pass-first.ensures in
     let second = c.pass-second.ensures in
-    still_in_time c.args.transport.now c.args.system.now c.pass-first.new.self c.pass-second.new.self c.in-Some.come.last c.in-Some.between.last c.in-Some.left.last
+    still_in_time c.args.transport.now c.args.system.now c.pass-first.new.self c.pass-second.new.self c.in-Some.come.last c.in-Some.between.last
+    c.in-Some.left.last
     c.args.before c.args.row.now.bytes c.requires.in_time (record { step = first.step; last = first.last; longest = first.longest; later = ways.later })
     (record { step = second.step; last = second.last; longest = second.longest; later = ways.system_later }) ways.soon ways.system_soon
 
@@ -51,6 +52,7 @@ returns-in_err-append-clause-in_time c =
     let ways = c.in-Some.ensures in
     let first = c.pass-first.ensures in
     let second = c.pass-second.ensures in
-    still_in_time c.args.transport.now c.args.system.now c.pass-first.new.self c.pass-second.new.self c.in-Some.come.last c.in-Some.between.last c.in-Some.left.last
+    still_in_time c.args.transport.now c.args.system.now c.pass-first.new.self c.pass-second.new.self c.in-Some.come.last c.in-Some.between.last
+    c.in-Some.left.last
     c.args.before c.args.row.now.bytes c.requires.in_time (record { step = first.step; last = first.last; longest = first.longest; later = ways.later })
     (record { step = second.step; last = second.last; longest = second.longest; later = ways.system_later }) ways.soon ways.system_soon

@@ -7,4 +7,5 @@ returns-in-None-clause-unit c = λ sizes rate parts k.
 
 pub returns-in_ok-unit-in-Some-clause-unit : goal.returns-in_ok-unit-in-Some-clause-unit
 returns-in_ok-unit-in-Some-clause-unit c = λ sizes rate parts k.
-    some_unit c.args.video.now c.in-Some.video sizes rate parts c.in_ok-unit-in-Some.field-0 c.in-Some.is k (λ s held. c.in_ok-unit-in-Some.ensures.unit s rate parts held)
+    some_unit c.args.video.now c.in-Some.video sizes rate parts c.in_ok-unit-in-Some.field-0 c.in-Some.is k
+    (λ s held. c.in_ok-unit-in-Some.ensures.unit s rate parts held)

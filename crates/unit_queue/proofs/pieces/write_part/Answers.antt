@@ -19,4 +19,5 @@ returns-else-from-size c =
     let least : c.min.result ≡ min (length c.bytes_from-rest.result.now) c.args.room = search rules in
     c.write_payload.ensures
     ∙ ap (λ (t : List ℕ). packet_of (payload_or_null c.args.pid c.args.counter c.args.start t))
-    (c.split_at-else-from-size.ensures.front ∙ take_least c.min.result c.args.room c.bytes_from-rest.result.now least ∙ ap (λ (t : List ℕ). take c.args.room t) rest)
+    (c.split_at-else-from-size.ensures.front ∙ take_least c.min.result c.args.room c.bytes_from-rest.result.now least
+    ∙ ap (λ (t : List ℕ). take c.args.room t) rest)

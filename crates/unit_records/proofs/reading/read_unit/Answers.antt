@@ -15,10 +15,12 @@ returns-in-Err-read_stamps-clause-known g c = λ xs e.
 pub returns-in-Ok-read_bytes-clause-known : goal.returns-in-Ok-read_bytes-clause-known
 returns-in-Ok-read_bytes-clause-known g c = λ xs e.
     rw (c.parted-bytes.ensures.marks, c.parted-bytes.ensures.bytes)
-    (whole_record xs (g.R.Read.remaining c.read_start.new.from) (g.R.Read.remaining c.read_stamps.new.from) (g.R.Read.remaining c.read_bytes.new.from) c.in-Ok-Some.start c.in-Ok.stamps c.in-Ok-read_bytes.bytes.items
+    (whole_record xs (g.R.Read.remaining c.read_start.new.from) (g.R.Read.remaining c.read_stamps.new.from) (g.R.Read.remaining c.read_bytes.new.from)
+    c.in-Ok-Some.start c.in-Ok.stamps c.in-Ok-read_bytes.bytes.items
     (rw c.in-Ok-Some.field-0-is at (c.in-Ok-Some.ensures.known xs e)) c.in-Ok.ensures.known c.in-Ok-read_bytes.ensures.known)
 
 pub returns-in-Err-read_bytes-clause-known : goal.returns-in-Err-read_bytes-clause-known
 returns-in-Err-read_bytes-clause-known g c = λ xs e.
-    bytes_refused xs (g.R.Read.remaining c.read_start.new.from) (g.R.Read.remaining c.read_stamps.new.from) (g.R.Read.remaining c.read_bytes.new.from) c.in-Ok-Some.start c.in-Ok.stamps c.in-Err-read_bytes.refusal
+    bytes_refused xs (g.R.Read.remaining c.read_start.new.from) (g.R.Read.remaining c.read_stamps.new.from) (g.R.Read.remaining c.read_bytes.new.from)
+    c.in-Ok-Some.start c.in-Ok.stamps c.in-Err-read_bytes.refusal
     (rw c.in-Ok-Some.field-0-is at (c.in-Ok-Some.ensures.known xs e)) c.in-Ok.ensures.known c.in-Err-read_bytes.ensures.known

@@ -11,4 +11,5 @@ returns-in-Ok g c = λ input unread.
 
 pub returns-in-Ok-2 : goal.returns-in-Ok-2
 returns-in-Ok-2 g c = λ input unread.
-    of_fault _ _ _ _ c.in-Ok.fault _ _ _ _ c.in-Ok.ensures (sym c.if-asks_version.ensures) (sym c.if-is_help.ensures) (c.report_hinted.ensures input _ unread refl)
+    of_fault _ _ _ _ c.in-Ok.fault _ _ _ _ c.in-Ok.ensures (sym c.if-asks_version.ensures) (sym c.if-is_help.ensures)
+    (c.report_hinted.ensures input _ unread refl)

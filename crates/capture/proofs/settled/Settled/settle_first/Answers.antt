@@ -14,8 +14,10 @@ returns-clause-taken g c = λ first parts taken.
     let now = c.settle_known.new.self in
     if_map (Settles (λ found. g.T.PartTaker.has_taken first ((parts ++ sizes) ++ found) c.settle_known.new.taker) c.begin.new.self bs c.args.ended now)
     (Settles (λ found. g.T.PartTaker.has_taken first (parts ++ found) c.settle_known.new.taker) c.args.self.now bs c.args.ended now) c.settle_known.result
-    (λ used s. begun (λ found. g.T.PartTaker.has_taken first (parts ++ found) c.settle_known.new.taker) (λ found. g.T.PartTaker.has_taken first ((parts ++ sizes) ++ found) c.settle_known.new.taker)
+    (λ used s. begun (λ found. g.T.PartTaker.has_taken first (parts ++ found) c.settle_known.new.taker)
+    (λ found. g.T.PartTaker.has_taken first ((parts ++ sizes) ++ found) c.settle_known.new.taker)
     c.args.self.now now bs c.args.ended used c.requires.first c.requires.long
     (λ found t. subst (λ (q : List Part). g.T.PartTaker.has_taken first q c.settle_known.new.taker) (append_assoc parts sizes found) t)
-    (subst (λ (x : Settled). Settles (λ found. g.T.PartTaker.has_taken first ((parts ++ sizes) ++ found) c.settle_known.new.taker) x bs c.args.ended now used) c.in_ok-front.ensures.settled s))
+    (subst (λ (x : Settled). Settles (λ found. g.T.PartTaker.has_taken first ((parts ++ sizes) ++ found) c.settle_known.new.taker) x bs c.args.ended now used)
+    c.in_ok-front.ensures.settled s))
     (c.settle_known.ensures.taken first (parts ++ sizes) (c.in_ok-front.ensures.taken first parts taken))

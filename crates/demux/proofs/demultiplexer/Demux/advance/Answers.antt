@@ -12,4 +12,5 @@ returns-in_ok-push_packet-in-Some-clause-pushed g c =
     let bytes : c.in-Some.bytes.now ≡ c.args.self.now.held ++ take 188 c.args.piece.now =
     front ∙ ap (λ (x : List ℕ). x ++ take 188 c.args.piece.now) (sym none) in
     let enough : 188 ≤ length c.args.piece.now = c.in-Some.ensures.cases.enough in
-    packet_whole c.args.self.now c.push_packet.new.self 188 c.args.piece.now c.in-Some.bytes.now (omega arith) enough (omega arith) bytes c.in_ok-push_packet-in-Some.ensures.ok
+    packet_whole c.args.self.now c.push_packet.new.self 188 c.args.piece.now c.in-Some.bytes.now (omega arith) enough (omega arith) bytes
+    c.in_ok-push_packet-in-Some.ensures.ok

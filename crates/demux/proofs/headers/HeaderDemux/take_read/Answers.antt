@@ -12,5 +12,6 @@ returns-clause-ok g c =
 
 pub returns-clause-found : goal.returns-clause-found
 returns-clause-found g c =
-    subst (λ (s : StreamState). AddsHeaders (map finding_view c.args.found.now.items) (map finding_view c.take_read.new.found.items) (found_in s c.args.bytes.now)) c.self.view_is
+    subst (λ (s : StreamState). AddsHeaders (map finding_view c.args.found.now.items) (map finding_view c.take_read.new.found.items)
+    (found_in s c.args.bytes.now)) c.self.view_is
     (found_besides c.self.inside.demux c.args.bytes.now _ _ c.in-Ok.ensures.found)

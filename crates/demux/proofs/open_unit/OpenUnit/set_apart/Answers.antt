@@ -14,14 +14,16 @@ invariant_of-self g c =
 pub returns-then-is_some : goal.returns-then-is_some
 returns-then-is_some g c =
     let unit = c.self.inside in
-    more_left c.args.self.now unit.packet unit.kind unit.access unit.header unit.front.items unit.bytes.items c.give_back.new.bytes.items unit.left_out c.len.result
+    more_left c.args.self.now unit.packet unit.kind unit.access unit.header unit.front.items unit.bytes.items c.give_back.new.bytes.items unit.left_out
+    c.len.result
     c.if-is_some.ensures c.self.view_is c.self.invariant.0.1.1.1 (omega (arith, c.len.ensures)) c.give_back.ensures
 
 pub returns-in_default : goal.returns-in_default
 returns-in_default g c =
     let unit = c.self.inside in
     let pes = ap (λ (u : OpenUnit). u.kind) c.self.view_is ∙ c.requires in
-    let all = (alone unit.header unit.kind unit.front.items _ unit.bytes.items unit.left_out c.if-is_some.ensures c.self.invariant.0.1.1.1 c.self.invariant.1).1 in
+    let all = (alone unit.header unit.kind unit.front.items _ unit.bytes.items unit.left_out c.if-is_some.ensures c.self.invariant.0.1.1.1 c.self.invariant.1).1
+    in
     none_left c.args.self.now unit.packet unit.kind unit.access _ c.deref.result.now c.self.view_is (all ∙ sym c.deref.ensures.value) pes
     (c.head_of-head.ensures.unread c.in_default.is)
 
@@ -35,7 +37,8 @@ invariant_of-self-2 g c =
     let few : length bytes ≤ max_unbounded_pes = omega (arith, c.self.invariant.0.0, ap length all.1, ap length c.deref.ensures.value) in
     let read = subst (λ (o : Option PesHeader). IsFront o unit_kinds.Pes head.front.now bytes) c.in-Some.is c.head_of-head.ensures.front in
     let apart : c.try_extend_from_slice.new.self.items ≡ head.front.now = c.in-Ok.ensures.ok ∙ ap (λ (xs : List ℕ). xs ++ head.front.now) all.0 in (
-      first_left_open c.in-Some.header unit.kind head.front.now head.rest.now c.give_back-2.new.bytes.items bytes c.try_extend_from_slice.new.self.items head.least
+      first_left_open c.in-Some.header unit.kind head.front.now head.rest.now c.give_back-2.new.bytes.items bytes c.try_extend_from_slice.new.self.items
+          head.least
           pes few c.head_of-head.ensures.bound c.head_of-head.ensures.waits read c.head_of-head.ensures.joined apart c.give_back-2.ensures,
       tt,
     )

@@ -11,8 +11,10 @@ returns-in-Some-clause-states g c = λ is.
     let there = state_at c.args.pid _ before c.in-Some.ensures.index c.in-Some.ensures.value in
     let entry = plain_entry c.args.index c.args.bytes.now in
     let done = went_on c.go_on_at.result c.args.pid _ before c.go_on_at.new.states.entries c.args.self.now
-    (machine.step (state_of c.args.pid before) entry) c.self.view_is c.in-Some.ensures.index (c.go_on_at.ensures.states (state_of c.args.pid before) there) is in
-    subst (λ (s : States). c.go_on_at.new.states.entries ≡ with_state c.args.pid (machine.step (state_of c.args.pid s) entry) c.args.self.now) c.self.view_is done
+    (machine.step (state_of c.args.pid before) entry) c.self.view_is c.in-Some.ensures.index (c.go_on_at.ensures.states (state_of c.args.pid before) there)
+    is in
+    subst (λ (s : States). c.go_on_at.new.states.entries ≡ with_state c.args.pid (machine.step (state_of c.args.pid s) entry) c.args.self.now) c.self.view_is
+    done
 
 pub returns-in-Some-clause-none : goal.returns-in-Some-clause-none
 returns-in-Some-clause-none g c = λ is.

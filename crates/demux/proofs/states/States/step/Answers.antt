@@ -10,7 +10,8 @@ use Rattle.demux.proofs.MapSteps.{state_at, stepped, unstepped}
 use Rattle.demux.proofs.states.States.step.Goals as goal
 
 -- where the entry of a PID is in the same map
-index_in : (pid i : ℕ) (new old : PidEntries PidState) → new ≡ old → Some i ≡ position (nat_eq pid) (keys_of old.entries) → position (nat_eq pid) (keys_of new.entries) ≡ Some i
+index_in : (pid i : ℕ) (new old : PidEntries PidState) → new ≡ old → Some i ≡ position (nat_eq pid) (keys_of old.entries) →
+    position (nat_eq pid) (keys_of new.entries) ≡ Some i
 index_in pid i new old same at = rw same (sym at)
 
 value_in : (pid i : ℕ) (new old : PidEntries PidState) → new ≡ old → slice_get (values_of old.entries) i ≡ lookup (nat_eq pid) old.entries →

@@ -16,7 +16,9 @@ pub returns-clause-items : goal.returns-clause-items
 unfolding event_loop_of
 returns-clause-items c =
     let fits : IsBytes c.args.self.now.bytes.items = subst IsBytes c.as_slice-bytes.ensures.value (λ i. search rules) in
-    c.append.ensures.items ∙ ap (λ (t : List ℕ). c.args.out.now.items ++ t) (c.as_slice-bytes.ensures.value ∙ sym (events_same c.args.self.now.bytes.items fits c.args.self.now.whole))
+    c.append.ensures.items
+    ∙ ap (λ (t : List ℕ). c.args.out.now.items ++ t)
+    (c.as_slice-bytes.ensures.value ∙ sym (events_same c.args.self.now.bytes.items fits c.args.self.now.whole))
 
 pub returns-clause-len : goal.returns-clause-len
 unfolding event_loop_of

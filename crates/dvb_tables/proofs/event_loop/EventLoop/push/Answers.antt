@@ -17,7 +17,8 @@ returns-then-room-event-clause-variant c =
 
 pub invariant_of-self : goal.invariant_of-self
 invariant_of-self c =
-    let fits : EventFits (event_view c.args.event.now) = record { event_id = omega arith; start_time = omega arith; duration = omega arith; descriptors = omega (arith, c.if-room-event.false) } in
+    let fits : EventFits (event_view c.args.event.now) =
+    record { event_id = omega arith; start_time = omega arith; duration = omega arith; descriptors = omega (arith, c.if-room-event.false) } in
     let more = one_more c.args.self.now.bytes.items (event_view c.args.event.now) fits c.args.self.now.whole in
     record { whole = ap (λ (bytes : List ℕ). is_some (loop_at 12 bytes)) c.append_to.ensures.items ∙ more.whole }
 
@@ -32,6 +33,7 @@ returns-clause-variant c =
 pub returns-clause-ok : goal.returns-clause-ok
 unfolding event_loop_of
 returns-clause-ok c =
-    let fits : EventFits (event_view c.args.event.now) = record { event_id = omega arith; start_time = omega arith; duration = omega arith; descriptors = omega (arith, c.if-room-event.false) } in
+    let fits : EventFits (event_view c.args.event.now) =
+    record { event_id = omega arith; start_time = omega arith; duration = omega arith; descriptors = omega (arith, c.if-room-event.false) } in
     let more = one_more c.args.self.now.bytes.items (event_view c.args.event.now) fits c.args.self.now.whole in
     ap events_in c.append_to.ensures.items ∙ more.events

@@ -22,10 +22,12 @@ loop-service-preserved c =
 pub returns-clause-items : goal.returns-clause-items
 unfolding services_bytes
 returns-clause-items c =
-    sym (append-nil c.loop-service.out.items) ∙ (ap (λ xs. c.loop-service.out.items ++ services_bytes xs) (sym c.in-None.ensures.steps.0) ∙ c.loop-service.invariant)
+    sym (append-nil c.loop-service.out.items)
+    ∙ (ap (λ xs. c.loop-service.out.items ++ services_bytes xs) (sym c.in-None.ensures.steps.0) ∙ c.loop-service.invariant)
 
 pub returns-clause-len : goal.returns-clause-len
 unfolding services_bytes
 returns-clause-len c =
-    let all = sym (append-nil c.loop-service.out.items) ∙ (ap (λ xs. c.loop-service.out.items ++ services_bytes xs) (sym c.in-None.ensures.steps.0) ∙ c.loop-service.invariant) in
+    let all = sym (append-nil c.loop-service.out.items)
+    ∙ (ap (λ xs. c.loop-service.out.items ++ services_bytes xs) (sym c.in-None.ensures.steps.0) ∙ c.loop-service.invariant) in
     ap (length {A = ℕ}) all ∙ length-append c.args.out.now.items (services_bytes (services_of c.args.self))

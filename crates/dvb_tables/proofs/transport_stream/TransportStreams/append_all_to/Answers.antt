@@ -22,10 +22,12 @@ loop-stream-preserved c =
 pub returns-clause-items : goal.returns-clause-items
 unfolding transport_streams_bytes
 returns-clause-items c =
-    sym (append-nil c.loop-stream.out.items) ∙ (ap (λ xs. c.loop-stream.out.items ++ transport_streams_bytes xs) (sym c.in-None.ensures.steps.0) ∙ c.loop-stream.invariant)
+    sym (append-nil c.loop-stream.out.items)
+    ∙ (ap (λ xs. c.loop-stream.out.items ++ transport_streams_bytes xs) (sym c.in-None.ensures.steps.0) ∙ c.loop-stream.invariant)
 
 pub returns-clause-len : goal.returns-clause-len
 unfolding transport_streams_bytes
 returns-clause-len c =
-    let all = sym (append-nil c.loop-stream.out.items) ∙ (ap (λ xs. c.loop-stream.out.items ++ transport_streams_bytes xs) (sym c.in-None.ensures.steps.0) ∙ c.loop-stream.invariant) in
+    let all = sym (append-nil c.loop-stream.out.items)
+    ∙ (ap (λ xs. c.loop-stream.out.items ++ transport_streams_bytes xs) (sym c.in-None.ensures.steps.0) ∙ c.loop-stream.invariant) in
     ap (length {A = ℕ}) all ∙ length-append c.args.out.now.items (transport_streams_bytes (transport_streams_of c.args.self))

@@ -14,7 +14,8 @@ returns-then-room-transport_stream-clause-variant c =
 
 pub invariant_of-self : goal.invariant_of-self
 invariant_of-self c =
-    let fits : TransportStreamFits (transport_stream_view c.args.transport_stream.now) = record { transport_stream_id = omega arith; original_network_id = omega arith; descriptors = omega (arith, c.if-room-transport_stream.false) } in
+    let fits : TransportStreamFits (transport_stream_view c.args.transport_stream.now) =
+    record { transport_stream_id = omega arith; original_network_id = omega arith; descriptors = omega (arith, c.if-room-transport_stream.false) } in
     let more = one_more c.args.self.now.bytes.items (transport_stream_view c.args.transport_stream.now) fits c.args.self.now.whole in
     record { whole = ap (λ (bytes : List ℕ). is_some (loop_at 6 bytes)) c.append_to.ensures.items ∙ more.whole }
 
@@ -27,6 +28,7 @@ returns-clause-variant c =
 pub returns-clause-ok : goal.returns-clause-ok
 unfolding transport_stream_loop_of
 returns-clause-ok c =
-    let fits : TransportStreamFits (transport_stream_view c.args.transport_stream.now) = record { transport_stream_id = omega arith; original_network_id = omega arith; descriptors = omega (arith, c.if-room-transport_stream.false) } in
+    let fits : TransportStreamFits (transport_stream_view c.args.transport_stream.now) =
+    record { transport_stream_id = omega arith; original_network_id = omega arith; descriptors = omega (arith, c.if-room-transport_stream.false) } in
     let more = one_more c.args.self.now.bytes.items (transport_stream_view c.args.transport_stream.now) fits c.args.self.now.whole in
     ap transport_streams_in c.append_to.ensures.items ∙ more.values

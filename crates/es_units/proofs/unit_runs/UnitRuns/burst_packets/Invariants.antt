@@ -6,7 +6,8 @@ use Rattle.es_units.proofs.unit_runs.UnitRuns.burst_packets.Given as goal
 
 abbrev pub invariant-loop-run : goal.invariant-loop-run
 invariant-loop-run g l = record {
-  greatest : greatest_over l.pace 0 l.self.steps ≡ max l.greatest (greatest_over l.pace l.level (flat_map steps_of (drop l.run-index l.self-inside.runs.items)));
+  greatest : greatest_over l.pace 0 l.self.steps ≡ max l.greatest
+      (greatest_over l.pace l.level (flat_map steps_of (drop l.run-index l.self-inside.runs.items)));
   bound : l.greatest ≤ (2 ^ 64 - 1) * slot_units_at_1bps;
   level : l.level ≤ (2 ^ 64 - 1) * slot_units_at_1bps;
 }

@@ -19,14 +19,17 @@ loop-frame-preserved c =
       settled = λ n k.
           let last = frames_after options at c.args.window n ps in
           let whole = c.args.events.now.items ++ frames_events options place at n.held ps in
-          one_entered options at c.args.window place c.loop-frame.self c.enter_frame.new.self p (drop (i + 1) ps) (c.loop-frame.events.items) (c.enter_frame.new.events.items)
+          one_entered options at c.args.window place c.loop-frame.self c.enter_frame.new.self p (drop (i + 1) ps) (c.loop-frame.events.items)
+          (c.enter_frame.new.events.items)
           last whole c.in_ok-enter_frame.ensures.counted c.in_ok-enter_frame.ensures.found
-          (subst (λ (xs : List FramePart). Settled options at c.args.window place c.loop-frame.self xs (c.loop-frame.events.items) last whole) left (c.loop-frame.invariant.settled n k));
+          (subst (λ (xs : List FramePart). Settled options at c.args.window place c.loop-frame.self xs (c.loop-frame.events.items) last whole) left
+          (c.loop-frame.invariant.settled n k));
       video = λ n sizes k v.
           let last = frames_after options at c.args.window n ps in
           one_of_video options at c.args.window c.loop-frame.self c.enter_frame.new.self sizes p (drop (i + 1) ps) last
           c.in_ok-enter_frame.ensures.counted c.in_ok-enter_frame.ensures.video
-          (subst (λ (xs : List FramePart). SettledVideo options at c.args.window c.loop-frame.self sizes xs last) left (c.loop-frame.invariant.video n sizes k v));
+          (subst (λ (xs : List FramePart). SettledVideo options at c.args.window c.loop-frame.self sizes xs last) left
+          (c.loop-frame.invariant.video n sizes k v));
     }
 
 pub returns-clause-counted : goal.returns-clause-counted

@@ -6,4 +6,5 @@ returns-in-None c = λ h sizes k. none_leaks c.args.self.now.buffers.video sizes
 
 pub returns-in-Some : goal.returns-in-Some
 returns-in-Some c = λ h sizes k.
-    some_leaks c.args.self.now.buffers.video c.in-Some.video sizes h c.busy_under_way.result c.in-Some.is k (λ s held. c.busy_under_way.ensures s h.rate h.parts held)
+    some_leaks c.args.self.now.buffers.video c.in-Some.video sizes h c.busy_under_way.result c.in-Some.is k
+    (λ s held. c.busy_under_way.ensures s h.rate h.parts held)

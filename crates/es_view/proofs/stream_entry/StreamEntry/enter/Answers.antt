@@ -11,7 +11,8 @@ use Rattle.es_view.specs.declared.video_tally.VideoTally.{VideoTally}
 use Rattle.es_view.specs.EntryFrames.{AreCounted, Counted, FramedPayload, payload_after, payload_view, walk_in, whole_after, whole_events}
 use Rattle.es_view.specs.Entries.{arriving, arriving_at, beginning_in, is_unread, payload_at, payload_of}
 use Rattle.es_view.specs.VideoTallies.{with_video}
-use Rattle.es_view.proofs.Framings.{counted_of, framed_counted, framed_entered, framed_found, framed_video, has_frames, no_frames, whole_counted, whole_entered, whole_found, whole_video}
+use Rattle.es_view.proofs.Framings.{counted_of, framed_counted, framed_entered, framed_found, framed_video, has_frames, no_frames, whole_counted, whole_entered}
+use Rattle.es_view.proofs.Framings.{whole_found, whole_video}
 use Rattle.es_view.proofs.Payloads.{alike_after, alike_events}
 use Rattle.es_view.proofs.stream_entry.StreamEntry.enter.Goals as goal
 
@@ -33,9 +34,12 @@ returns-in_ok-enter_whole-in-None-clause-entry c = λ e k.
     let a = c.arriving_in-arriving.result in
     let same : a ≡ arriving_at options index clock e packet =
     c.arriving_in-arriving.ensures ∙ ap₂ (λ (x : ℕ) (m : Option ℕ). arriving options index x m clock packet) is.held.rx k.counter in
-    let counted = subst (λ (x : Arriving). AreCounted c.enter_whole.new.self (whole_after options c.args.window (is_unread (beginning_in e.counter packet)) x n)) same
-    (subst (λ (x : Bool). AreCounted c.enter_whole.new.self (whole_after options c.args.window x a n)) unread (c.in_ok-enter_whole-in-None.ensures.counted n is)) in
-    let holds = subst (λ (x : Arriving). HoldsVideoOf c.enter_whole.new.self.buffers e.video (after e.held options.arrival x)) same (c.in_ok-enter_whole-in-None.ensures.video n e.video is video) in
+    let counted =
+    subst (λ (x : Arriving). AreCounted c.enter_whole.new.self (whole_after options c.args.window (is_unread (beginning_in e.counter packet)) x n)) same
+    (subst (λ (x : Bool). AreCounted c.enter_whole.new.self (whole_after options c.args.window x a n)) unread
+    (c.in_ok-enter_whole-in-None.ensures.counted n is)) in
+    let holds = subst (λ (x : Arriving). HoldsVideoOf c.enter_whole.new.self.buffers e.video (after e.held options.arrival x)) same
+    (c.in_ok-enter_whole-in-None.ensures.video n e.video is video) in
     let tallied = c.in_ok-enter_whole-in-None.ensures.tally n e.video is video
     ∙ ap (λ (t : VideoTally). with_video t (video_of e.video e.held options.arrival a) (video_unit_of e.video e.held options.arrival a)) k.video_tally
     ∙ ap (λ (x : Arriving). with_video e.video_tally (video_of e.video e.held options.arrival x) (video_unit_of e.video e.held options.arrival x)) same in
@@ -81,9 +85,11 @@ returns-in_ok-enter-in-Some-clause-entry c = λ e k.
     c.payload_of-payload.ensures ∙ ap₂ (λ (x : ℕ) (m : Option ℕ). payload_of options index x m clock packet) is.held.rx k.counter in
     let walk = c.in_ok-enter-in-Some.ensures.walk ∙ ap₂ (λ (x : FramedPayload) (w : WalkView). walk_after (walk_in x w) x.bytes) same h.walk in
     let tick = c.in_ok-enter-in-Some.ensures.tick ∙ ap₂ (λ (x : FramedPayload) (t : ℕ). unwrap_or x.tick t) same h.tick in
-    let counted = alike_after (λ (x : Counted). AreCounted c.enter.new.seen x) options c.args.window c.is_unread-unread.result _ entry.limit e.limit p _ c.in-Some.frames.walk f.walk
+    let counted = alike_after (λ (x : Counted). AreCounted c.enter.new.seen x) options c.args.window c.is_unread-unread.result _ entry.limit e.limit p _
+    c.in-Some.frames.walk f.walk
     c.in-Some.frames.tick f.tick n unread k.limit same h.walk h.tick (c.in_ok-enter-in-Some.ensures.counted n is) in
-    let holds = alike_after (λ (x : Counted). HoldsVideoOf c.enter.new.seen.buffers e.video x.held) options c.args.window c.is_unread-unread.result _ entry.limit e.limit p _ c.in-Some.frames.walk f.walk
+    let holds = alike_after (λ (x : Counted). HoldsVideoOf c.enter.new.seen.buffers e.video x.held) options c.args.window c.is_unread-unread.result _
+    entry.limit e.limit p _ c.in-Some.frames.walk f.walk
     c.in-Some.frames.tick f.tick n unread k.limit same h.walk h.tick (c.in_ok-enter-in-Some.ensures.video n e.video is video) in
     framed_entered entry _ options index c.args.window clock e packet f c.enter.new.self k h.is refl refl refl refl refl refl refl walk tick counted holds
 
@@ -104,5 +110,7 @@ returns-in_ok-enter-in-Some-clause-found c = λ e k.
     c.payload_of-payload.ensures ∙ ap₂ (λ (x : ℕ) (m : Option ℕ). payload_of options index x m clock packet) is.held.rx k.counter in
     let events : List Event = c.args.events.now.items in
     c.in_ok-enter-in-Some.ensures.found n is
-    ∙ ap (λ (l : List Event). events ++ l) (alike_events options c.args.place.now entry.limit e.limit p _ c.in-Some.frames.walk f.walk c.in-Some.frames.tick f.tick f.held k.limit same h.walk h.tick)
+    ∙ ap (λ (l : List Event). events ++ l)
+    (alike_events options c.args.place.now entry.limit e.limit p _ c.in-Some.frames.walk f.walk c.in-Some.frames.tick f.tick f.held k.limit same h.walk
+    h.tick)
     ∙ ap (λ (l : List Event). events ++ l) (framed_found options index clock c.args.place.now e packet f h.is)

@@ -9,7 +9,8 @@ use Rattle.es_view.specs.declared.entry_events.Place.{Place}
 use Rattle.es_view.specs.EntryEvents.{ahead_events}
 use Rattle.es_view.specs.EntryFrames.{busy_seen, stays_ended}
 use Rattle.es_view.specs.EntryStays.{delayed_events}
-use Rattle.es_view.specs.Entries.{IsEntry, ahead_by, beginning_in, counter_after, entry_entered, events_entered, held_after, last_buffer, place_at, seen_held, unit_stay}
+use Rattle.es_view.specs.Entries.{IsEntry, ahead_by, beginning_in, counter_after, entry_entered, events_entered, held_after, last_buffer, place_at, seen_held}
+use Rattle.es_view.specs.Entries.{unit_stay}
 use Rattle.es_view.specs.MarkTallies.{with_beginning}
 use Rattle.es_view.specs.Tallies.{more}
 use Rattle.es_view.proofs.Framings.{entered_held, entry_counted}
@@ -27,7 +28,8 @@ returns-clause-entry c = λ e k.
     c.unit_stay-stay.ensures ∙ ap₂ (λ (l : ℕ) (n : Option ℕ). unit_stay options index clock l n packet) k.limit k.counter in
     let beginning : c.beginning_in-beginning.result ≡ beginning_in e.counter packet =
     c.beginning_in-beginning.ensures ∙ ap (λ (n : Option ℕ). beginning_in n packet) k.counter in
-    entry_counted c.enter.new.self _ options index c.args.window clock e packet s refl refl (c.counter_after-self.ensures ∙ ap (λ (n : Option ℕ). counter_after n packet) s.counter) refl refl refl
+    entry_counted c.enter.new.self _ options index c.args.window clock e packet s refl refl
+    (c.counter_after-self.ensures ∙ ap (λ (n : Option ℕ). counter_after n packet) s.counter) refl refl refl
     c.add_delayed_if.ensures.buffers c.add_delayed_if.ensures.tally
     (c.add_delayed_if.ensures.delayed ∙ ap (λ (o : Option Stay). more c.enter.new.self.seen.delayed (if is_some o then 1 else 0)) stay)
     (c.add_packet.ensures ∙ ap (λ (b : Beginning). with_beginning c.enter.new.self.mark_tally b packet) beginning)
@@ -63,7 +65,8 @@ returns-clause-found c = λ e k.
     ∙ ap₂ (λ (l : ℕ) (o : Option Stay). t1 ++ delayed_events options (place_at index e) (last_buffer e.video) l o) k.limit stay in
     let third : t3 ≡ t2 ++ events_entered options index clock (place_at index e) e packet e.framed =
     c.in_ok-enter.ensures.found e k ∙ ap (λ (p : Place). t2 ++ events_entered options index clock p e packet e.framed) place in
-    let fourth : t4 ≡ t3 ++ stays_ended options (place_at index e) (busy_seen e.video (seen_held e)) (busy_seen e.video (held_after options index clock e packet e.framed)) =
+    let fourth : t4 ≡ t3
+    ++ stays_ended options (place_at index e) (busy_seen e.video (seen_held e)) (busy_seen e.video (held_after options index clock e packet e.framed)) =
     c.in_ok-push_stays.ensures
     ∙ ap (λ (p : Place). t3 ++ stays_ended options p c.busy-before.result c.busy.result) place
     ∙ ap₂ (λ (x y : BusySeen). t3 ++ stays_ended options (place_at index e) x y) before after in

@@ -12,5 +12,6 @@ loop-finding-preserved c =
 
 pub returns : goal.returns
 returns c =
-    marked_whole finding_view c.args.self.now c.loop-finding.findings c.loop-finding.finding-index (all_marked c.args.self.now (map finding_view c.args.findings.now))
+    marked_whole finding_view c.args.self.now c.loop-finding.findings c.loop-finding.finding-index
+    (all_marked c.args.self.now (map finding_view c.args.findings.now))
     (omega (arith, c.loop-finding-test.false, c.loop-finding.auto.finding-index-end)) c.loop-finding.invariant

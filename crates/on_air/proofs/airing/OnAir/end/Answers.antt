@@ -12,12 +12,14 @@ returns-in-Ok-clause-ok g c = λ run a start h.
     let terms = ap (λ (x : AirState). x.terms) c.self.view_is in
     let rate = ap (λ (x : AirState). x.rate) c.self.view_is in
     let greatest = ap (λ (x : AirState). x.greatest) c.self.view_is in
-    let is = c.last_slot-target.ensures.value ∙ last_same run a start _ c.args.self.now c.self.inside.rate c.self.inside.greatest c.self.inside.terms h rate terms greatest in
+    let is = c.last_slot-target.ensures.value ∙ last_same run a start _ c.args.self.now c.self.inside.rate c.self.inside.greatest c.self.inside.terms h rate
+    terms greatest in
     c.flush.ensures.ok run (ended run a) start
     (counted_same run a _ _ start _ _ is
     (counted_on run a c.last_slot-target.result c.self.inside.packets.hex start _ _ c.args.self.now _ h
     (record { terms = terms; rate = rate; lead = ap (λ (x : AirState). x.lead) c.self.view_is })
-    (ap (λ (x : AirState). x.packets.hex) c.self.view_is) greatest (ap (λ (x : AirState). x.leap) c.self.view_is) (ap (λ (x : AirState). x.records) c.self.view_is)
+    (ap (λ (x : AirState). x.packets.hex) c.self.view_is) greatest (ap (λ (x : AirState). x.leap) c.self.view_is)
+    (ap (λ (x : AirState). x.records) c.self.view_is)
     (c.in-Ok.ensures.ok run (job_of a) start carries (end_output run a start _ c.args.self.now c.self.inside.packets h packets))))
 
 pub returns-in-Ok-clause-err : goal.returns-in-Ok-clause-err
@@ -27,12 +29,14 @@ returns-in-Ok-clause-err g c = λ run a start h.
     let terms = ap (λ (x : AirState). x.terms) c.self.view_is in
     let rate = ap (λ (x : AirState). x.rate) c.self.view_is in
     let greatest = ap (λ (x : AirState). x.greatest) c.self.view_is in
-    let is = c.last_slot-target.ensures.value ∙ last_same run a start _ c.args.self.now c.self.inside.rate c.self.inside.greatest c.self.inside.terms h rate terms greatest in
+    let is = c.last_slot-target.ensures.value ∙ last_same run a start _ c.args.self.now c.self.inside.rate c.self.inside.greatest c.self.inside.terms h rate
+    terms greatest in
     c.flush.ensures.err run (ended run a) start
     (counted_same run a _ _ start _ _ is
     (counted_on run a c.last_slot-target.result c.self.inside.packets.hex start _ _ c.args.self.now _ h
     (record { terms = terms; rate = rate; lead = ap (λ (x : AirState). x.lead) c.self.view_is })
-    (ap (λ (x : AirState). x.packets.hex) c.self.view_is) greatest (ap (λ (x : AirState). x.leap) c.self.view_is) (ap (λ (x : AirState). x.records) c.self.view_is)
+    (ap (λ (x : AirState). x.packets.hex) c.self.view_is) greatest (ap (λ (x : AirState). x.leap) c.self.view_is)
+    (ap (λ (x : AirState). x.records) c.self.view_is)
     (c.in-Ok.ensures.ok run (job_of a) start carries (end_output run a start _ c.args.self.now c.self.inside.packets h packets))))
 
 pub returns-in-Err-clause-err : goal.returns-in-Err-clause-err
@@ -42,7 +46,9 @@ returns-in-Err-clause-err g c = λ run a start h.
     let terms = ap (λ (x : AirState). x.terms) c.self.view_is in
     let rate = ap (λ (x : AirState). x.rate) c.self.view_is in
     let greatest = ap (λ (x : AirState). x.greatest) c.self.view_is in
-    let is = c.last_slot-target.ensures.value ∙ last_same run a start _ c.args.self.now c.self.inside.rate c.self.inside.greatest c.self.inside.terms h rate terms greatest in
+    let is = c.last_slot-target.ensures.value ∙ last_same run a start _ c.args.self.now c.self.inside.rate c.self.inside.greatest c.self.inside.terms h rate
+    terms greatest in
     fails_same run a _ _ c.in-Err.fault.sent start _ is
-    (count_fails run a c.last_slot-target.result c.in-Err.fault.sent c.self.inside.packets.hex start _ _ c.args.self.now h (ap (λ (x : AirState). x.packets.hex) c.self.view_is)
+    (count_fails run a c.last_slot-target.result c.in-Err.fault.sent c.self.inside.packets.hex start _ _ c.args.self.now h
+    (ap (λ (x : AirState). x.packets.hex) c.self.view_is)
     (c.in-Err.ensures.err run (job_of a) start carries (end_output run a start _ c.args.self.now c.self.inside.packets h packets)))

@@ -23,26 +23,30 @@ records-preserved g c =
       writes = clean.1 ∙ c.records.invariant.writes;
       known = λ run n a origin start h has.
           let w = c.records.invariant.known run n a origin start h has in
-          next_taken run a origin start (g.R.Read.remaining c.records.input) (g.R.Read.remaining c.hear.new.input) (g.W.Write.contents c.records.to) (g.W.Write.contents c.hear.new.to) c.records.self c.hear.new.self w
+          next_taken run a origin start (g.R.Read.remaining c.records.input) (g.R.Read.remaining c.hear.new.input) (g.W.Write.contents c.records.to)
+          (g.W.Write.contents c.hear.new.to) c.records.self c.hear.new.self w
           (rw c.in-Ok-Taken.field-0-is at (c.in-Ok-Taken.ensures.heard run w.so_far start w.state));
     }
 
 pub returns-in-Ok-Refused-clause-heard : goal.returns-in-Ok-Refused-clause-heard
 returns-in-Ok-Refused-clause-heard g c = λ run n a origin start h has.
     let w = c.records.invariant.known run n a origin start h has in
-    next_refused run a origin start (g.R.Read.remaining c.records.input) (g.R.Read.remaining c.hear.new.input) (g.W.Write.contents c.records.to) (g.W.Write.contents c.hear.new.to) c.records.self c.hear.new.self c.in-Ok-Refused.index c.in-Ok-Refused.cause w
+    next_refused run a origin start (g.R.Read.remaining c.records.input) (g.R.Read.remaining c.hear.new.input) (g.W.Write.contents c.records.to)
+    (g.W.Write.contents c.hear.new.to) c.records.self c.hear.new.self c.in-Ok-Refused.index c.in-Ok-Refused.cause w
     (rw c.in-Ok-Refused.field-0-is at (c.in-Ok-Refused.ensures.heard run w.so_far start w.state))
 
 pub returns-in-Ok-Ended-clause-heard : goal.returns-in-Ok-Ended-clause-heard
 returns-in-Ok-Ended-clause-heard g c = λ run n a origin start h has.
     let w = c.records.invariant.known run n a origin start h has in
-    next_ended run a origin start (g.R.Read.remaining c.records.input) (g.R.Read.remaining c.hear.new.input) (g.W.Write.contents c.records.to) (g.W.Write.contents c.hear.new.to) c.records.self c.hear.new.self c.in-Ok-Ended.why w
+    next_ended run a origin start (g.R.Read.remaining c.records.input) (g.R.Read.remaining c.hear.new.input) (g.W.Write.contents c.records.to)
+    (g.W.Write.contents c.hear.new.to) c.records.self c.hear.new.self c.in-Ok-Ended.why w
     (rw c.in-Ok-Ended.field-0-is at (c.in-Ok-Ended.ensures.heard run w.so_far start w.state))
 
 pub returns-in-Err-hear-clause-heard : goal.returns-in-Err-hear-clause-heard
 returns-in-Err-hear-clause-heard g c = λ run n a origin start h has.
     let w = c.records.invariant.known run n a origin start h has in
-    next_failed run a origin start (g.R.Read.remaining c.records.input) (g.R.Read.remaining c.hear.new.input) (g.W.Write.contents c.records.to) (g.W.Write.contents c.hear.new.to) c.records.self c.hear.new.self c.in-Err-hear.fault w (c.in-Err-hear.ensures.heard run w.so_far start w.state)
+    next_failed run a origin start (g.R.Read.remaining c.records.input) (g.R.Read.remaining c.hear.new.input) (g.W.Write.contents c.records.to)
+    (g.W.Write.contents c.hear.new.to) c.records.self c.hear.new.self c.in-Err-hear.fault w (c.in-Err-hear.ensures.heard run w.so_far start w.state)
 
 pub returns-in-Ok-Refused-clause-counts : goal.returns-in-Ok-Refused-clause-counts
 returns-in-Ok-Refused-clause-counts g c =
@@ -55,7 +59,8 @@ returns-in-Ok-Ended-clause-counts g c =
 
 pub returns-in-Ok-Ended-clause-fault : goal.returns-in-Ok-Ended-clause-fault
 returns-in-Ok-Ended-clause-fault g c =
-    names_same (Ok (Ended c.in-Ok-Ended.why)) _ _ _ _ _ _ c.records.invariant.reads c.records.invariant.writes (rw c.in-Ok-Ended.field-0-is at c.in-Ok-Ended.ensures.fault)
+    names_same (Ok (Ended c.in-Ok-Ended.why)) _ _ _ _ _ _ c.records.invariant.reads c.records.invariant.writes
+    (rw c.in-Ok-Ended.field-0-is at c.in-Ok-Ended.ensures.fault)
 
 pub returns-in-Err-clause-heard : goal.returns-in-Err-clause-heard
 returns-in-Err-clause-heard g c = λ run n a origin start h has.

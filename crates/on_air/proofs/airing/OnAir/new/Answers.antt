@@ -10,7 +10,8 @@ use Rattle.on_air.proofs.airing.OnAir.new.Goals as goal
 pub returns-in-Ok-clause-begun : goal.returns-in-Ok-clause-begun
 returns-in-Ok-clause-begun g c = λ start.
     let same = c.description.ensures.description in
-    let room = c.numbers_of-of.ensures.room ∙ ap (λ (d : Described). room_by c.args.terms.room (room_of (greatest_lead d.streams + c.args.terms.wait) d.streams)) same in
+    let room = c.numbers_of-of.ensures.room
+    ∙ ap (λ (d : Described). room_by c.args.terms.room (room_of (greatest_lead d.streams + c.args.terms.wait) d.streams)) same in
     let carries : Carries (plan_run c.args.plan c.args.terms c.args.hex) empty_history c.in-Ok.mux =
     record { stands = c.in-Ok.ensures.stands; scheduled = c.in-Ok.ensures.schedule; capacity = c.in-Ok.ensures.capacity ∙ room } in
     let ranges = subst (λ (d : Described). IsInRange d) c.description-2.ensures.description c.keeps_ranges.ensures in

@@ -12,7 +12,8 @@ pub returns-then-not-is_followed-clause-passes : goal.returns-then-not-is_follow
 returns-then-not-is_followed-clause-passes g c = λ run a entry start now h due far.
     let terms = ap (λ (x : AirState). x.terms) c.self.view_is in
     let leap = c.with-leap.ensures
-    ∙ leap_same run a entry start now c.args.self.now c.self.inside.leap c.self.inside.terms.ahead c.args.due h (ap (λ (t : Terms). t.ahead) terms) (ap (λ (x : AirState). x.leap) c.self.view_is) due in
+    ∙ leap_same run a entry start now c.args.self.now c.self.inside.leap c.self.inside.terms.ahead c.args.due h (ap (λ (t : Terms). t.ahead) terms)
+    (ap (λ (x : AirState). x.leap) c.self.view_is) due in
     let few : is_followed (leap_by run a entry) ≡ false = ap (λ (l : Leap). is_followed l) (sym leap) ∙ sym c.is_followed.ensures ∙ c.if-not-is_followed.true in
     passed_over run a entry start now c.args.self.now _ h
     (record { terms = terms; rate = ap (λ (x : AirState). x.rate) c.self.view_is; lead = ap (λ (x : AirState). x.lead) c.self.view_is }) far few
@@ -24,8 +25,10 @@ returns-clause-passes g c = λ run a entry start now h due far.
     let terms = ap (λ (x : AirState). x.terms) c.self.view_is in
     let stands = subst (λ (m : MuxState). Stands (job_of a) m) (sym (ap (λ (x : AirState). x.mux) c.self.view_is)) h.mux.stands in
     let leap = c.with-leap.ensures
-    ∙ leap_same run a entry start now c.args.self.now c.self.inside.leap c.self.inside.terms.ahead c.args.due h (ap (λ (t : Terms). t.ahead) terms) (ap (λ (x : AirState). x.leap) c.self.view_is) due in
-    let many : is_followed (leap_by run a entry) ≡ true = ap (λ (l : Leap). is_followed l) (sym leap) ∙ sym c.is_followed.ensures ∙ c.if-not-is_followed.false in
+    ∙ leap_same run a entry start now c.args.self.now c.self.inside.leap c.self.inside.terms.ahead c.args.due h (ap (λ (t : Terms). t.ahead) terms)
+    (ap (λ (x : AirState). x.leap) c.self.view_is) due in
+    let many : is_followed (leap_by run a entry) ≡ true = ap (λ (l : Leap). is_followed l) (sym leap) ∙ sym c.is_followed.ensures
+    ∙ c.if-not-is_followed.false in
     passed_last run a entry c.now-packet.result c.self.inside.greatest c.args.due start now c.args.self.now _ h
     (record { terms = terms; rate = ap (λ (x : AirState). x.rate) c.self.view_is; lead = ap (λ (x : AirState). x.lead) c.self.view_is }) far many
     (c.now-packet.ensures (job_of a) stands) (ap (λ (x : AirState). x.greatest) c.self.view_is) due

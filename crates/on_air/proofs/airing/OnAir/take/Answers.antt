@@ -13,7 +13,8 @@ returns-then-is_far-clause-takes g c = λ run a start h.
     let greatest = ap (λ (x : AirState). x.greatest) c.self.view_is in
     let due = ap (λ (u : AccessUnit). u.dts) c.unit.view_is in
     let far : is_far_from run a (c.args.stream, c.args.unit) ≡ true =
-    sym (far_same run a (c.args.stream, c.args.unit) start _ c.args.self.now c.self.inside.terms.ahead c.self.inside.greatest c.unit.inside.dts h (ap (λ (t : Terms). t.ahead) terms) greatest due)
+    sym (far_same run a (c.args.stream, c.args.unit) start _ c.args.self.now c.self.inside.terms.ahead c.self.inside.greatest c.unit.inside.dts h
+    (ap (λ (t : Terms). t.ahead) terms) greatest due)
     ∙ sym c.is_far.ensures ∙ c.if-is_far.true in
     c.pass_over.ensures.passes run a (c.args.stream, c.args.unit) start _ h due far
 
@@ -28,9 +29,11 @@ returns-in-Some-clause-takes g c = λ run a start h.
     let records = ap (λ (x : AirState). x.records + 1) c.self.view_is in
     let due = ap (λ (u : AccessUnit). u.dts) c.unit.view_is in
     let near : is_far_from run a (c.args.stream, c.args.unit) ≡ false =
-    sym (far_same run a (c.args.stream, c.args.unit) start _ c.args.self.now c.self.inside.terms.ahead c.self.inside.greatest c.unit.inside.dts h (ap (λ (t : Terms). t.ahead) terms) greatest due)
+    sym (far_same run a (c.args.stream, c.args.unit) start _ c.args.self.now c.self.inside.terms.ahead c.self.inside.greatest c.unit.inside.dts h
+    (ap (λ (t : Terms). t.ahead) terms) greatest due)
     ∙ sym c.is_far.ensures ∙ c.if-is_far.false in
-    refused_on run a (c.args.stream, c.args.unit) c.in-Some.cause start _ c.args.self.now _ h (record { terms = terms; rate = rate; lead = lead }) packets greatest (ap (λ (x : AirState). x.leap) c.self.view_is) records
+    refused_on run a (c.args.stream, c.args.unit) c.in-Some.cause start _ c.args.self.now _ h (record { terms = terms; rate = rate; lead = lead }) packets
+    greatest (ap (λ (x : AirState). x.leap) c.self.view_is) records
     (rw c.in-Some.is at (c.admit.ensures run a carries h.promises near))
 
 pub returns-in-Ok-clause-takes : goal.returns-in-Ok-clause-takes
@@ -44,12 +47,15 @@ returns-in-Ok-clause-takes g c = λ run a start h.
     let records = ap (λ (x : AirState). x.records + 1) c.self.view_is in
     let due = ap (λ (u : AccessUnit). u.dts) c.unit.view_is in
     let near : is_far_from run a (c.args.stream, c.args.unit) ≡ false =
-    sym (far_same run a (c.args.stream, c.args.unit) start _ c.args.self.now c.self.inside.terms.ahead c.self.inside.greatest c.unit.inside.dts h (ap (λ (t : Terms). t.ahead) terms) greatest due)
+    sym (far_same run a (c.args.stream, c.args.unit) start _ c.args.self.now c.self.inside.terms.ahead c.self.inside.greatest c.unit.inside.dts h
+    (ap (λ (t : Terms). t.ahead) terms) greatest due)
     ∙ sym c.is_far.ensures ∙ c.if-is_far.false in
     let admits = rw c.in-None.is at (c.admit.ensures run a carries h.promises near) in
     let last = c.max-greatest.ensures ∙ ap (λ (n : ℕ). max n c.unit.inside.dts) greatest ∙ ap (λ (n : ℕ). max c.args.self.now.greatest n) due in
-    let on = admitted_on run a (c.args.stream, c.args.unit) start _ c.args.self.now _ h (record { terms = terms; rate = rate; lead = lead }) packets last c.none-self-inside.ensures records admits in
-    taken_on run a (c.args.stream, c.args.unit) c.unit.inside.dts start _ c.admit.new.mux _ admits due (c.in-Ok.ensures.ok run (admitted a (c.args.stream, c.args.unit)) start on)
+    let on = admitted_on run a (c.args.stream, c.args.unit) start _ c.args.self.now _ h (record { terms = terms; rate = rate; lead = lead }) packets last
+    c.none-self-inside.ensures records admits in
+    taken_on run a (c.args.stream, c.args.unit) c.unit.inside.dts start _ c.admit.new.mux _ admits due
+    (c.in-Ok.ensures.ok run (admitted a (c.args.stream, c.args.unit)) start on)
 
 pub returns-in-Err-clause-takes : goal.returns-in-Err-clause-takes
 returns-in-Err-clause-takes g c = λ run a start h.
@@ -62,10 +68,12 @@ returns-in-Err-clause-takes g c = λ run a start h.
     let records = ap (λ (x : AirState). x.records + 1) c.self.view_is in
     let due = ap (λ (u : AccessUnit). u.dts) c.unit.view_is in
     let near : is_far_from run a (c.args.stream, c.args.unit) ≡ false =
-    sym (far_same run a (c.args.stream, c.args.unit) start _ c.args.self.now c.self.inside.terms.ahead c.self.inside.greatest c.unit.inside.dts h (ap (λ (t : Terms). t.ahead) terms) greatest due)
+    sym (far_same run a (c.args.stream, c.args.unit) start _ c.args.self.now c.self.inside.terms.ahead c.self.inside.greatest c.unit.inside.dts h
+    (ap (λ (t : Terms). t.ahead) terms) greatest due)
     ∙ sym c.is_far.ensures ∙ c.if-is_far.false in
     let admits = rw c.in-None.is at (c.admit.ensures run a carries h.promises near) in
     let last = c.max-greatest.ensures ∙ ap (λ (n : ℕ). max n c.unit.inside.dts) greatest ∙ ap (λ (n : ℕ). max c.args.self.now.greatest n) due in
-    let on = admitted_on run a (c.args.stream, c.args.unit) start _ c.args.self.now _ h (record { terms = terms; rate = rate; lead = lead }) packets last c.none-self-inside.ensures records admits in
+    let on = admitted_on run a (c.args.stream, c.args.unit) start _ c.args.self.now _ h (record { terms = terms; rate = rate; lead = lead }) packets last
+    c.none-self-inside.ensures records admits in
     fails_on run a (c.args.stream, c.args.unit) c.unit.inside.dts c.in-Err.fault.sent start _ c.admit.new.mux admits due
     (c.in-Err.ensures.err run (admitted a (c.args.stream, c.args.unit)) start on)

@@ -13,12 +13,14 @@ use Rattle.on_air.proofs.airing.OnAir.with_switch.Goals as goal
 
 pub returns-in-Ok-clause-refused : goal.returns-in-Ok-clause-refused
 returns-in-Ok-clause-refused g c =
-    switch_begun (is_capacity c.numbers_of-of.result.room) (is_periods (length c.args.switch.first.plan.slots) c.args.periods) _ c.in-Ok.ensures.refused c.begun.ensures.memory
+    switch_begun (is_capacity c.numbers_of-of.result.room) (is_periods (length c.args.switch.first.plan.slots) c.args.periods) _ c.in-Ok.ensures.refused
+    c.begun.ensures.memory
 
 pub returns-in-Ok-clause-begun : goal.returns-in-Ok-clause-begun
 returns-in-Ok-clause-begun g c = λ start.
     let same = c.description.ensures.description ∙ ap (λ (p : Served). p.description) c.first.ensures.first in
-    let room = c.numbers_of-of.ensures.room ∙ ap (λ (d : Described). room_by c.args.terms.room (room_of (greatest_lead d.streams + c.args.terms.wait) d.streams)) same in
+    let room = c.numbers_of-of.ensures.room
+    ∙ ap (λ (d : Described). room_by c.args.terms.room (room_of (greatest_lead d.streams + c.args.terms.wait) d.streams)) same in
     let carries : Carries (switch_run c.args.switch c.args.periods c.args.terms c.args.hex) empty_history c.in-Ok.mux =
     record { stands = c.in-Ok.ensures.stands; scheduled = c.in-Ok.ensures.schedule; capacity = c.in-Ok.ensures.capacity ∙ room } in
     let again = c.description-2.ensures.description ∙ ap (λ (p : Served). p.description) c.first-2.ensures.first in
@@ -27,7 +29,8 @@ returns-in-Ok-clause-begun g c = λ start.
     let promises : Promises (switch_schedule c.args.switch c.args.periods) =
     record {
       ranges = ranges;
-      promised = c.accepted_switch.ensures c.args.switch.first.description c.args.switch.first.plan c.args.switch.second c.args.periods ranges serving c.first.ensures.switchable;
+      promised = c.accepted_switch.ensures c.args.switch.first.description c.args.switch.first.plan c.args.switch.second c.args.periods ranges serving
+          c.first.ensures.switchable;
     } in
     c.begun.ensures.begun (switch_schedule c.args.switch c.args.periods) start carries promises
     (c.numbers_of-of.ensures.rate ∙ ap (λ (d : Described). d.rate) same)

@@ -14,7 +14,8 @@ returns-clause-ok g c = λ run a start h.
     let rate = ap (λ (x : AirState). x.rate) c.self.view_is in
     let lead = ap (λ (x : AirState). x.lead) c.self.view_is in
     let is = c.settled-target.ensures.value
-    ∙ settled_same run a start _ c.args.self.now c.self.inside.rate c.self.inside.lead c.limit-limit.result c.args.due c.args.due c.self.inside.terms h rate lead terms c.limit-limit.ensures.value refl in
+    ∙ settled_same run a start _ c.args.self.now c.self.inside.rate c.self.inside.lead c.limit-limit.result c.args.due c.args.due c.self.inside.terms h rate
+    lead terms c.limit-limit.ensures.value refl in
     on_ok_weaker c.write_on.result
     (λ wrote. counted_same run a _ _ start _ _ is
     (counted_on run a c.settled-target.result c.self.inside.packets.hex start _ _ c.args.self.now _ h (record { terms = terms; rate = rate; lead = lead })
@@ -30,8 +31,10 @@ returns-clause-err g c = λ run a start h.
     let rate = ap (λ (x : AirState). x.rate) c.self.view_is in
     let lead = ap (λ (x : AirState). x.lead) c.self.view_is in
     let is = c.settled-target.ensures.value
-    ∙ settled_same run a start _ c.args.self.now c.self.inside.rate c.self.inside.lead c.limit-limit.result c.args.due c.args.due c.self.inside.terms h rate lead terms c.limit-limit.ensures.value refl in
+    ∙ settled_same run a start _ c.args.self.now c.self.inside.rate c.self.inside.lead c.limit-limit.result c.args.due c.args.due c.self.inside.terms h rate
+    lead terms c.limit-limit.ensures.value refl in
     IfErr-weaker c.write_on.result _ _
     (λ fault took. fails_same run a _ _ fault.sent start _ is
-    (count_fails run a c.settled-target.result fault.sent c.self.inside.packets.hex start _ _ c.args.self.now h (ap (λ (x : AirState). x.packets.hex) c.self.view_is) took))
+    (count_fails run a c.settled-target.result fault.sent c.self.inside.packets.hex start _ _ c.args.self.now h
+    (ap (λ (x : AirState). x.packets.hex) c.self.view_is) took))
     (c.write_on.ensures.err run (job_of a) start carries (end_output run a start _ c.args.self.now c.self.inside.packets h packets))

@@ -5,5 +5,14 @@ pub returns : goal.returns
 returns g c x at =
     let is = rw c.streams.ensures.value at c.index-streams-i.is in
     let same = the_item c.args.plans.now.description.now.streams c.args.i x c.index-streams-i.result at is in
-    let here = rw (c.rate_needed-needed.ensures, c.rate_given-given.ensures, c.steady_packets.ensures.packets, c.steady_time.ensures.time, c.own_count-count.ensures.count, c.slots-slots.ensures.slots, c.bits_per_second-rate.ensures.value, c.rate.ensures) at c.at_most.ensures in
+    let here = rw (
+      c.rate_needed-needed.ensures,
+      c.rate_given-given.ensures,
+      c.steady_packets.ensures.packets,
+      c.steady_time.ensures.time,
+      c.own_count-count.ensures.count,
+      c.slots-slots.ensures.slots,
+      c.bits_per_second-rate.ensures.value,
+      c.rate.ensures,
+    ) at c.at_most.ensures in
     rw (← same) here

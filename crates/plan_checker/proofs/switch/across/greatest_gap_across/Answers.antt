@@ -19,7 +19,8 @@ loop-step-init c = record {
 }
 
 pub overflow_sub-end : goal.overflow_sub-end
-overflow_sub-end c = omega (arith, c.loop-step.invariant.left, before_end c.args.item c.args.first.now c.args.row c.loop-step.step c.requires.owned c.loop-step-test.true)
+overflow_sub-end c =
+    omega (arith, c.loop-step.invariant.left, before_end c.args.item c.args.first.now c.args.row c.loop-step.step c.requires.owned c.loop-step-test.true)
 
 pub overflow_add-after : goal.overflow_add-after
 overflow_add-after c = record {
@@ -63,7 +64,8 @@ loop-step-preserved c = record {
       ≡ c.args.row * per_period (marks c.args.item c.args.first.now) - c.args.row + (c.loop-step.step + 1) = omega arith in
       c.next_own_slot-before.ensures ∙ next_position c.args.item c.args.first.now _ c.loop-step.before c.loop-step.invariant.left c.requires.owned
       ∙ ap (position (marks c.args.item c.args.first.now)) e;
-  reached = c.next_own_slot-after.ensures ∙ next_position c.args.item c.args.second.now c.loop-step.step c.loop-step.after c.loop-step.invariant.reached c.requires.next_owned;
+  reached = c.next_own_slot-after.ensures ∙ next_position c.args.item c.args.second.now c.loop-step.step c.loop-step.after c.loop-step.invariant.reached
+      c.requires.next_owned;
   found = omega (
     arith,
     c.max-greatest.ensures,

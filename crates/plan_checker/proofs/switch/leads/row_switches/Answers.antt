@@ -6,10 +6,12 @@ use Rattle.plan_checker.proofs.switch.leads.row_switches.Goals as goal
 
 pub loop-before-preserved : goal.loop-before-preserved
 loop-before-preserved c =
-    counts_on (deadline_entry c.args.condition c.args.rate c.args.drain c.args.shares c.args.i c.args.stream.now) c.loop-before.before (allowance_rows c.args.stream.now.allowance) _ _ _
+    counts_on (deadline_entry c.args.condition c.args.rate c.args.drain c.args.shares c.args.i c.args.stream.now) c.loop-before.before
+    (allowance_rows c.args.stream.now.allowance) _ _ _
     c.loop-before.invariant (omega (arith, c.loop-before-test.true, c.rows-before-end.ensures)) c.deadline.ensures
 
 pub returns : goal.returns
 returns c =
-    counts_done (deadline_entry c.args.condition c.args.rate c.args.drain c.args.shares c.args.i c.args.stream.now) c.loop-before.before (allowance_rows c.args.stream.now.allowance) _ _
+    counts_done (deadline_entry c.args.condition c.args.rate c.args.drain c.args.shares c.args.i c.args.stream.now) c.loop-before.before
+    (allowance_rows c.args.stream.now.allowance) _ _
     c.loop-before.invariant (omega (arith, c.loop-before-test.false, c.rows-before-end.ensures))

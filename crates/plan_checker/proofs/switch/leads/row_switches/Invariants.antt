@@ -8,4 +8,5 @@ use Rattle.plan_checker.proofs.switch.leads.row_switches.Given as goal
 abbrev pub invariant-loop-before : goal.invariant-loop-before
 invariant-loop-before l =
     after (search_of l.fn.search) (entries_from (deadline_entry l.condition l.rate l.drain l.shares l.i l.stream) 1 (allowance_rows l.stream.allowance))
-    ≡ after (search_of l.search) (entries_from (deadline_entry l.condition l.rate l.drain l.shares l.i l.stream) (l.before + 1) (allowance_rows l.stream.allowance - l.before))
+    ≡ after (search_of l.search)
+    (entries_from (deadline_entry l.condition l.rate l.drain l.shares l.i l.stream) (l.before + 1) (allowance_rows l.stream.allowance - l.before))

@@ -9,4 +9,5 @@ returns g c =
     let s = c.args.stream.now in
     let pair = c.args.plans.now in
     let whole : List Entry = main_switch_entry pair.description.now pair.first.now pair.second.now c.args.i s ∷ [] in
-    then_next _ _ _ whole (frame_switch_entries pair.description.now pair.first.now pair.second.now c.args.i s s.framing) c.main_switch.ensures c.frame_switches.ensures
+    then_next _ _ _ whole (frame_switch_entries pair.description.now pair.first.now pair.second.now c.args.i s s.framing) c.main_switch.ensures
+    c.frame_switches.ensures

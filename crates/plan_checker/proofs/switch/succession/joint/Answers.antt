@@ -1,7 +1,8 @@
 use Rattle.std.proofs.Common.{◌++◌, ◌∙◌, List, ap}
 use Rattle.std.specs.Prelude.{slice_get}
 use Rattle.slot_plan.specs.Entries.{Entry}
-use Rattle.slot_plan.specs.SwitchConditions.{joint_entries, pcr_switches, table_switches, stream_works, transport_works, system_works, multiplexing_works, lead_switches, main_switches, elementary_switches}
+use Rattle.slot_plan.specs.SwitchConditions.{joint_entries, pcr_switches, table_switches, stream_works, transport_works, system_works, multiplexing_works}
+use Rattle.slot_plan.specs.SwitchConditions.{lead_switches, main_switches, elementary_switches}
 use Rattle.plan_checker.specs.Failing.{Search, after}
 use Rattle.plan_checker.proofs.FailingSearch.{found_first, then_next}
 use Rattle.plan_checker.proofs.switch.succession.joint.Goals as goal

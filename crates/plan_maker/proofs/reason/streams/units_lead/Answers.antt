@@ -14,7 +14,8 @@ overflow_cast-div_ceil c =
     let s = c.args.stream.now in
     let r = c.requires.ranges in
     let rate : ℕ = c.bits_per_second-rate.result in
-    let high : c.max.result ≤ 200000000 = omega (arith, c.max.ensures, max_is rate s.rx, c.bits_per_second-rate.ensures.value, c.bits_per_second-rate.ensures.greatest, r.most_rx) in
+    let high : c.max.result ≤ 200000000 =
+    omega (arith, c.max.ensures, max_is rate s.rx, c.bits_per_second-rate.ensures.value, c.bits_per_second-rate.ensures.greatest, r.most_rx) in
     let top = mul-le c.packets_in_row-packets.result c.max.result 1391360 200000000 (c.packets_in_row-packets.ensures.bound r) high in
     let slow : 100000 ≤ rate = omega (arith, c.bits_per_second-rate.ensures.value, c.bits_per_second-rate.ensures.least) in
     let fast : rate ≤ 100000000 = omega (arith, c.bits_per_second-rate.ensures.value, c.bits_per_second-rate.ensures.greatest) in

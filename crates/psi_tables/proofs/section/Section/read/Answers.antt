@@ -28,7 +28,8 @@ only_of : (bytes : List ℕ) (r : Result (Section × ℕ) SectionError) → IsBy
     → (section rest : List ℕ) (s : SectionView) → bytes ≡ section ++ rest → IsSection section s → Gives sized_view r (Ok (s, length section))
 only_of bytes r h e section rest s is here =
     let fit : IsBytes section = IsBytes-append_left section rest (subst IsBytes is h) in
-    subst (λ (x : Result (SectionView × ℕ) SectionError). Gives sized_view r x) (section_again section rest s fit here) (subst (λ (x : List ℕ). Gives sized_view r (section_at x)) is e)
+    subst (λ (x : Result (SectionView × ℕ) SectionError). Gives sized_view r x) (section_again section rest s fit here)
+    (subst (λ (x : List ℕ). Gives sized_view r (section_at x)) is e)
 
 pub returns-clause-found : goal.returns-clause-found
 returns-clause-found c = found_of c.args.bytes.now c.section_at.result (λ i. omega (arith, c.type_inv.bytes i)) c.section_at.ensures

@@ -10,7 +10,8 @@ loop-byte-init c = none_yet c.args.self.now c.args.bytes.now c.requires
 
 pub loop-byte-preserved : goal.loop-byte-preserved
 loop-byte-preserved c =
-    one_more c.args.self.now c.loop-byte.self c.take.new.self c.args.bytes.now c.loop-byte.byte-index c.loop-byte-test.true c.loop-byte.invariant c.in-Ok.ensures.takes
+    one_more c.args.self.now c.loop-byte.self c.take.new.self c.args.bytes.now c.loop-byte.byte-index c.loop-byte-test.true c.loop-byte.invariant
+    c.in-Ok.ensures.takes
 
 pub returns-clause-takes : goal.returns-clause-takes
 returns-clause-takes c =

@@ -31,5 +31,6 @@ returns-in-AfterEscape c =
 pub returns-else-byte-eq-ESCAPE : goal.returns-else-byte-eq-ESCAPE
 returns-else-byte-eq-ESCAPE c =
     subst (λ (t : FrameState × FrameAnswer). Steps t c.take_plain.new.self c.take_plain.result)
-    (sym (step_at c.args.self.now Inside c.args.byte c.if-byte-eq-MARK.false c.in-Inside.is ∙ plain_byte (come_of c.args.self.now.begun) c.args.byte c.if-byte-eq-ESCAPE.false))
+    (sym (step_at c.args.self.now Inside c.args.byte c.if-byte-eq-MARK.false c.in-Inside.is
+    ∙ plain_byte (come_of c.args.self.now.begun) c.args.byte c.if-byte-eq-ESCAPE.false))
     c.take_plain.ensures

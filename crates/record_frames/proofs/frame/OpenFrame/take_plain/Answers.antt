@@ -14,10 +14,12 @@ returns-in-Ok-None c =
 
 pub returns-in-Ok-Some : goal.returns-in-Ok-Some
 returns-in-Ok-Some c =
-    ends_here (come_of c.args.self.now.begun) c.args.byte (record { alloc = c.args.self.now.alloc; place = Before; begun = c.take.new.self }) c.in-Ok-Some.whole refl
+    ends_here (come_of c.args.self.now.begun) c.args.byte (record { alloc = c.args.self.now.alloc; place = Before; begun = c.take.new.self }) c.in-Ok-Some.whole
+    refl
     (rw c.in-Ok-Some.field-0-is at (c.in-Ok-Some.ensures.taken c.requires))
 
 pub returns-in-Err : goal.returns-in-Err
 returns-in-Err c =
     subst (λ (f : FrameFault). Steps (with_bytes (come_of c.args.self.now.begun ++ c.args.byte ∷ [])) c.restart.new.self (Err f)) (sym c.fault_of.ensures)
-    (is_refused (come_of c.args.self.now.begun) c.args.byte c.restart.new.self c.in-Err.refusal c.restart.ensures.place c.restart.ensures.open_record (c.in-Err.ensures.taken c.requires))
+    (is_refused (come_of c.args.self.now.begun) c.args.byte c.restart.new.self c.in-Err.refusal c.restart.ensures.place c.restart.ensures.open_record
+    (c.in-Err.ensures.taken c.requires))

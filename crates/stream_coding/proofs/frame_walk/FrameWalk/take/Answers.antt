@@ -12,7 +12,8 @@ returns-then-is_empty-clause-walk c =
 pub returns-then-is_empty-clause-parts : goal.returns-then-is_empty-clause-parts
 returns-then-is_empty-clause-parts c =
     sym (append-nil c.frames.parts.items)
-    ∙ ap (λ (l : List FramePart). c.frames.parts.items ++ l) (sym (no_part c.frames.steps c.frames.self c.frames.place c.frames.left.now (sym c.is_empty.ensures ∙ c.if-is_empty.true)))
+    ∙ ap (λ (l : List FramePart). c.frames.parts.items ++ l)
+    (sym (no_part c.frames.steps c.frames.self c.frames.place c.frames.left.now (sym c.is_empty.ensures ∙ c.if-is_empty.true)))
     ∙ c.frames.invariant.parts
 
 pub frames-preserved : goal.frames-preserved
@@ -20,11 +21,15 @@ frames-preserved c =
     let some : 0 < c.frames.steps = search rules in
     let more : (length c.frames.left.now == 0) ≡ false = sym c.is_empty.ensures ∙ c.if-is_empty.false in
     record {
-      parts = parts_on c.frames.steps c.frames.self c.begin-ahead.new.self c.pass-size.new.self c.frames.place c.pass-size.result c.begin-ahead.result c.frames.left.now c.bytes_after-left-in-frames.result.now
-          c.frames.parts.items c.push.new.self.items (frames_in c.args.self.now c.args.bytes.now) some more c.begin-ahead.ensures.walk c.pass-size.ensures.walk c.pass-size.ensures.count
+      parts = parts_on c.frames.steps c.frames.self c.begin-ahead.new.self c.pass-size.new.self c.frames.place c.pass-size.result c.begin-ahead.result
+          c.frames.left.now c.bytes_after-left-in-frames.result.now
+          c.frames.parts.items c.push.new.self.items (frames_in c.args.self.now c.args.bytes.now) some more c.begin-ahead.ensures.walk c.pass-size.ensures.walk
+          c.pass-size.ensures.count
           c.bytes_after-left-in-frames.ensures c.begin-ahead.ensures.ahead c.in_ok-push.ensures.items c.frames.invariant.parts;
-      walk = walk_on c.frames.steps c.frames.self c.begin-ahead.new.self c.pass-size.new.self (walk_after c.args.self.now c.args.bytes.now) c.pass-size.result c.frames.left.now
-          c.bytes_after-left-in-frames.result.now some more c.begin-ahead.ensures.walk c.pass-size.ensures.walk c.pass-size.ensures.count c.bytes_after-left-in-frames.ensures
+      walk = walk_on c.frames.steps c.frames.self c.begin-ahead.new.self c.pass-size.new.self (walk_after c.args.self.now c.args.bytes.now) c.pass-size.result
+          c.frames.left.now
+          c.bytes_after-left-in-frames.result.now some more c.begin-ahead.ensures.walk c.pass-size.ensures.walk c.pass-size.ensures.count
+          c.bytes_after-left-in-frames.ensures
           c.frames.invariant.walk;
       bound = omega (
         arith,
@@ -44,4 +49,5 @@ pub returns-clause-parts : goal.returns-clause-parts
 returns-clause-parts c =
     let none : c.frames.steps ≡ 0 = search rules in
     sym (append-nil c.frames.parts.items)
-    ∙ ap (λ (l : List FramePart). c.frames.parts.items ++ l) (sym (no_step c.frames.steps c.frames.self c.frames.place c.frames.left.now none)) ∙ c.frames.invariant.parts
+    ∙ ap (λ (l : List FramePart). c.frames.parts.items ++ l) (sym (no_step c.frames.steps c.frames.self c.frames.place c.frames.left.now none))
+    ∙ c.frames.invariant.parts

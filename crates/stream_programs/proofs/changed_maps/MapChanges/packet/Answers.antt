@@ -5,4 +5,5 @@ use Rattle.stream_programs.proofs.changed_maps.MapChanges.packet.Goals as goal
 
 pub returns : goal.returns
 returns g c part findings are =
-    c.packet_of.ensures.value ∙ ap (λ (es : List (ℕ × ℕ)). lookup (nat_eq (map_key c.args.program)) es) c.self.view_is ∙ are c.args.program c.packet_of.ensures.number
+    c.packet_of.ensures.value ∙ ap (λ (es : List (ℕ × ℕ)). lookup (nat_eq (map_key c.args.program)) es) c.self.view_is
+    ∙ are c.args.program c.packet_of.ensures.number

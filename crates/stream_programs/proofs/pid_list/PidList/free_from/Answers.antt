@@ -24,4 +24,5 @@ returns-then-not-has g c =
 pub returns : goal.returns
 returns g c =
     none_is c.args.from c.args.self.now
-    (taken_less c.args.from c.loop-pid.pid 8191 c.args.self.now (let past : 8191 ≤ c.loop-pid.pid = omega (arith, c.loop-pid-test.false) in past) c.loop-pid.invariant.1)
+    (taken_less c.args.from c.loop-pid.pid 8191 c.args.self.now (let past : 8191 ≤ c.loop-pid.pid = omega (arith, c.loop-pid-test.false) in past)
+    c.loop-pid.invariant.1)

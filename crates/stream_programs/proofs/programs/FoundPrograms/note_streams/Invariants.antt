@@ -4,4 +4,5 @@ use Rattle.stream_programs.specs.Programs.{with_streams}
 use Rattle.stream_programs.proofs.programs.FoundPrograms.note_streams.Given as goal
 
 abbrev pub invariant-loop-stream : goal.invariant-loop-stream
-invariant-loop-stream g l = with_streams l.self l.program l.pcr_pid (streams_of l.stream-iterator) ≡ with_streams l.fn.self l.program l.pcr_pid (streams_of l.fn.streams)
+invariant-loop-stream g l =
+    with_streams l.self l.program l.pcr_pid (streams_of l.stream-iterator) ≡ with_streams l.fn.self l.program l.pcr_pid (streams_of l.fn.streams)

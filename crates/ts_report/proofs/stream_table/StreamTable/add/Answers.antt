@@ -11,7 +11,8 @@ returns c = λ t e k i.
     record {
       choice = k.choice;
       places = c.in_ok-insert.ensures.entries
-          ∙ ap₂ (λ (m : List (ℕ × ℕ)) (n : ℕ). insert_entry nat_eq m c.args.pid n) k.places (len ∙ same_length c.args.self.now.entries.items t.entries k.entries);
+          ∙ ap₂ (λ (m : List (ℕ × ℕ)) (n : ℕ). insert_entry nat_eq m c.args.pid n) k.places
+          (len ∙ same_length c.args.self.now.entries.items t.entries k.entries);
       entries = subst (λ (bs : List StreamEntry). AreEntries bs (t.entries ++ e ∷ [])) (sym c.in_ok-push.ensures.items)
           (one_more c.args.self.now.entries.items t.entries c.args.entry e k.entries i);
     }

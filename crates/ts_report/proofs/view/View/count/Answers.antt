@@ -15,7 +15,11 @@ pub returns-clause-view : goal.returns-clause-view
 returns-clause-view c = λ s k.
     let packet = packet_view c.args.packet.now in
     let clock : IsView (record { seen = c.take_clock.new.self; table = c.args.self.now.table }) (clocked s packet) =
-    record { seen = c.in_ok-take_clock.ensures.seen ∙ ap (λ (x : SeenState). (clocked (record { seen = x; table = s.table }) packet).seen) k.seen; table = k.table } in
+    record {
+      seen = c.in_ok-take_clock.ensures.seen ∙ ap (λ (x : SeenState). (clocked (record { seen = x; table = s.table }) packet).seen) k.seen;
+      table =
+          k.table;
+    } in
     let buffered = c.in_ok-buffer.ensures.view (clocked s packet) clock in
     on_ok c.count.result (λ e. record { seen = e ∙ ap (λ (x : SeenState). counted x packet) buffered.seen; table = buffered.table }) c.count.ensures.seen
 
@@ -23,7 +27,11 @@ pub returns-clause-found : goal.returns-clause-found
 returns-clause-found c = λ s k.
     let packet = packet_view c.args.packet.now in
     let clock : IsView (record { seen = c.take_clock.new.self; table = c.args.self.now.table }) (clocked s packet) =
-    record { seen = c.in_ok-take_clock.ensures.seen ∙ ap (λ (x : SeenState). (clocked (record { seen = x; table = s.table }) packet).seen) k.seen; table = k.table } in
+    record {
+      seen = c.in_ok-take_clock.ensures.seen ∙ ap (λ (x : SeenState). (clocked (record { seen = x; table = s.table }) packet).seen) k.seen;
+      table =
+          k.table;
+    } in
     let buffered = c.in_ok-buffer.ensures.view (clocked s packet) clock in
     let events = c.args.events.now.items in
     let before = c.buffer.new.events.items in
@@ -33,4 +41,5 @@ returns-clause-found c = λ s k.
     on_ok c.count.result (λ e. four events (c.end_window.new.events.items) (c.take_clock.new.events.items) before (c.count.new.events.items)
     (last_window s) (clock_errors s.seen packet) buffers (system_events_at (clocked s packet) packet)
     (c.in_ok-end_window.ensures s k) errors (c.in_ok-buffer.ensures.found (clocked s packet) clock)
-    (e ∙ ap₂ (λ (x : SeenState) (choice : ChoiceView). before ++ system_excesses x choice packet) buffered.seen (c.choice.ensures _ buffered.table))) c.count.ensures.found
+    (e ∙ ap₂ (λ (x : SeenState) (choice : ChoiceView). before ++ system_excesses x choice packet) buffered.seen (c.choice.ensures _ buffered.table)))
+    c.count.ensures.found

@@ -14,7 +14,8 @@ returns-in-Some-size_on-clause-ahead c =
 pub returns-in-Some-size_on-clause-longest_residence : goal.returns-in-Some-size_on-clause-longest_residence
 unfolding walk_residence
 returns-in-Some-size_on-clause-longest_residence c =
-    go_into_longest c.args.self.now c.in-Some.packet.now c.in-Some.packets.now c.in-Some-size_on.size c.arrive_row.new.queue c.requires c.in-Some.ensures.cases.0
+    go_into_longest c.args.self.now c.in-Some.packet.now c.in-Some.packets.now c.in-Some-size_on.size c.arrive_row.new.queue c.requires
+    c.in-Some.ensures.cases.0
     (sym c.size_on.ensures.size ∙ c.in-Some-size_on.is) c.in-Some-size_on.ensures.bound c.arrive_row.ensures.state
 
 pub returns-in_default-size_on-clause-ahead : goal.returns-in_default-size_on-clause-ahead
@@ -40,7 +41,8 @@ pub invariant_of-self : goal.invariant_of-self
 invariant_of-self c =
     let w = c.args.self.now in
     let all : length w.packets.now ≡ length c.in-Some.packets.now + 1 = rw c.in-Some.ensures.cases.0 (omega arith) in
-    let step : c.arrive_row.new.queue.step ≡ w.queue.step = rw c.arrive_row.ensures.state (passed-step w.queue (bytes_from w.rx (188 * w.index) (188 - c.in-Some-size_on.size))) in
+    let step : c.arrive_row.new.queue.step ≡ w.queue.step =
+    rw c.arrive_row.ensures.state (passed-step w.queue (bytes_from w.rx (188 * w.index) (188 - c.in-Some-size_on.size))) in
     let bounded : w.index + length w.packets.now < 72057594037927936 = w.bounded in
     let some : 0 < w.queue.step = w.positive in
     let fits : c.in-Some-size_on.size ≤ 188 = c.in-Some-size_on.ensures.bound in

@@ -23,6 +23,7 @@ pub returns-clause-there : goal.returns-clause-there
 returns-clause-there g c = λ x.
     let b = c.args.self.now in
     elim c.if-self-gt0.branch [
-      | then-self-gt0+in_ok-push w ↦ rw (w.self-is, w.in_ok-push.ensures.items) (omega (arith, none_there x c.args.until, there_pushed x b.earlier.items b.current))
+      | then-self-gt0+in_ok-push w ↦ rw (w.self-is, w.in_ok-push.ensures.items)
+          (omega (arith, none_there x c.args.until, there_pushed x b.earlier.items b.current))
       | else-self-gt0 w ↦ rw w.self-is (omega (arith, none_there x c.args.until, nothing_there x b.current w.if-self-gt0.false))
     ]

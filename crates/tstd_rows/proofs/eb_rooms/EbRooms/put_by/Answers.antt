@@ -3,21 +3,28 @@ use Rattle.tstd.specs.declared.buffered_units.BufferedUnit.{BufferedUnit}
 use Rattle.tstd_rows.specs.RoomTimes.{raised}
 use Rattle.tstd_rows.proofs.LastRoom.{after_them, both_fit, joins_fits, joins_many, joins_rooms, last_fits, none_comes, same_set}
 use Rattle.tstd_rows.proofs.eb_rooms.EbRooms.put_by.Goals as goal
-use Rattle.tstd_rows.proofs.eb_rooms.EbRooms.put_by.Goals.{in-Some+else-current-unit, else-current-unit-via-then-current-unit+else-unit-gt0, else-current-unit-via-else-current-unit, in_default}
+use Rattle.tstd_rows.proofs.eb_rooms.EbRooms.put_by.Goals.{in-Some+else-current-unit, else-current-unit-via-then-current-unit+else-unit-gt0}
+use Rattle.tstd_rows.proofs.eb_rooms.EbRooms.put_by.Goals.{else-current-unit-via-else-current-unit, in_default}
 
 pub overflow_add-unit : goal.overflow_add-unit
 overflow_add-unit c =
     let rooms = c.args.self.now in
     let some : 0 < length rooms.waiting.items = omega (arith, c.in-Some.ensures.variant.0 refl, rooms.waiting.ok.0) in
     let unit = c.in-Some.unit.now in
-    record { fits = both_fit rooms.free rooms.waiting.len (2 ^ 64) rooms.waiting.items unit rooms.current rooms.waiting.ok.0 some c.in-Some.ensures.value rooms.few }
+    record {
+      fits = both_fit rooms.free rooms.waiting.len (2 ^ 64) rooms.waiting.items unit rooms.current rooms.waiting.ok.0 some c.in-Some.ensures.value
+          rooms.few;
+    }
 
 pub invariant_of-self : goal.invariant_of-self
 invariant_of-self c =
     let rooms = c.args.self.now in
     let some : 0 < length rooms.waiting.items = omega (arith, c.in-Some.ensures.variant.0 refl, rooms.waiting.ok.0) in
     let unit = c.in-Some.unit.now in
-    record { few = joins_fits rooms.free rooms.waiting.len (2 ^ 64) rooms.waiting.items unit rooms.current rooms.waiting.ok.0 some c.in-Some.ensures.value rooms.few }
+    record {
+      few = joins_fits rooms.free rooms.waiting.len (2 ^ 64) rooms.waiting.items unit rooms.current rooms.waiting.ok.0 some c.in-Some.ensures.value
+          rooms.few;
+    }
 
 pub returns-then-unit-gt0-clause-rooms : goal.returns-then-unit-gt0-clause-rooms
 returns-then-unit-gt0-clause-rooms c = λ from.

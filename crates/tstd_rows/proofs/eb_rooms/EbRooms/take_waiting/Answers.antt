@@ -2,7 +2,8 @@ use Rattle.std.proofs.Common.{◌≡◌, ◌∙◌, ℕ, ◌-◌, ◌<◌, ◌^�
 use Rattle.clock27.specs.Departure.{last_left}
 use Rattle.tstd.specs.declared.buffered_units.BufferedUnit.{BufferedUnit}
 use Rattle.tstd_rows.specs.RoomTimes.{capped, rooms_in, rooms_waiting}
-use Rattle.tstd_rows.proofs.WaitingRooms.{drop_set, end_rest, end_rooms, end_time, fewer_fits, gone_rest, gone_rooms, gone_time, less_fits, next_rest, next_rooms, next_time, none_wait}
+use Rattle.tstd_rows.proofs.WaitingRooms.{drop_set, end_rest, end_rooms, end_time, fewer_fits, gone_rest, gone_rooms, gone_time, less_fits, next_rest}
+use Rattle.tstd_rows.proofs.WaitingRooms.{next_rooms, next_time, none_wait}
 use Rattle.tstd_rows.proofs.eb_rooms.EbRooms.take_waiting.Goals as goal
 
 pub invariant_of-self : goal.invariant_of-self
@@ -43,7 +44,8 @@ returns-then-unit-gt0-clause-last c =
     let m = c.min-bytes.result in
     let is = c.in-Some.ensures.value in
     let some : 0 < length rooms.waiting.items = omega (arith, c.in-Some.ensures.variant.0 refl, rooms.waiting.ok.0) in
-    gone_time c.args.leak rooms.last c.gone-self.result c.loop-unit.rest m _ unit rooms.waiting.items some is c.min-bytes.ensures c.if-unit-gt0.true c.gone-self.ensures inv.last
+    gone_time c.args.leak rooms.last c.gone-self.result c.loop-unit.rest m _ unit rooms.waiting.items some is c.min-bytes.ensures c.if-unit-gt0.true
+    c.gone-self.ensures inv.last
 
 pub invariant_of-self-in-Some : goal.invariant_of-self-in-Some
 invariant_of-self-in-Some c =
@@ -72,7 +74,8 @@ loop-unit-preserved c =
     let rest = c.loop-unit.rest in
     record {
       rest = ap (λ (us : List BufferedUnit). rest - m - length (rooms_waiting us)) left ∙ next_rest rest m _ unit rooms.waiting.items some is few none inv.rest;
-      rooms = ap (λ (us : List BufferedUnit). drop (rest - m) (rooms_waiting us)) left ∙ next_rooms rest m unit rooms.waiting.items _ some is few none inv.rooms;
+      rooms = ap (λ (us : List BufferedUnit). drop (rest - m) (rooms_waiting us)) left
+          ∙ next_rooms rest m unit rooms.waiting.items _ some is few none inv.rooms;
       last = ap (λ (us : List BufferedUnit). capped (last_left c.args.leak c.gone-self.result (take (rest - m) (rooms_waiting us)))) left
           ∙ next_time c.args.leak rooms.last c.gone-self.result rest m _ unit rooms.waiting.items some is few none c.gone-self.ensures inv.last;
       free = inv.free;
@@ -92,4 +95,5 @@ returns-clause-rooms c =
 pub returns-clause-last : goal.returns-clause-last
 returns-clause-last c =
     let items = c.loop-unit.self.waiting.items in
-    end_time c.args.leak c.loop-unit.self.last c.loop-unit.rest _ items (none_wait items _ c.loop-unit.self.waiting.ok.0 c.in_default.ensures.variant.1) c.loop-unit.invariant.last
+    end_time c.args.leak c.loop-unit.self.last c.loop-unit.rest _ items (none_wait items _ c.loop-unit.self.waiting.ok.0 c.in_default.ensures.variant.1)
+    c.loop-unit.invariant.last

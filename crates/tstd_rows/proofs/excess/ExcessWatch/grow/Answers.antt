@@ -48,5 +48,6 @@ returns-clause-under_way c =
             c.leave-last.ensures.last,
             c.most_found-most.ensures,
           )
-          (sym (row_grows c.args.step c.args.self.now.size c.args.prev w.in-Some.under_way row.from row.pace row.parts row.bytes c.if-row-eq0.false c.requires.over))
+          (sym (row_grows c.args.step c.args.self.now.size c.args.prev w.in-Some.under_way row.from row.pace row.parts row.bytes c.if-row-eq0.false
+          c.requires.over))
     ]

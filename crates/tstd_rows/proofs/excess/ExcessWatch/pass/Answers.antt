@@ -17,10 +17,12 @@ pub returns-clause-ended : goal.returns-clause-ended
 returns-clause-ended c =
     let row : Row = c.args.row.now in
     rw c.take.ensures.value
-    (sym (room_row_ended c.args.step c.args.self.now.size c.args.prev c.args.self.now.under_way row.from row.pace row.parts row.bytes c.if-row-eq0.false c.requires.room))
+    (sym (room_row_ended c.args.step c.args.self.now.size c.args.prev c.args.self.now.under_way row.from row.pace row.parts row.bytes c.if-row-eq0.false
+    c.requires.room))
 
 pub returns-clause-under_way : goal.returns-clause-under_way
 returns-clause-under_way c =
     let row : Row = c.args.row.now in
     c.take.ensures.after
-    ∙ sym (room_row_after c.args.step c.args.self.now.size c.args.prev c.args.self.now.under_way row.from row.pace row.parts row.bytes c.if-row-eq0.false c.requires.room)
+    ∙ sym (room_row_after c.args.step c.args.self.now.size c.args.prev c.args.self.now.under_way row.from row.pace row.parts row.bytes c.if-row-eq0.false
+    c.requires.room)

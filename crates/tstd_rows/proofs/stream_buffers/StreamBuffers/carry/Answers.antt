@@ -15,7 +15,8 @@ returns-clause-held c = λ h k.
     let times : times_of c.row-row.result ≡ times_at c.args.arrival.now h.rx c.args.byte c.args.count =
     c.row-row.ensures.times ∙ ap (λ (r : ℕ). times_at c.args.arrival.now r c.args.byte c.args.count) (c.from.ensures ∙ k.rx) in
     carried_held old _ h (times_of c.row-row.result) (times_at c.args.arrival.now h.rx c.args.byte c.args.count)
-    c.carry-carried.result.found.main c.carry-carried.new.self.transport.last k times refl seen.view seen.buffer seen.size old.view.paced.some seen.main refl c.see.ensures.size c.see.ensures.under_way refl
+    c.carry-carried.result.found.main c.carry-carried.new.self.transport.last k times refl seen.view seen.buffer seen.size old.view.paced.some seen.main refl
+    c.see.ensures.size c.see.ensures.under_way refl
 
 pub returns-clause-main : goal.returns-clause-main
 returns-clause-main c = λ h k.
@@ -23,14 +24,16 @@ returns-clause-main c = λ h k.
     let seen = c.carry-carried.ensures in
     let times : times_of c.row-row.result ≡ times_at c.args.arrival.now h.rx c.args.byte c.args.count =
     c.row-row.ensures.times ∙ ap (λ (r : ℕ). times_at c.args.arrival.now r c.args.byte c.args.count) (c.from.ensures ∙ k.rx) in
-    carried_ended old c.carry-carried.new.self.transport h (times_of c.row-row.result) (times_at c.args.arrival.now h.rx c.args.byte c.args.count) c.carry-carried.result.found.main c.carry-carried.new.self.transport.last c.see.new.ended k times
+    carried_ended old c.carry-carried.new.self.transport h (times_of c.row-row.result) (times_at c.args.arrival.now h.rx c.args.byte c.args.count)
+    c.carry-carried.result.found.main c.carry-carried.new.self.transport.last c.see.new.ended k times
     seen.buffer old.view.paced.some seen.main refl c.see.ensures.ended
 
 pub returns-clause-most : goal.returns-clause-most
 returns-clause-most c = λ h k.
     let times : times_of c.row-row.result ≡ times_at c.args.arrival.now h.rx c.args.byte c.args.count =
     c.row-row.ensures.times ∙ ap (λ (r : ℕ). times_at c.args.arrival.now r c.args.byte c.args.count) (c.from.ensures ∙ k.rx) in
-    transport_most_found c.args.self.now h (times_of c.row-row.result) (times_at c.args.arrival.now h.rx c.args.byte c.args.count) c.carry-carried.result.found.transport k times
+    transport_most_found c.args.self.now h (times_of c.row-row.result) (times_at c.args.arrival.now h.rx c.args.byte c.args.count)
+    c.carry-carried.result.found.transport k times
     c.carry-carried.ensures.transport
 
 pub returns-clause-main_most : goal.returns-clause-main_most
@@ -38,7 +41,8 @@ returns-clause-main_most c = λ h k.
     let old = c.args.self.now in
     let times : times_of c.row-row.result ≡ times_at c.args.arrival.now h.rx c.args.byte c.args.count =
     c.row-row.ensures.times ∙ ap (λ (r : ℕ). times_at c.args.arrival.now r c.args.byte c.args.count) (c.from.ensures ∙ k.rx) in
-    main_most_found old h (times_of c.row-row.result) (times_at c.args.arrival.now h.rx c.args.byte c.args.count) c.carry-carried.result.found.main k times old.view.paced.some
+    main_most_found old h (times_of c.row-row.result) (times_at c.args.arrival.now h.rx c.args.byte c.args.count) c.carry-carried.result.found.main k times
+    old.view.paced.some
     c.carry-carried.ensures.main
 
 pub returns-clause-main_least : goal.returns-clause-main_least
@@ -46,7 +50,8 @@ returns-clause-main_least c = λ h k.
     let old = c.args.self.now in
     let times : times_of c.row-row.result ≡ times_at c.args.arrival.now h.rx c.args.byte c.args.count =
     c.row-row.ensures.times ∙ ap (λ (r : ℕ). times_at c.args.arrival.now r c.args.byte c.args.count) (c.from.ensures ∙ k.rx) in
-    main_lowest_found old h (times_of c.row-row.result) (times_at c.args.arrival.now h.rx c.args.byte c.args.count) c.carry-carried.result.found.least k times old.view.paced.some
+    main_lowest_found old h (times_of c.row-row.result) (times_at c.args.arrival.now h.rx c.args.byte c.args.count) c.carry-carried.result.found.least k times
+    old.view.paced.some
     c.carry-carried.ensures.least
 
 pub returns-clause-bytes : goal.returns-clause-bytes
@@ -79,14 +84,16 @@ returns-clause-video c = λ h sizes k v.
     let times : times_of c.row-row.result ≡ times_at c.args.arrival.now h.rx c.args.byte c.args.count =
     c.row-row.ensures.times ∙ ap (λ (r : ℕ). times_at c.args.arrival.now r c.args.byte c.args.count) (c.from.ensures ∙ k.rx) in
     c.take_video.ensures.held sizes h.rate h.parts (times_at c.args.arrival.now h.rx c.args.byte c.args.count) v
-    (left_held c.args.self.now h (times_left c.carry-carried.result.leaving) (times_of c.row-row.result) (times_at c.args.arrival.now h.rx c.args.byte c.args.count) k times c.carry-carried.ensures.left)
+    (left_held c.args.self.now h (times_left c.carry-carried.result.leaving) (times_of c.row-row.result)
+    (times_at c.args.arrival.now h.rx c.args.byte c.args.count) k times c.carry-carried.ensures.left)
 
 pub returns-clause-entered_video : goal.returns-clause-entered_video
 returns-clause-entered_video c = λ h sizes k v.
     let times : times_of c.row-row.result ≡ times_at c.args.arrival.now h.rx c.args.byte c.args.count =
     c.row-row.ensures.times ∙ ap (λ (r : ℕ). times_at c.args.arrival.now r c.args.byte c.args.count) (c.from.ensures ∙ k.rx) in
     c.take_video.ensures.entered sizes h.rate h.parts (times_at c.args.arrival.now h.rx c.args.byte c.args.count) v
-    (left_held c.args.self.now h (times_left c.carry-carried.result.leaving) (times_of c.row-row.result) (times_at c.args.arrival.now h.rx c.args.byte c.args.count) k times c.carry-carried.ensures.left)
+    (left_held c.args.self.now h (times_left c.carry-carried.result.leaving) (times_of c.row-row.result)
+    (times_at c.args.arrival.now h.rx c.args.byte c.args.count) k times c.carry-carried.ensures.left)
 
 pub invariant_of-self-clause-paced : goal.invariant_of-self-clause-paced
 invariant_of-self-clause-paced c = omega (arith, ap (λ (b : TransportBuffer). b.step) c.carry-carried.ensures.buffer, c.args.self.now.paced)

@@ -14,7 +14,8 @@ returns-clause-held c = λ h k.
     let lead : c.min-lead.result ≡ lead_in a p = search rules in
     let takes : takes_in h a p ≡ true =
     taken_in c.args.self.now h a p k (omega (arith, c.if-packet-ge-LAST_INDEX.false)) (omega (arith, c.if-self-gt-LAST_BYTES.false)) times in
-    packet_held c.args.self.now c.pass_if-before.new.self c.pass_if-header.new.self c.begin.new.self c.take-payload.new.self h a p c.min-size.result c.min-lead.result c.args.count k takes size lead
+    packet_held c.args.self.now c.pass_if-before.new.self c.pass_if-header.new.self c.begin.new.self c.take-payload.new.self h a p c.min-size.result
+    c.min-lead.result c.args.count k takes size lead
     c.pass_if-before.ensures.held c.pass_if-header.ensures.held c.in_ok-begin.ensures.held c.take-payload.ensures.held
 
 pub returns-clause-entered : goal.returns-clause-entered
@@ -55,7 +56,8 @@ returns-clause-video c = λ h sizes k v.
     let lead : c.min-lead.result ≡ lead_in a p = search rules in
     let takes : takes_in h a p ≡ true =
     taken_in c.args.self.now h a p k (omega (arith, c.if-packet-ge-LAST_INDEX.false)) (omega (arith, c.if-self-gt-LAST_BYTES.false)) times in
-    packet_video c.args.self.now c.pass_if-before.new.self c.pass_if-header.new.self c.begin.new.self c.take-payload.new.self sizes h a p c.min-size.result c.min-lead.result c.args.count k v takes size lead
+    packet_video c.args.self.now c.pass_if-before.new.self c.pass_if-header.new.self c.begin.new.self c.take-payload.new.self sizes h a p c.min-size.result
+    c.min-lead.result c.args.count k v takes size lead
     (record {
       first = c.pass_if-before.ensures.held;
       header = c.pass_if-header.ensures.held;
@@ -75,7 +77,8 @@ returns-clause-entered_video c = λ h sizes k v.
     let lead : c.min-lead.result ≡ lead_in a p = search rules in
     let takes : takes_in h a p ≡ true =
     taken_in c.args.self.now h a p k (omega (arith, c.if-packet-ge-LAST_INDEX.false)) (omega (arith, c.if-self-gt-LAST_BYTES.false)) times in
-    packet_video_entered c.args.self.now c.pass_if-before.new.self c.pass_if-header.new.self c.begin.new.self sizes h a p c.min-size.result c.min-lead.result c.args.count _ k v takes size lead
+    packet_video_entered c.args.self.now c.pass_if-before.new.self c.pass_if-header.new.self c.begin.new.self sizes h a p c.min-size.result c.min-lead.result
+    c.args.count _ k v takes size lead
     (record {
       first = c.pass_if-before.ensures.held;
       header = c.pass_if-header.ensures.held;
@@ -96,7 +99,8 @@ returns-clause-unit_video c = λ h sizes k v.
     let takes : takes_in h a p ≡ true =
     taken_in c.args.self.now h a p k (omega (arith, c.if-packet-ge-LAST_INDEX.false)) (omega (arith, c.if-self-gt-LAST_BYTES.false)) times in
     c.take-payload.ensures.unit_video
-    ∙ packet_video_unit c.args.self.now c.pass_if-before.new.self c.pass_if-header.new.self c.begin.new.self sizes h a p c.min-size.result c.min-lead.result _ k v takes size lead
+    ∙ packet_video_unit c.args.self.now c.pass_if-before.new.self c.pass_if-header.new.self c.begin.new.self sizes h a p c.min-size.result c.min-lead.result _ k
+    v takes size lead
     (record {
       first = c.pass_if-before.ensures.held;
       header = c.pass_if-header.ensures.held;

@@ -11,7 +11,8 @@ returns-clause-held c = λ h k.
     let a = c.args.arrival.now in
     let times : has_times a p.byte p.size ≡ true = search rules in
     let takes : takes_part h a p ≡ true =
-    part_taken c.args.self.now h a p k (omega (arith, c.if-part-gt-LAST_BYTES.false)) (omega (arith, c.if-self-gt-LAST_BYTES.false)) (omega (arith, c.if-part-gt188.false)) times in
+    part_taken c.args.self.now h a p k (omega (arith, c.if-part-gt-LAST_BYTES.false)) (omega (arith, c.if-self-gt-LAST_BYTES.false))
+    (omega (arith, c.if-part-gt188.false)) times in
     part_held c.args.self.now c.begin_unit.new.self c.take-payload.new.self h a p k takes c.in_ok-begin_unit.ensures.held c.take-payload.ensures.held
 
 pub returns-clause-video : goal.returns-clause-video
@@ -20,8 +21,10 @@ returns-clause-video c = λ h sizes k v.
     let a = c.args.arrival.now in
     let times : has_times a p.byte p.size ≡ true = search rules in
     let takes : takes_part h a p ≡ true =
-    part_taken c.args.self.now h a p k (omega (arith, c.if-part-gt-LAST_BYTES.false)) (omega (arith, c.if-self-gt-LAST_BYTES.false)) (omega (arith, c.if-part-gt188.false)) times in
-    part_video c.args.self.now c.begin_unit.new.self c.take-payload.new.self sizes h a p k v takes c.in_ok-begin_unit.ensures.held c.in_ok-begin_unit.ensures.video c.take-payload.ensures.video
+    part_taken c.args.self.now h a p k (omega (arith, c.if-part-gt-LAST_BYTES.false)) (omega (arith, c.if-self-gt-LAST_BYTES.false))
+    (omega (arith, c.if-part-gt188.false)) times in
+    part_video c.args.self.now c.begin_unit.new.self c.take-payload.new.self sizes h a p k v takes c.in_ok-begin_unit.ensures.held
+    c.in_ok-begin_unit.ensures.video c.take-payload.ensures.video
 
 pub returns-clause-entered : goal.returns-clause-entered
 returns-clause-entered c = λ h k.
@@ -29,8 +32,11 @@ returns-clause-entered c = λ h k.
     let a = c.args.arrival.now in
     let times : has_times a p.byte p.size ≡ true = search rules in
     let takes : takes_part h a p ≡ true =
-    part_taken c.args.self.now h a p k (omega (arith, c.if-part-gt-LAST_BYTES.false)) (omega (arith, c.if-self-gt-LAST_BYTES.false)) (omega (arith, c.if-part-gt188.false)) times in
-    part_entered c.args.self.now c.begin_unit.new.self h a p c.args.into.now.lead c.args.into.now.header c.take-payload.new.ended c.take-payload.new.main c.begin_unit.new.unit
-    c.take-payload.result.transport c.take-payload.result.main c.take-payload.result.least k takes (ap (λ (e : Entered). e.lead) c.requires) (ap (λ (e : Entered). e.header) c.requires)
+    part_taken c.args.self.now h a p k (omega (arith, c.if-part-gt-LAST_BYTES.false)) (omega (arith, c.if-self-gt-LAST_BYTES.false))
+    (omega (arith, c.if-part-gt188.false)) times in
+    part_entered c.args.self.now c.begin_unit.new.self h a p c.args.into.now.lead c.args.into.now.header c.take-payload.new.ended c.take-payload.new.main
+    c.begin_unit.new.unit
+    c.take-payload.result.transport c.take-payload.result.main c.take-payload.result.least k takes (ap (λ (e : Entered). e.lead) c.requires)
+    (ap (λ (e : Entered). e.header) c.requires)
     c.in_ok-begin_unit.ensures.held c.in_ok-begin_unit.ensures.unit c.take-payload.ensures.ended c.take-payload.ensures.main c.take-payload.ensures.most
     c.take-payload.ensures.main_most c.take-payload.ensures.main_least

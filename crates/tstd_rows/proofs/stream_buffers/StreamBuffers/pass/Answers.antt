@@ -25,7 +25,8 @@ pub returns-clause-most : goal.returns-clause-most
 returns-clause-most c = λ h k.
     let times : times_of c.row-row.result ≡ times_at c.args.arrival.now h.rx c.args.byte c.args.count =
     c.row-row.ensures.times ∙ ap (λ (r : ℕ). times_at c.args.arrival.now r c.args.byte c.args.count) (c.from.ensures ∙ k.rx) in
-    transport_most_found c.args.self.now h (times_of c.row-row.result) (times_at c.args.arrival.now h.rx c.args.byte c.args.count) c.pass.result k times c.pass.ensures.transport
+    transport_most_found c.args.self.now h (times_of c.row-row.result) (times_at c.args.arrival.now h.rx c.args.byte c.args.count) c.pass.result k times
+    c.pass.ensures.transport
 
 pub returns-clause-video : goal.returns-clause-video
 returns-clause-video c = λ h sizes k v. video_passed c.args.self.now.video sizes h.rate h.parts (times_at c.args.arrival.now h.rx c.args.byte c.args.count) v

@@ -12,7 +12,8 @@ returns-clause-buffer c =
 pub returns-clause-paced : goal.returns-clause-paced
 returns-clause-paced c =
     let row : Row = c.args.row.now in
-    let last = last_soon c.args.self.now.step c.args.self.now.last row.from row.pace row.parts row.bytes (2 ^ 86 + 2 ^ 69) c.requires.timed.some c.requires.soon in
+    let last = last_soon c.args.self.now.step c.args.self.now.last row.from row.pace row.parts row.bytes (2 ^ 86 + 2 ^ 69) c.requires.timed.some
+    c.requires.soon in
     record {
       some = c.requires.paced.some;
       slow = c.requires.paced.slow;
@@ -24,7 +25,8 @@ pub returns-clause-soon : goal.returns-clause-soon
 returns-clause-soon c = λ latest low early.
     let b = c.args.self.now in
     let row : Row = c.args.row.now in
-    let high : row.from + row.bytes * row.pace ≤ (latest + b.bytes * b.step) * row.parts = raised latest (b.bytes * b.step) row.parts (row.from + row.bytes * row.pace) early in
+    let high : row.from + row.bytes * row.pace ≤ (latest + b.bytes * b.step) * row.parts =
+    raised latest (b.bytes * b.step) row.parts (row.from + row.bytes * row.pace) early in
     let last = last_soon b.step b.last row.from row.pace row.parts row.bytes (latest + b.bytes * b.step) c.requires.timed.some high in
     let rows = c.leave-leaving.ensures.soon (latest + b.bytes * b.step) low high in
     record {

@@ -30,7 +30,8 @@ invariant_of-self-clause-counted g c =
     let old = c.args.self.now in
     let more = bytes_more old.transport c.arrive-arrived.new.transport c.args.row.now c.arrive-arrived.ensures.buffer in
     rw c.add_bytes.ensures
-    (counted_more old.unit c.args.row.now.bytes c.arrive-arrived.new.transport.last old.transport.bytes c.arrive-arrived.new.transport.bytes old.counted (omega (arith, more)))
+    (counted_more old.unit c.args.row.now.bytes c.arrive-arrived.new.transport.last old.transport.bytes c.arrive-arrived.new.transport.bytes old.counted
+    (omega (arith, more)))
 
 pub returns-clause-view : goal.returns-clause-view
 returns-clause-view g c = λ parts v.
@@ -40,7 +41,8 @@ returns-clause-view g c = λ parts v.
     let ds = departures old.transport.step old.transport.last (times_of row) in
     let e = c.enter_leaving-found.ensures in
     let many : row.bytes ≡ length (times_of row) = sym (length-row row.from row.pace row.parts row.bytes) in
-    carried old _ parts (times_of row) v old.paced.some c.arrive-arrived.ensures.buffer c.arrive-arrived.ensures.arrived.under_way c.arrive-arrived.ensures.arrived.size
+    carried old _ parts (times_of row) v old.paced.some c.arrive-arrived.ensures.buffer c.arrive-arrived.ensures.arrived.under_way
+    c.arrive-arrived.ensures.arrived.size
     (held_left old.main c.enter_leaving-found.new.buffer leaving ds c.arrive-arrived.ensures.left e.there) e.until
     (e.peak ∙ ap (λ (n : ℕ). max old.main.peak n) (e.most ∙ most_left old.main leaving ds c.arrive-arrived.ensures.left))
     (c.add_bytes.ensures ∙ ap (λ (n : ℕ). with_bytes old.unit n c.arrive-arrived.new.transport.last) many)
@@ -49,13 +51,15 @@ pub returns-clause-main : goal.returns-clause-main
 returns-clause-main g c =
     let old = c.args.self.now in
     c.enter_leaving-found.ensures.most
-    ∙ most_left old.main c.arrive-arrived.result.leaving (departures old.transport.step old.transport.last (times_of c.args.row.now)) c.arrive-arrived.ensures.left
+    ∙ most_left old.main c.arrive-arrived.result.leaving (departures old.transport.step old.transport.last (times_of c.args.row.now))
+    c.arrive-arrived.ensures.left
 
 pub returns-clause-least : goal.returns-clause-least
 returns-clause-least g c =
     let old = c.args.self.now in
     c.enter_leaving-found.ensures.least
-    ∙ least_left old.main c.arrive-arrived.result.leaving (departures old.transport.step old.transport.last (times_of c.args.row.now)) c.arrive-arrived.ensures.left
+    ∙ least_left old.main c.arrive-arrived.result.leaving (departures old.transport.step old.transport.last (times_of c.args.row.now))
+    c.arrive-arrived.ensures.left
 
 pub returns-clause-many : goal.returns-clause-many
 returns-clause-many g c =

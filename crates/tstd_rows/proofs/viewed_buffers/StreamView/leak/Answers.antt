@@ -16,7 +16,8 @@ use Rattle.tstd_rows.proofs.viewed_buffers.StreamView.leak.Goals as goal
 
 pub returns-then-leaving-eq0-clause-view : goal.returns-then-leaving-eq0-clause-view
 returns-then-leaving-eq0-clause-view g c = λ parts v.
-    subst (λ (ts : List ℕ). IsViewOf c.leak_row.new.self (Carries ts ∷ parts)) (all_waited c.args.leaving.now c.if-leaving-eq0.true) (c.leak_row.ensures.view parts v)
+    subst (λ (ts : List ℕ). IsViewOf c.leak_row.new.self (Carries ts ∷ parts)) (all_waited c.args.leaving.now c.if-leaving-eq0.true)
+    (c.leak_row.ensures.view parts v)
 
 pub returns-then-leaving-eq0-clause-multiplexing : goal.returns-then-leaving-eq0-clause-multiplexing
 returns-then-leaving-eq0-clause-multiplexing g c =
@@ -34,7 +35,8 @@ returns-then-leaving-eq0-clause-ended g c =
     let old = c.args.self.now in
     ap (λ (o : Option Excess). option_to_list c.leak_row.new.ended ++ option_to_list o) c.requires.none_free ∙ append-nil (option_to_list c.leak_row.new.ended)
     ∙ c.leak_row.ensures.ended
-    ∙ ap (λ (ts : List ℕ). excesses_ended old.transport.step old.watch.size old.transport.last old.watch.under_way ts) (all_waited c.args.leaving.now c.if-leaving-eq0.true)
+    ∙ ap (λ (ts : List ℕ). excesses_ended old.transport.step old.watch.size old.transport.last old.watch.under_way ts)
+    (all_waited c.args.leaving.now c.if-leaving-eq0.true)
 
 -- none did
 
@@ -46,7 +48,8 @@ returns-then-leaving-eq0-2-clause-view g c = λ parts v.
 pub returns-then-leaving-eq0-2-clause-multiplexing : goal.returns-then-leaving-eq0-2-clause-multiplexing
 returns-then-leaving-eq0-2-clause-multiplexing g c =
     let old = c.args.self.now.transport in
-    c.leak_row-then-leaving-eq0-2.ensures.multiplexing ∙ ap (λ (ts : List ℕ). most_found old.step old.last ts) (none_waited c.args.leaving.now c.if-leaving-eq0-2.true)
+    c.leak_row-then-leaving-eq0-2.ensures.multiplexing
+    ∙ ap (λ (ts : List ℕ). most_found old.step old.last ts) (none_waited c.args.leaving.now c.if-leaving-eq0-2.true)
 
 pub returns-then-leaving-eq0-2-clause-elementary : goal.returns-then-leaving-eq0-2-clause-elementary
 returns-then-leaving-eq0-2-clause-elementary g c = λ parts v.
@@ -59,7 +62,8 @@ returns-then-leaving-eq0-2-clause-ended g c =
     let old = c.args.self.now in
     ap (λ (o : Option Excess). option_to_list o ++ option_to_list c.leak_row-then-leaving-eq0-2.new.ended) c.requires.none
     ∙ c.leak_row-then-leaving-eq0-2.ensures.ended
-    ∙ ap (λ (ts : List ℕ). excesses_ended old.transport.step old.watch.size old.transport.last old.watch.under_way ts) (none_waited c.args.leaving.now c.if-leaving-eq0-2.true)
+    ∙ ap (λ (ts : List ℕ). excesses_ended old.transport.step old.watch.size old.transport.last old.watch.under_way ts)
+    (none_waited c.args.leaving.now c.if-leaving-eq0-2.true)
 
 -- some did, and some did not
 
@@ -92,5 +96,6 @@ returns-clause-ended g c =
     let old = c.args.self.now in
     let first = c.leak_row-first.new.self in
     ap₂ (λ (es fs : List Excess). es ++ fs) c.leak_row-first.ensures.ended c.leak_row-second.ensures.ended
-    ∙ ended_joined old.transport first.transport old.watch.size first.watch.size old.watch.under_way first.watch.under_way (times_of l.waiting) (times_of l.free)
+    ∙ ended_joined old.transport first.transport old.watch.size first.watch.size old.watch.under_way first.watch.under_way (times_of l.waiting)
+    (times_of l.free)
     c.leak_row-first.ensures.buffer c.leak_row-first.ensures.size c.leak_row-first.ensures.under_way

@@ -14,7 +14,8 @@ returns-in-Err-clause-cause g c =
     let q = c.args.self.now in
     let u = c.args.unit in
     or_first (own_cause q.parameters.size q.parameters.pts_limit q.min_next_dts u) (time_cause (late_at q.parameters c.args.slots u.dts) u.dts)
-    (room_cause (nat_le q.capacity (length q.units)) (packets_cause q.parameters.allowance (is_over_for q (timed_by q.parameters u)))) c.in-Err.cause c.in-Err.ensures.cause
+    (room_cause (nat_le q.capacity (length q.units)) (packets_cause q.parameters.allowance (is_over_for q (timed_by q.parameters u)))) c.in-Err.cause
+    c.in-Err.ensures.cause
 
 -- the unit is one that its stream accepts
 pub header-header-requires-clause-fits : goal.header-header-requires-clause-fits
@@ -45,7 +46,8 @@ room-requires g c =
     let unit = unit_is q.parameters q.min_next_dts (late_at q.parameters c.args.slots c.args.unit.dts) c.args.unit c.in-Ok.ensures.cause in
     let same : c.args.self.now.parameters ≡ c.self.inside.parameters = search rules in
     let bytes : c.len-2.result ≡ length c.args.unit.bytes = search rules in
-    let few = size_few c.self.inside.parameters c.args.unit c.len.result c.self.invariant (subst (λ (r : StreamParameters). IsUnit r c.args.unit) same unit) c.len.ensures.fits in
+    let few = size_few c.self.inside.parameters c.args.unit c.len.result c.self.invariant (subst (λ (r : StreamParameters). IsUnit r c.args.unit) same unit)
+    c.len.ensures.fits in
     omega (arith, bytes, few, c.field_size-front.ensures.most)
 
 pub returns-in-Some-clause-cause : goal.returns-in-Some-clause-cause
@@ -57,8 +59,10 @@ returns-in-Some-clause-cause g c =
     let dts : c.unit.inside.dts ≡ c.args.unit.dts = search rules in
     let field : c.field_size-front.result ≡ field_size (has_access c.args.unit) = search rules in
     let parts : c.len.result + c.len-2.result ≡ length c.header-header.result.items + length c.args.unit.bytes = search rules in
-    let timed = timed_is q.parameters c.self.inside.parameters u c.unit.inside.dts size c.field_size-front.result c.header-header.result.items same dts field parts c.header-header.ensures in
-    room_is q c.args.slots u (record { dts = c.unit.inside.dts; size = size; front = c.field_size-front.result }) (Some c.in-Some.cause) timed c.in-Ok.ensures.cause c.in-Some.ensures
+    let timed = timed_is q.parameters c.self.inside.parameters u c.unit.inside.dts size c.field_size-front.result c.header-header.result.items same dts field
+    parts c.header-header.ensures in
+    room_is q c.args.slots u (record { dts = c.unit.inside.dts; size = size; front = c.field_size-front.result }) (Some c.in-Some.cause) timed
+    c.in-Ok.ensures.cause c.in-Some.ensures
 
 -- there is room for it, and it is within what is allowed
 pub push-requires-clause-dts : goal.push-requires-clause-dts
@@ -74,7 +78,8 @@ push-requires-clause-size g c =
     let unit = unit_is q.parameters q.min_next_dts (late_at q.parameters c.args.slots c.args.unit.dts) c.args.unit c.in-Ok.ensures.cause in
     let same : c.args.self.now.parameters ≡ c.self.inside.parameters = search rules in
     let bytes : c.len-2.result ≡ length c.args.unit.bytes = search rules in
-    let few = size_few c.self.inside.parameters c.args.unit c.len.result c.self.invariant (subst (λ (r : StreamParameters). IsUnit r c.args.unit) same unit) c.len.ensures.fits in
+    let few = size_few c.self.inside.parameters c.args.unit c.len.result c.self.invariant (subst (λ (r : StreamParameters). IsUnit r c.args.unit) same unit)
+    c.len.ensures.fits in
     omega (arith, bytes, few, c.field_size-front.ensures.most)
 
 pub push-requires-clause-room : goal.push-requires-clause-room
@@ -96,8 +101,10 @@ returns-in-None-clause-cause g c =
     let dts : c.unit.inside.dts ≡ c.args.unit.dts = search rules in
     let field : c.field_size-front.result ≡ field_size (has_access c.args.unit) = search rules in
     let parts : c.len.result + c.len-2.result ≡ length c.header-header.result.items + length c.args.unit.bytes = search rules in
-    let timed = timed_is q.parameters c.self.inside.parameters u c.unit.inside.dts size c.field_size-front.result c.header-header.result.items same dts field parts c.header-header.ensures in
-    room_is q c.args.slots u (record { dts = c.unit.inside.dts; size = size; front = c.field_size-front.result }) None timed c.in-Ok.ensures.cause c.in-None.ensures
+    let timed = timed_is q.parameters c.self.inside.parameters u c.unit.inside.dts size c.field_size-front.result c.header-header.result.items same dts field
+    parts c.header-header.ensures in
+    room_is q c.args.slots u (record { dts = c.unit.inside.dts; size = size; front = c.field_size-front.result }) None timed c.in-Ok.ensures.cause
+    c.in-None.ensures
 
 pub returns-in-None-clause-state : goal.returns-in-None-clause-state
 returns-in-None-clause-state g c =
@@ -108,9 +115,11 @@ returns-in-None-clause-state g c =
     let dts : c.unit.inside.dts ≡ c.args.unit.dts = search rules in
     let field : c.field_size-front.result ≡ field_size (has_access c.args.unit) = search rules in
     let parts : c.len.result + c.len-2.result ≡ length c.header-header.result.items + length c.args.unit.bytes = search rules in
-    let timed = timed_is q.parameters c.self.inside.parameters u c.unit.inside.dts size c.field_size-front.result c.header-header.result.items same dts field parts c.header-header.ensures in
+    let timed = timed_is q.parameters c.self.inside.parameters u c.unit.inside.dts size c.field_size-front.result c.header-header.result.items same dts field
+    parts c.header-header.ensures in
     let taken = queued_is q.parameters c.self.inside.parameters u c.in-Ok.slot c.header-header.result.items same c.in-Ok.ensures.slot c.header-header.ensures in
-    c.push.ensures ∙ accepted_is q u (record { dts = c.unit.inside.dts; size = size; front = c.field_size-front.result }) c.new.result timed (c.new.ensures ∙ taken)
+    c.push.ensures ∙ accepted_is q u (record { dts = c.unit.inside.dts; size = size; front = c.field_size-front.result }) c.new.result timed
+    (c.new.ensures ∙ taken)
 
 -- a queue refuses a unit for the cause that its history has, and with an accepted unit stands for one unit more
 pub returns-in-Err-clause-refused : goal.returns-in-Err-clause-refused
