@@ -20,7 +20,7 @@ first_end view i fs over = rw (done view i fs over) refl
 
 -- 2. Entries
 
-with_both : (named xs ys : List Program) → with_programs named (xs ++ ys) ≡ with_programs (with_programs named xs) ys
+pub with_both : (named xs ys : List Program) → with_programs named (xs ++ ys) ≡ with_programs (with_programs named xs) ys
 unfolding with_programs
 with_both named [] ys = refl
 with_both named (x ∷ xs) ys = with_both (with_program named x) xs ys

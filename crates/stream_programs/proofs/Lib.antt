@@ -6,6 +6,7 @@ pub mod LastMaps
 pub mod NumberedMaps
 pub mod MapKeys
 pub mod MapPlaces
+pub mod KnownSteps
 pub mod NotedChanges
 pub mod LastServices
 pub mod FirstNetworks
@@ -18,6 +19,7 @@ pub mod AssignedPids
 pub mod FittingText
 pub mod CharacterSteps
 pub mod Sharers
+pub mod NumberPairs
 pub mod DistinctPids
 pub mod TablesAlone
 pub mod StrayPids

@@ -43,10 +43,10 @@ inserted key k x (y ∷ es) t e = by t e (k == y.0) refl (inserted key k x es t 
 
 -- 2. A program by its key
 
-same_pid : (a m b n : ℕ) → m < 65_536 → n < 65_536 → a * 65_536 + m ≡ b * 65_536 + n → a ≡ b
+pub same_pid : (a m b n : ℕ) → m < 65_536 → n < 65_536 → a * 65_536 + m ≡ b * 65_536 + n → a ≡ b
 same_pid a m b n low below e = omega (arith, low, below, e)
 
-same_rest : (a m b n : ℕ) → m < 65_536 → n < 65_536 → a * 65_536 + m ≡ b * 65_536 + n → m ≡ n
+pub same_rest : (a m b n : ℕ) → m < 65_536 → n < 65_536 → a * 65_536 + m ≡ b * 65_536 + n → m ≡ n
 same_rest a m b n low below e = omega (arith, low, below, e)
 
 pub same_program : (p q : Program) → p.program_number < 65_536 → q.program_number < 65_536 → map_key p ≡ map_key q → p ≡ q
@@ -61,7 +61,7 @@ abbrev pub is_key : ℕ → Option Program → Bool
 is_key key None = false
 is_key key (Some q) = map_key q == key
 
-apart : (m n : ℕ) → m ≡ n → (m == n) ≡ false → ⊥
+pub apart : (m n : ℕ) → m ≡ n → (m == n) ≡ false → ⊥
 apart m n same differ = grind (arith, nat_tests)
 
 by_fields : (pid m b n : ℕ) (pmt : Option PmtView) (k u v : Bool) → m < 65_536 → n < 65_536 → ((pid * 65_536 + m) == (b * 65_536 + n)) ≡ k → (pid == b) ≡ u →

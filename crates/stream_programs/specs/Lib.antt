@@ -3,9 +3,11 @@ pub mod Association
 pub mod ProgramLists
 pub mod ProgramMaps
 pub mod MapPlaces
+pub mod KnownTables
 pub mod Omissions
 pub mod Streams
 pub mod Programs
+pub mod NumberPairs
 pub mod FreePids
 pub mod PidLists
 pub mod StrayPids

@@ -64,9 +64,9 @@ fn pat_in(bytes: &[u8]) -> Option<Pat<'_>>
     }
 }
 
-// The table that a finding has.
+/// Returns the table that a finding has.
 #[tactic(auto, unfolding(crate::specs::Association::pat_found))]
-fn pat_found<'f, A: Allocator>(finding: &'f Finding<'_, A>) -> Option<Pat<'f>>
+pub(crate) fn pat_found<'f, A: Allocator>(finding: &'f Finding<'_, A>) -> Option<Pat<'f>>
     ensures { option_map pat_view result ≡ spec.pat_found (finding_view finding.now) }
 {
     match section_on(0, finding) {
@@ -98,9 +98,9 @@ fn add_entries<A: Allocator>(pat: Pat<'_>, programs: &mut ProgramList<A>) -> Res
     Ok(())
 }
 
-// The entries of what a finding has, where it is of this version.
+/// Adds the entries of what a finding has, if it is of this version.
 #[tactic(auto, unfolding(crate::specs::Association::with_programs, crate::specs::Association::entries_of))]
-fn add_version<A: Allocator>(
+pub(crate) fn add_version<A: Allocator>(
     version: u8,
     finding: &Finding<'_, A>,
     programs: &mut ProgramList<A>,

@@ -1,9 +1,9 @@
 //! The programs of a transport stream and their elementary streams, from what a demultiplexer finds of its tables.
 //!
 //! The program association table in force names the programs (`specs/Association`), and the last program map table of
-//! each its streams (`specs/ProgramMaps`, `specs/MapPlaces`, `specs/Streams`, `specs/Programs`); the service
-//! description has its name (`specs/Services`), as characters (`specs/Texts`, `specs/CharacterTables`), and its
-//! original network (`specs/Networks`); the network information table has its network (`specs/NetworkInformation`).
+//! each its streams (`specs/ProgramMaps`, `specs/MapPlaces`, `specs/Streams`, `specs/Programs`, `specs/NumberPairs`);
+//! the service description has its name (`specs/Services`), as characters (`specs/Texts`, `specs/CharacterTables`), and
+//! its original network (`specs/Networks`); the network information table has its network (`specs/NetworkInformation`).
 //! Maps and PCRs are assigned PIDs that nothing else has (`specs/PidAssignment`); PES packets of no program are counted
 //! by PID (`specs/StrayPids`). The omissions of the tables are reported, and the packets where they change. The laws
 //! say that the findings of PID 0 and of the maps' PIDs alone decide, and that no two PIDs are equal.
@@ -14,11 +14,14 @@ mod changed_maps;
 mod character_sets;
 mod character_tables;
 mod free_pids;
+mod gathering;
+mod known_tables;
 mod laws;
 mod map_descriptors;
 mod map_places;
 mod network_information;
 mod networks;
+mod number_pairs;
 mod omission;
 mod pid_assignment;
 mod pid_counts;
@@ -36,6 +39,7 @@ mod texts;
 pub use association::{Association, association_change, named_programs};
 pub use changed_maps::{MapChanges, map_changes};
 pub use free_pids::free_pid;
+pub use known_tables::KnownTables;
 pub use laws::{
     each_has_pids, findings_of_pid_zero, findings_of_the_map, maps_decide, pids_are_distinct,
 };

@@ -48,9 +48,9 @@ pub(crate) fn program_found<A: Allocator>(finding: &Finding<'_, A>) -> Option<Pr
     }
 }
 
-// Notes the place of a finding, if it has a table.
+/// Notes the place of a finding, if it has a table.
 #[tactic(auto, unfolding(crate::specs::MapPlaces::places_with))]
-fn note_place<A: Allocator + Copy>(
+pub(crate) fn note_place<A: Allocator + Copy>(
     places: &mut MapPlaces<A>,
     at: usize,
     finding: &Finding<'_, A>,

@@ -62,6 +62,13 @@ impl<A: Allocator> ProgramList<A> {
         Ok(())
     }
 
+    /// Returns the programs.
+    pub fn programs(&self) -> &[Program]
+        ensures { result.now ≡ self.now }
+    {
+        self.programs.as_slice()
+    }
+
     /// Returns the programs alone.
     pub fn into_programs(self) -> Vec<Program, A>
         ensures { result.items ≡ self }

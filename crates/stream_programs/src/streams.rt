@@ -75,22 +75,6 @@ pub(crate) fn holder<A: Allocator>(pid: u16, streams: &[FoundStream<A>]) -> Opti
 }
 
 impl<A: Allocator> FoundStream<A> {
-    /// Returns whether a program shares it.
-    #[tactic(auto, unfolding(crate::specs::Streams::is_shared_with))]
-    pub fn is_shared_with(&self, number: u16) -> bool
-        ensures { result ≡ spec.is_shared_with number self.now }
-    {
-        self.shared_with.iter().any(|other| *other == number)
-    }
-
-    /// Returns whether a program has it, as its own or a shared one.
-    #[tactic(auto, unfolding(crate::specs::Streams::is_stream_of))]
-    pub fn is_stream_of(&self, number: u16) -> bool
-        ensures { result ≡ spec.is_stream_of number self.now }
-    {
-        self.program == number || self.is_shared_with(number)
-    }
-
     // Whether another map's entry says the same of it.
     #[tactic(auto, unfolding(crate::specs::Streams::is_alike))]
     fn is_alike(&self, other: &FoundStream<A>) -> bool
@@ -114,13 +98,6 @@ pub(crate) fn has_alike<A: Allocator>(streams: &[FoundStream<A>], other: &FoundS
     ensures { result ≡ list_any (spec.is_alike other.now) streams.now }
 {
     streams.iter().any(|stream| other.is_alike(stream))
-}
-
-/// Returns whether one of these streams is a program's, or shared by it.
-pub(crate) fn has_stream_of<A: Allocator>(streams: &[FoundStream<A>], number: u16) -> bool
-    ensures { result ≡ list_any (spec.is_stream_of number) streams.now }
-{
-    streams.iter().any(|stream| stream.is_stream_of(number))
 }
 
 /// Adds a program to those that share the stream of a PID.

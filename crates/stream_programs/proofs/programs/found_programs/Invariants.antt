@@ -6,4 +6,4 @@ use Rattle.stream_programs.proofs.programs.found_programs.Given as goal
 abbrev pub invariant-loop-program : goal.invariant-loop-program
 invariant-loop-program g l =
     with_programs nothing l.named (map finding_view l.findings)
-    ≡ with_programs l.found (drop l.program-index l.named) (map finding_view l.findings)
+    ≡ with_programs l.gathered (drop l.program-index l.named) (map finding_view l.findings)
