@@ -9,6 +9,7 @@ pub mod MapPlaces
 pub mod KnownSteps
 pub mod NotedChanges
 pub mod LastServices
+pub mod ServicePlaces
 pub mod FirstNetworks
 pub mod NetworkSteps
 pub mod ProgramSteps

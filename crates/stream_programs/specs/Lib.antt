@@ -15,6 +15,7 @@ pub mod PesCounts
 pub mod PidAssignment
 pub mod ServiceDescriptions
 pub mod Services
+pub mod ServicePlaces
 pub mod Networks
 pub mod NetworkInformation
 pub mod CharacterTables

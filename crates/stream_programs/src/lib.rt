@@ -2,11 +2,12 @@
 //!
 //! The program association table in force names the programs (`specs/Association`), and the last program map table of
 //! each its streams (`specs/ProgramMaps`, `specs/MapPlaces`, `specs/Streams`, `specs/Programs`, `specs/NumberPairs`);
-//! the service description has its name (`specs/Services`), as characters (`specs/Texts`, `specs/CharacterTables`), and
-//! its original network (`specs/Networks`); the network information table has its network (`specs/NetworkInformation`).
-//! Maps and PCRs are assigned PIDs that nothing else has (`specs/PidAssignment`); PES packets of no program are counted
-//! by PID (`specs/StrayPids`). The omissions of the tables are reported, and the packets where they change. The laws
-//! say that the findings of PID 0 and of the maps' PIDs alone decide, and that no two PIDs are equal.
+//! the service description has its name (`specs/Services`, `specs/ServicePlaces`), as characters (`specs/Texts`,
+//! `specs/CharacterTables`), and its original network (`specs/Networks`); the network information table has its network
+//! (`specs/NetworkInformation`). Maps and PCRs are assigned PIDs that nothing else has (`specs/PidAssignment`); PES
+//! packets of no program are counted by PID (`specs/StrayPids`). The omissions of the tables are reported, and the
+//! packets where they change. The laws say that the findings of PID 0 and of the maps' PIDs alone decide, and that no
+//! two PIDs are equal.
 #![tactic(auto)]
 
 mod association;
@@ -31,6 +32,7 @@ mod program_map;
 mod programs;
 mod sections;
 mod service_description;
+mod service_index;
 mod services;
 mod strays;
 mod streams;
@@ -51,6 +53,7 @@ pub use pid_counts::pes_counts;
 pub use program_map::{MapPart, last_program_map};
 pub use programs::{FoundProgram, FoundPrograms, found_programs};
 pub use sections::section_on;
+pub use service_index::{FoundServices, found_services};
 pub use services::{FoundService, last_service, length_prefixed};
 pub use strays::{mapped_pids, stray_pids};
 pub use streams::FoundStream;

@@ -78,9 +78,9 @@ fn of_descriptor<'f>(descriptor: Descriptor<'f>) -> Option<FoundService<'f>>
     }
 }
 
-// What the first service descriptor says.
+/// Returns what the first service descriptor says.
 #[tactic(auto, unfolding(crate::specs::Services::in_descriptors))]
-fn in_descriptors(bytes: &[u8]) -> Option<FoundService<'_>>
+pub(crate) fn in_descriptors(bytes: &[u8]) -> Option<FoundService<'_>>
     ensures { option_map spec.found_service_view result ≡ spec.in_descriptors (descriptors_in bytes.now) }
 {
     for descriptor in Descriptors::of(bytes) {
@@ -115,9 +115,9 @@ fn in_entries<'f>(number: u16, entries: Services<'f>) -> Option<FoundService<'f>
     None
 }
 
-// What a finding says of a program.
+/// Returns what a finding says of a program.
 #[tactic(auto, unfolding(crate::specs::Services::service_found))]
-fn service_found<'f, A: Allocator>(
+pub(crate) fn service_found<'f, A: Allocator>(
     number: u16,
     finding: &'f Finding<'_, A>,
 ) -> Option<FoundService<'f>>
