@@ -1,3 +1,3 @@
 pub mod Grows
-pub mod Mapped
+pub mod MappedPrograms
 pub mod First

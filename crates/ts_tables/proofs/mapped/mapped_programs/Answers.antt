@@ -1,6 +1,6 @@
 use Rattle.std.proofs.Common.{Global, map}
 use Rattle.demux.specs.Shown.{finding_view}
-use Rattle.ts_tables.proofs.Mapped.{mapped_are, named_are}
+use Rattle.ts_tables.proofs.MappedPrograms.{mapped_are, named_are}
 use Rattle.ts_tables.proofs.mapped.mapped_programs.Goals as goal
 
 pub mapped_from-requires : goal.mapped_from-requires

@@ -3,7 +3,7 @@ use Rattle.psi_tables.specs.declared.pat.programs.Program.{Program}
 use Rattle.demux.specs.Shown.{finding_view}
 use Rattle.demux.specs.Views.{FindingView}
 use Rattle.stream_programs.specs.Programs.{FoundProgramsView, programs_of}
-use Rattle.ts_tables.proofs.Mapped.{known_streams}
+use Rattle.ts_tables.proofs.MappedPrograms.{known_streams}
 use Rattle.ts_tables.proofs.named_streams.streams_by.Goals as goal
 
 pub returns-then-not-is_known : goal.returns-then-not-is_known

@@ -3,7 +3,7 @@ use Rattle.demux.specs.Shown.{finding_view}
 use Rattle.demux.specs.Views.{FindingView}
 use Rattle.ts_tables.specs.Mapped.{AreTables}
 use Rattle.ts_tables.specs.NamedStreams.{streams_at}
-use Rattle.ts_tables.proofs.Mapped.{first_part, taken}
+use Rattle.ts_tables.proofs.MappedPrograms.{first_part, taken}
 use Rattle.ts_tables.proofs.named_streams.streams_with.Goals as goal
 
 pub take-requires : goal.take-requires

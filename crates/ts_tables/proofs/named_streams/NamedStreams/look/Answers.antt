@@ -1,6 +1,6 @@
 use Rattle.std.proofs.Common.{◌∙◌, ap}
 use Rattle.ts_tables.specs.NamedStreams.{NamedView}
-use Rattle.ts_tables.proofs.Mapped.{at_start, unknown, when_none}
+use Rattle.ts_tables.proofs.MappedPrograms.{at_start, unknown, when_none}
 use Rattle.ts_tables.proofs.named_streams.NamedStreams.look.Goals as goal
 
 pub streams_with-requires : goal.streams_with-requires

@@ -1,4 +1,4 @@
-use Rattle.ts_tables.proofs.Mapped.{at_start, unknown}
+use Rattle.ts_tables.proofs.MappedPrograms.{at_start, unknown}
 use Rattle.ts_tables.proofs.named_streams.NamedStreams.new.Goals as goal
 
 pub invariant_of-result : goal.invariant_of-result
