@@ -783,6 +783,7 @@ def rewrite():
 COMMENTS = [
     ("stream_jobs/specs/Texts.antt", "(`specs/JobTables`)", "(`JobTables` of `job_programs`)"),
     ("laws_job/src/laws.rt", "modulo 2^33. `stream_jobs` says which", "modulo 2^33. `job_inputs` says which"),
+    ("tests_stream/src/lib.rt", "and of jobs made of it, each over public contracts alone: the crates `demux`,", "and of jobs made of it: the crates `demux`,"),
     ("tests_stream/src/lib.rt", "`stream_choice`, `job_text` and `stream_jobs`.", "`stream_choice`, `job_text`, `job_programs`, `job_inputs` and `stream_jobs`."),
 ]
 
