@@ -5,6 +5,7 @@ use Rattle.page_charts.specs.Slots as slots
 use Rattle.page_charts.specs.declared.frame.ChartUnit.{ChartUnit}
 use Rattle.page_charts.specs.declared.frame.Frame.{Frame}
 use Rattle.page_charts.specs.declared.pid_curves.PidCurve.{PidCurve}
+use Rattle.page_charts.specs.Numbers.{grouped}
 use Rattle.page_charts.specs.PidLabels.{LabelsState, pid_text}
 use Rattle.page_charts.specs.Scale.{height_of}
 use Rattle.page_charts.specs.Frames.{scales_text, top_value, unit_name, value_text}
@@ -52,9 +53,12 @@ line f labels class entry =
     codes "<path class=\"line s" ++ (decimal class ++ (codes "\" d=\"M" ++ (numbered (point f entry.curve.span) 0 entry.curve.slots ++ title labels entry)))
 
 -- what lies over a limit, and the limit
+unfoldable pub limit_head : ℕ → List ℕ
+limit_head y = codes "\"/><path class=\"limit\" d=\"M900 " ++ (decimal y ++ (codes "H9500\"/><text class=\"end\" x=\"9490\" y=\"" ++ (decimal y
+    ++ codes "\" dy=\"-.4em\">limit ")))
+
 unfoldable pub limit_line : ℕ → ℕ → List ℕ
-limit_line limit y = codes "\"/><path class=\"limit\" d=\"M900 " ++ (decimal y ++ (codes "H9500\"/><text class=\"end\" x=\"9490\" y=\"" ++ (decimal y
-    ++ (codes "\" dy=\"-.4em\">limit " ++ (decimal limit ++ codes "</text>\n")))))
+limit_line limit y = limit_head y ++ (grouped limit ++ codes "</text>\n")
 
 unfoldable pub limit : Frame → PidCurve → List ℕ
 limit f entry =

@@ -6,7 +6,7 @@ use Rattle.page_charts.specs.declared.frame.ChartUnit.TheVariants.{BitRate, Byte
 use Rattle.page_charts.specs.declared.frame.Frame.{Frame}
 use Rattle.page_charts.specs.declared.frame_text.TheConstants.{FIFTHS, STEP_COUNTS}
 use Rattle.page_charts.specs.declared.scale.TheConstants.{GREATEST_VALUE, LEFT, WIDTH}
-use Rattle.page_charts.specs.Numbers.{tenths}
+use Rattle.page_charts.specs.Numbers.{grouped, tenths}
 use Rattle.page_charts.specs.Scale.{height_of, scale_for, slots_in}
 use Rattle.page_charts.specs.declared.time_scale.TimeUnit.{TimeUnit}
 use Rattle.page_charts.specs.TimeScale.{step_for, unit_millis, unit_of}
@@ -56,7 +56,7 @@ slots_of f span = slots_in (window_count f) span
 -- bit rates in kbit/s, bytes, and times in ms
 unfoldable pub value_text : ChartUnit → ℕ → List ℕ
 value_text BitRate value = tenths value 1000
-value_text Bytes value = decimal value
+value_text Bytes value = grouped value
 value_text Time value = tenths value 1000
 
 unfoldable pub unit_name : ChartUnit → List ℕ

@@ -9,6 +9,7 @@ use Rattle.page_charts.specs.declared.strip.TheConstants.{STRIP}
 use Rattle.page_charts.specs.declared.strip_table.TheConstants.{STEP_COUNTS}
 use Rattle.page_charts.specs.declared.time_scale.TimeUnit.{TimeUnit}
 use Rattle.page_charts.specs.Frames.{length_of}
+use Rattle.page_charts.specs.Numbers.{grouped}
 use Rattle.page_charts.specs.Paths.{numbered}
 use Rattle.page_charts.specs.PidLabels.{LabelsState, program_number, service_text}
 use Rattle.page_charts.specs.Slots as slots
@@ -42,9 +43,11 @@ unfoldable pub name_cells : List ℕ → PidCurve → List ℕ
 name_cells buffer entry = codes "<tr><th class=word scope=row>PID "
     ++ (decimal entry.pid ++ (codes " " ++ (word entry.name ++ (codes "<td class=word>" ++ buffer))))
 
+abbrev pub most_head : Bool → List ℕ
+most_head over = if over then codes "<td class=\"bad\">&#9650; " else codes "<td>"
+
 abbrev pub most_cells : ℕ → ℕ → List ℕ
-most_cells most size = if nat_lt size most then codes "<td class=\"bad\">&#9650; " ++ (decimal most ++ (codes "<td>" ++ decimal size))
-    else codes "<td>" ++ (decimal most ++ (codes "<td>" ++ decimal size))
+most_cells most size = most_head (nat_lt size most) ++ (grouped most ++ (codes "<td>" ++ grouped size))
 
 abbrev pub row : Frame → List ℕ → PidCurve → List ℕ
 row f buffer entry = name_cells buffer entry ++ (most_cells (slots.greatest_of entry.curve.slots) entry.limit ++ strip f entry)

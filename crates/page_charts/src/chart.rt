@@ -4,6 +4,7 @@ ghost use Rattle.page_charts.specs.Charts as spec;
 
 use crate::frame::{ChartUnit, Frame};
 use crate::frame_text::{unit_name, write_value};
+use crate::numbers::write_grouped;
 use crate::paths::{write_lows_back, write_overs, write_points};
 use crate::pid_curves::PidCurve;
 use crate::pid_labels::{PidLabels, write_pid};
@@ -152,15 +153,24 @@ fn write_line(
     write_title(text, labels, entry)
 }
 
+#[tactic(auto, unfolding(crate::specs::Charts::limit_head))]
+fn write_limit_head(text: &mut String, y: u64) -> Result<(), AllocError>
+    ensures { OnOk result (string_bytes text.new ≡ string_bytes text.old ++ spec.limit_head y) }
+{
+    write!(
+        text,
+        "\"/><path class=\"limit\" d=\"M900 {y}H9500\"/><text class=\"end\" x=\"9490\" y=\"{y}\" dy=\"-.4em\">limit "
+    )
+}
+
 // A limit: a line across the picture, and its value.
 #[tactic(auto, unfolding(crate::specs::Charts::limit_line))]
 fn write_limit_line(text: &mut String, limit: u64, y: u64) -> Result<(), AllocError>
     ensures { OnOk result (string_bytes text.new ≡ string_bytes text.old ++ spec.limit_line limit y) }
 {
-    write!(
-        text,
-        "\"/><path class=\"limit\" d=\"M900 {y}H9500\"/><text class=\"end\" x=\"9490\" y=\"{y}\" dy=\"-.4em\">limit {limit}</text>\n"
-    )
+    write_limit_head(text, y)?;
+    write_grouped(text, limit)?;
+    text.push_str("</text>\n")
 }
 
 // What of a curve lies over its limit, and the limit.

@@ -4,7 +4,7 @@ ghost use Rattle.page_charts.specs.Frames as spec;
 
 use crate::bounds::Bounds;
 use crate::frame::{ChartUnit, Frame};
-use crate::numbers::write_tenths;
+use crate::numbers::{write_grouped, write_tenths};
 use crate::scale::{GREATEST_VALUE, LEFT, WIDTH, height_of, scale_for, slots_in};
 use crate::time_scale::{TimeUnit, step_for};
 use std::alloc::AllocError;
@@ -23,7 +23,7 @@ pub(crate) fn write_value(text: &mut String, unit: ChartUnit, value: u64) -> Res
 {
     match unit {
         ChartUnit::BitRate => write_tenths(text, value, 1_000),
-        ChartUnit::Bytes => write!(text, "{value}"),
+        ChartUnit::Bytes => write_grouped(text, value),
         ChartUnit::Time => write_tenths(text, value, 1_000),
     }
 }

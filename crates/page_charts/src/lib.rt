@@ -10,7 +10,7 @@
 //! - [`write_chart`]: a picture of some of them over all windows, with a key and all its numbers as a table.
 //! - [`write_strips`]: a table of how full buffers were, a row a buffer, on one scale of times.
 //! - [`PidLabels`]: the programs of PIDs and the names of their services, written beside each PID ([`write_label`]).
-//! - [`write_tenths`]: a number in a greater unit.
+//! - [`write_grouped`], [`write_tenths`]: a number in groups of three digits, and one in a greater unit.
 //!
 //! A page's text is this crate's text, decimal numbers, and the names given to [`PidLabels`]: nothing else can get into
 //! a page.
@@ -37,7 +37,7 @@ pub use bounds::{Bounds, joined};
 pub use chart::write_chart;
 pub use curve::Curve;
 pub use frame::{ChartUnit, Frame};
-pub use numbers::write_tenths;
+pub use numbers::{write_grouped, write_tenths};
 pub use pid_curves::{MOST_CURVES, PidCurve, PidCurves, greatest_value};
 pub use pid_labels::{PidLabels, PidProgram, write_label};
 pub use slots::MOST_SLOTS;

@@ -5,6 +5,7 @@ ghost use Rattle.page_charts.specs.Paths.{numbered};
 ghost use Rattle.page_charts.specs.StripTables as spec;
 
 use crate::frame::Frame;
+use crate::numbers::write_grouped;
 use crate::pid_curves::PidCurve;
 use crate::pid_labels::{PidLabels, write_service};
 use crate::strip::{STRIP, write_strip};
@@ -72,15 +73,25 @@ fn write_head(text: &mut String, frame: &Frame) -> Result<(), AllocError>
     text.push_str("</svg>\n")
 }
 
+// How the cell of a number begins.
+fn most_head(over: bool) -> &'static str
+    ensures { result.now ≡ spec.most_head over }
+{
+    if over {
+        "<td class=\"bad\">&#9650; "
+    } else {
+        "<td>"
+    }
+}
+
 // The most bytes of a buffer; marked if that is over its size.
 fn write_most(text: &mut String, most: u64, size: u64) -> Result<(), AllocError>
     ensures { OnOk result (string_bytes text.new ≡ string_bytes text.old ++ spec.most_cells most size) }
 {
-    if most > size {
-        write!(text, "<td class=\"bad\">&#9650; {most}<td>{size}")
-    } else {
-        write!(text, "<td>{most}<td>{size}")
-    }
+    text.push_str(most_head(most > size))?;
+    write_grouped(text, most)?;
+    text.push_str("<td>")?;
+    write_grouped(text, size)
 }
 
 // The stream and the name of a buffer.

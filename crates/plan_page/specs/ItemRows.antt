@@ -1,6 +1,6 @@
 -- What each item has of the slots: its share, and its greatest gap beside its limit.
 use Rattle.std.specs.Prelude.{ℕ, ◌*◌, ◌/◌, nat_lt, if◌then◌else◌, List, [], ◌++◌, codes, decimal, flat_map, length, Option, Some, None}
-use Rattle.page_charts.specs.Numbers.{tenths}
+use Rattle.page_charts.specs.Numbers.{grouped, tenths}
 use Rattle.slot_plan.specs.declared.slot.Slot.{Slot}
 use Rattle.plan_page.specs.declared.plan_items.PlanItem.{PlanItem}
 use Rattle.plan_page.specs.Owners.{count_in, gap_in}
@@ -15,7 +15,7 @@ unfoldable pub share : ℕ → ℕ → List ℕ
 share count all = tenths (count * 100) all
 
 unfoldable pub share_cells : ℕ → ℕ → ℕ → List ℕ
-share_cells rate count all = codes "<td>" ++ (decimal count ++ (codes "<td>" ++ (share count all ++ (codes "<td>" ++ decimal (rate * count / all)))))
+share_cells rate count all = codes "<td>" ++ (decimal count ++ (codes "<td>" ++ (share count all ++ (codes "<td>" ++ grouped (rate * count / all)))))
 
 -- a time beside a limit, as a bar that ends where the limit lies
 unfoldable pub bar : ℕ → ℕ → List ℕ

@@ -5,7 +5,7 @@ ghost use Rattle.plan_page.specs.ItemRows as spec;
 use crate::lanes::{time_of, write_label, write_millis};
 use crate::owners::gap_in;
 use crate::plan_items::PlanItem;
-use page_charts::write_tenths;
+use page_charts::{write_grouped, write_tenths};
 use slot_plan::Slot;
 use std::alloc::AllocError;
 use std::fmt::Write;
@@ -44,7 +44,8 @@ fn write_share_cells(text: &mut String, rate: u64, count: u64, all: u64) -> Resu
     let bits = rate * count / all;
     write!(text, "<td>{count}<td>")?;
     write_share(text, count, all)?;
-    write!(text, "<td>{bits}")
+    text.push_str("<td>")?;
+    write_grouped(text, bits)
 }
 
 // A time beside a limit, as a bar that ends where the limit lies.

@@ -38,7 +38,8 @@ impl Drawing {
     fn new(alloc: Global, request: ViewRequest) -> Drawing
         ensures { IsDrawn result (start request) (first_page request) [] }
     {
-        let page = Page::new(alloc, window_of(&request));
+        let rate = rate_of(&request);
+        let page = Page::new(alloc, window_of(&request), rate);
         Drawing {
             stream: CapturedView::new(alloc, request),
             page,

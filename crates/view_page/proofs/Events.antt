@@ -19,15 +19,15 @@ pub here : (page : Page) (events : List TimedEvent) (s : PageState) → IsPage p
 here page events s is = record { state = s; is = is; same = refl }
 
 taken : (before after : Page) (event : TimedEvent) (events : List TimedEvent) (whole : PageState) →
-    ((s : PageState) → IsPage before s → IsPage after (after_event s event.event)) →
+    ((s : PageState) → IsPage before s → IsPage after (after_event s event)) →
     ComesTo before (event ∷ events) whole → ComesTo after events whole
 unfolding after_events
-taken before after event events whole takes c = record { state = after_event c.state event.event; is = takes c.state c.is; same = c.same }
+taken before after event events whole takes c = record { state = after_event c.state event; is = takes c.state c.is; same = c.same }
 
 -- one more
 pub one_taken : (before after : Page) (events : List TimedEvent) (i : ℕ) (event : TimedEvent) (whole : PageState) →
     drop i events ≡ event ∷ drop (i + 1) events →
-    ((s : PageState) → IsPage before s → IsPage after (after_event s event.event)) → ComesTo before (drop i events) whole →
+    ((s : PageState) → IsPage before s → IsPage after (after_event s event)) → ComesTo before (drop i events) whole →
     ComesTo after (drop (i + 1) events) whole
 one_taken before after events i event whole left takes c =
     taken before after event (drop (i + 1) events) whole takes (subst (λ (es : List TimedEvent). ComesTo before es whole) left c)

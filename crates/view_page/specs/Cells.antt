@@ -5,7 +5,7 @@ use Rattle.events.specs.declared.fault_kind.FaultSource.{FaultSource}
 use Rattle.events.specs.declared.fault_kind.FaultSource.TheVariants as sources
 use Rattle.events.specs.FileForms.{words}
 use Rattle.events.specs.Checks.{name_of, number_of}
-use Rattle.page_charts.specs.Numbers.{tenths}
+use Rattle.page_charts.specs.Numbers.{grouped, tenths}
 use Rattle.page_charts.specs.PidLabels.{LabelsState, label_text}
 use Rattle.view_page.specs.declared.cells.CellUnit.{CellUnit}
 use Rattle.view_page.specs.declared.cells.CellUnit.TheVariants.{Same, Ticks}
@@ -84,7 +84,7 @@ is_over value (Some limit) = nat_lt limit value
 
 -- ticks of 27 MHz as ms
 unfoldable pub scaled : ℕ → CellUnit → List ℕ
-scaled value Same = decimal value
+scaled value Same = grouped value
 scaled value Ticks = tenths value 27000
 
 -- a number, marked where it is over its limit

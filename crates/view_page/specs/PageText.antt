@@ -1,10 +1,11 @@
 -- The text of a page.
-use Rattle.std.specs.Prelude.{ℕ, List, [], ◌∷◌, ◌++◌, codes, decimal, flat_map, length}
+use Rattle.std.specs.Prelude.{ℕ, List, [], ◌∷◌, ◌++◌, codes, decimal, flat_map, length, Option, Some, None}
 use Rattle.page_charts.specs.declared.frame.ChartUnit.{ChartUnit}
 use Rattle.page_charts.specs.declared.frame.ChartUnit.TheVariants.{BitRate, Bytes, Time}
 use Rattle.page_charts.specs.declared.pid_curves.PidCurve.{PidCurve}
 use Rattle.page_charts.specs.Charts.{chart}
 use Rattle.page_charts.specs.Frames.{frame}
+use Rattle.page_charts.specs.Numbers.{grouped}
 use Rattle.page_charts.specs.PidCurves.{greatest_value}
 use Rattle.view_page.specs.declared.page.Page.{Page}
 use Rattle.events.specs.declared.event.ReportEnd.{ReportEnd}
@@ -68,17 +69,22 @@ back_text = BACK.now
 
 -- what was read
 unfoldable pub counts : ReportEnd → List ℕ
-counts end = codes "<p>" ++ (decimal end.packets ++ (codes " packets, " ++ (decimal end.refused ++ (codes " refused, " ++ (decimal end.left
+counts end = codes "<p>" ++ (grouped end.packets ++ (codes " packets, " ++ (grouped end.refused ++ (codes " refused, " ++ (grouped end.left
     ++ codes " bytes after the last.</p>\n")))))
+
+-- by what clock bytes arrive
+unfoldable pub clock_text : Option ℕ → List ℕ
+clock_text None = codes "<p>Moments by the clock references"
+clock_text (Some rate) = codes "<p>Moments at " ++ (grouped rate ++ codes " bit/s")
 
 -- the number of windows and of viewed streams
 unfoldable pub extent : ℕ → ℕ → ℕ → List ℕ
-extent windows millis streams = codes "<p>Windows: " ++ (decimal windows ++ (codes " of " ++ (decimal millis ++ (codes " ms. Streams with buffers: "
+extent windows millis streams = codes ". Windows: " ++ (grouped windows ++ (codes " of " ++ (decimal millis ++ (codes " ms. Streams with buffers: "
     ++ (decimal streams ++ codes ".</p>\n")))))
 
 -- and what it comes to
 unfoldable pub summary : Page → List ℕ
-summary p = counts p.end ++ (extent p.values.windows p.millis (length p.rows.streams) ++ p.rows.verdict)
+summary p = counts p.end ++ (clock_text p.rate ++ (extent p.values.windows p.millis (length p.rows.streams) ++ p.rows.verdict))
 
 -- how full the buffers were, as strips on one scale of times
 unfoldable pub strips : Page → List ℕ

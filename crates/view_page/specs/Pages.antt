@@ -1,5 +1,5 @@
 -- What a page keeps of a stream, by its events and nothing else.
-use Rattle.std.specs.Prelude.{◌≡◌, ℕ, List, [], ◌∷◌}
+use Rattle.std.specs.Prelude.{◌≡◌, ℕ, List, [], ◌∷◌, Option}
 use Rattle.events.specs.declared.event.Event.{Event}
 use Rattle.events.specs.declared.timed_event.TimedEvent.{TimedEvent}
 use Rattle.events.specs.declared.event.Event.TheVariants.{Input, Stream, Window, Held, Units, Excess, MainExcess, MultiplexingExcess, ElementaryExcess}
@@ -16,9 +16,10 @@ use Rattle.view_page.specs.Rows as rows
 use Rattle.view_page.specs.Values as values
 use Rattle.view_page.specs.Values.{AreValues, KeptValues}
 
--- the length of a window in ms, the rows of tables, the curves, what PIDs carry, and the end
+-- the length of a window in ms, the given rate, the rows of tables, the curves, what PIDs carry, and the end
 pub record PageState : Type 0 where
   pub millis : ℕ
+  pub rate : Option ℕ
   pub rows : RowTexts
   pub values : KeptValues
   pub labels : LabelsState
@@ -26,14 +27,21 @@ pub record PageState : Type 0 where
 
 pub record IsPage (page : Page) (s : PageState) : Type 0 where
   pub millis : page.millis ≡ s.millis
+  pub rate : page.rate ≡ s.rate
   pub rows : page.rows ≡ s.rows
   pub values : AreValues page.values s.values
   pub labels : page.labels ≡ s.labels
   pub end : page.end ≡ s.end
 
-abbrev pub no_events : ℕ → PageState
-no_events millis =
-    record { millis = millis; rows = rows.no_rows; values = values.no_values; labels = no_labels; end = record { packets = 0; refused = 0; left = 0 } }
+abbrev pub no_events : ℕ → Option ℕ → PageState
+no_events millis rate = record {
+  millis = millis;
+  rate = rate;
+  rows = rows.no_rows;
+  values = values.no_values;
+  labels = no_labels;
+  end = record { packets = 0; refused = 0; left = 0 };
+}
 
 unfoldable pub end_after : ReportEnd → Event → ReportEnd
 end_after end (End e) = e
@@ -78,15 +86,16 @@ abbrev pub with_end : PageState → Event → PageState
 with_end s event = record s { end = end_after s.end event }
 
 -- after an event: its row has what was known before it
-abbrev pub after_event : PageState → Event → PageState
-after_event s event = record {
+abbrev pub after_event : PageState → TimedEvent → PageState
+after_event s e = record {
   millis = s.millis;
-  rows = rows.with_event s.labels s.rows event;
-  values = values.with_event s.values event;
-  labels = labels.with_event s.labels event;
-  end = end_after s.end event;
+  rate = s.rate;
+  rows = rows.with_event s.labels s.rows e;
+  values = values.with_event s.values e.event;
+  labels = labels.with_event s.labels e.event;
+  end = end_after s.end e.event;
 }
 
 unfoldable pub after_events : PageState → List TimedEvent → PageState
 after_events s [] = s
-after_events s (event ∷ events) = after_events (after_event s event.event) events
+after_events s (event ∷ events) = after_events (after_event s event) events

@@ -65,7 +65,7 @@ elementary_cells e =
 -- of the buffers of a program's tables
 abbrev pub system_cells : SystemTotals → List Cell
 system_cells e =
-    Number e.program Same ∷ Checked (short e.transport) (Some e.transport_size) Same ∷ Bar (short e.transport) (Some e.transport_size)
+    Program e.program ∷ Checked (short e.transport) (Some e.transport_size) Same ∷ Bar (short e.transport) (Some e.transport_size)
     ∷ Checked (short e.transport_excesses) (Some 0) Same ∷ Checked (short e.main) (Some e.main_size) Same
     ∷ Bar (short e.main) (Some e.main_size) ∷ Checked (short e.main_excesses) (Some 0) Same ∷ []
 

@@ -74,6 +74,11 @@ unfoldable pub moment_cell : Option ℕ → Cell
 moment_cell None = Word words.Nothing
 moment_cell (Some at) = Number (short at) Ticks
 
+-- when a fault is: from when to when
+unfoldable pub time_cells : Option Fault → List Cell
+time_cells None = Word words.Nothing ∷ Word words.Nothing ∷ []
+time_cells (Some fault) = moment_cell fault.from ∷ moment_cell fault.to ∷ []
+
 unfoldable pub value_cell : Option Measured → CellUnit → Cell
 value_cell None scale = Word words.Nothing
 value_cell (Some m) scale = Number (short m.value) scale

@@ -60,11 +60,16 @@ with_stream v e = record v {
   slacks = opened e.pid e.coding 0 v.slacks;
 }
 
--- `held`: what its buffers held in a window: two values of the main buffer
+-- of a main buffer two values; none in a window in which no payload byte came: one that comes is in the buffer
+abbrev pub with_main : KeptValues → HeldFigures → List KeptCurve
+with_main v e = if e.main == 0 then v.mains
+    else with_sample e.pid (sample e.number e.main_least) (with_sample e.pid (sample e.number e.main) v.mains)
+
+-- `held`: what its buffers held in a window
 abbrev pub with_fullness : KeptValues → HeldFigures → KeptValues
 with_fullness v e = record v {
   transports = with_sample e.pid (sample e.number (short e.transport)) v.transports;
-  mains = with_sample e.pid (sample e.number e.main_least) (with_sample e.pid (sample e.number e.main) v.mains);
+  mains = with_main v e;
 }
 
 -- a window in which no byte came says nothing: a byte that comes is in the transport buffer

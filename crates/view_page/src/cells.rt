@@ -3,7 +3,7 @@ ghost use Rattle.std.specs.Prelude.{◌≡◌, ◌++◌, OnOk, flat_map, string_
 ghost use Rattle.view_page.specs.Cells as spec;
 
 use events::{Check, FaultSource, FileForm};
-use page_charts::{PidLabels, write_label, write_tenths};
+use page_charts::{PidLabels, write_grouped, write_label, write_tenths};
 use std::alloc::AllocError;
 use std::fmt::Write;
 
@@ -175,7 +175,7 @@ fn write_scaled(text: &mut String, value: u64, unit: CellUnit) -> Result<(), All
     ensures { OnOk result (string_bytes text.new ≡ string_bytes text.old ++ spec.scaled value unit) }
 {
     match unit {
-        CellUnit::Same => write!(text, "{value}"),
+        CellUnit::Same => write_grouped(text, value),
         CellUnit::Ticks => write_tenths(text, value, 27_000),
     }
 }

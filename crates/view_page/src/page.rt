@@ -11,13 +11,15 @@ use events::{Event, ReportEnd, TimedEvent};
 use page_charts::PidLabels;
 use std::alloc::{AllocError, Global};
 
-/// A page of a stream whose windows have `millis` milliseconds, with its events so far.
+/// A page of a stream whose windows have `millis` milliseconds and whose moments go by a given rate in bits a second, or
+/// by its clock references; with its events so far.
 ///
 /// After an `AllocError` it describes no stream: drop it.
 #[derive(Drop)]
 pub struct Page {
     alloc: Global,
     pub millis: u32,
+    pub rate: Option<u64>,
     pub rows: Rows,
     pub values: Values,
     pub labels: PidLabels,
@@ -26,12 +28,13 @@ pub struct Page {
 
 impl Page {
     /// Returns the state before the first event.
-    pub fn new(alloc: Global, millis: u32) -> Page
-        ensures { IsPage result (no_events millis) }
+    pub fn new(alloc: Global, millis: u32, rate: Option<u64>) -> Page
+        ensures { IsPage result (no_events millis rate) }
     {
         Page {
             alloc,
             millis,
+            rate,
             rows: Rows::new(alloc),
             values: Values::new(alloc),
             labels: PidLabels::new(alloc),
@@ -54,13 +57,13 @@ impl Page {
     }
 
     /// Takes an event.
-    pub fn take(&mut self, event: &Event) -> Result<(), AllocError>
+    pub fn take(&mut self, event: &TimedEvent) -> Result<(), AllocError>
         ensures { (s : PageState) → IsPage self.old s → OnOk result (IsPage self.new (after_event s event.now)) }
     {
         self.rows.take(&self.labels, event)?;
-        self.values.take(event)?;
-        take_label(self.alloc, &mut self.labels, event)?;
-        self.take_end(event);
+        self.values.take(&event.event)?;
+        take_label(self.alloc, &mut self.labels, &event.event)?;
+        self.take_end(&event.event);
         Ok(())
     }
 
@@ -69,7 +72,7 @@ impl Page {
         ensures { (s : PageState) → IsPage self.old s → OnOk result (IsPage self.new (after_events s events.now)) }
     {
         for event in events {
-            self.take(&event.event)?;
+            self.take(event)?;
         }
         Ok(())
     }

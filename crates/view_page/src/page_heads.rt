@@ -53,7 +53,7 @@ const CHECKS: &str =
     "<h2 id=checks>Checks of ETSI TR 101 290</h2><p class=\"soft\">With the limits of <code>tsview</code>; packets are counted from 0.</p><div class=\"wide\"><table aria-labelledby=checks><tr><th class=word scope=col>number<th class=word scope=col>check<th scope=col>faults<th scope=col>first packet<th scope=col>last packet\n";
 
 const FAULTS: &str =
-    "</table></div><h2 id=faults>First faults</h2><p class=\"soft\">At most 100.</p><div class=\"wide tall\"><table aria-labelledby=faults><tr><th class=word scope=col>what<th scope=col>PID<th scope=col>packet<th scope=col>value<th scope=col>limit<th class=word scope=col>unit\n";
+    "</table></div><h2 id=faults>First faults</h2><p class=\"soft\">At most 100.</p><div class=\"wide tall\"><table aria-labelledby=faults><tr><th scope=col>from, ms<th scope=col>to, ms<th class=word scope=col>what<th scope=col>PID<th scope=col>packet<th scope=col>value<th scope=col>limit<th class=word scope=col>unit\n";
 
 const STREAMS: &str =
     "</table></div><h2 id=streams>Streams</h2><div class=\"wide\"><table aria-labelledby=streams><tr><th scope=col>PID<th class=word scope=col>carries<th scope=col>stream_type<th scope=col>out of the transport buffer, bit/s<th scope=col>main buffer, bytes\n";

@@ -14,7 +14,7 @@ use crate::rows::{Rows, StreamRow};
 use crate::summary_cells::kinds_text;
 use events::ReportEnd;
 use page_charts::{
-    ChartUnit, Frame, PidCurve, PidLabels, greatest_value, write_chart, write_strips,
+    ChartUnit, Frame, PidCurve, PidLabels, greatest_value, write_chart, write_grouped, write_strips,
 };
 use std::alloc::AllocError;
 use std::fmt::Write;
@@ -25,15 +25,28 @@ use std::slice;
 fn write_counts(text: &mut String, end: ReportEnd) -> Result<(), AllocError>
     ensures { OnOk result (string_bytes text.new ≡ string_bytes text.old ++ spec.counts end) }
 {
-    let ReportEnd {
-        packets,
-        refused,
-        left,
-    } = end;
-    write!(
-        text,
-        "<p>{packets} packets, {refused} refused, {left} bytes after the last.</p>\n"
-    )
+    text.push_str("<p>")?;
+    write_grouped(text, end.packets)?;
+    text.push_str(" packets, ")?;
+    write_grouped(text, end.refused)?;
+    text.push_str(" refused, ")?;
+    write_grouped(text, end.left)?;
+    text.push_str(" bytes after the last.</p>\n")
+}
+
+// By what clock bytes arrive.
+#[tactic(auto, unfolding(crate::specs::PageText::clock_text))]
+fn write_clock(text: &mut String, rate: Option<u64>) -> Result<(), AllocError>
+    ensures { OnOk result (string_bytes text.new ≡ string_bytes text.old ++ spec.clock_text rate) }
+{
+    match rate {
+        None => text.push_str("<p>Moments by the clock references"),
+        Some(rate) => {
+            text.push_str("<p>Moments at ")?;
+            write_grouped(text, rate)?;
+            text.push_str(" bit/s")
+        }
+    }
 }
 
 // How many windows there are, and how many streams are viewed.
@@ -46,9 +59,11 @@ fn write_extent(
 ) -> Result<(), AllocError>
     ensures { OnOk result (string_bytes text.new ≡ string_bytes text.old ++ spec.extent windows millis streams) }
 {
+    text.push_str(". Windows: ")?;
+    write_grouped(text, windows)?;
     write!(
         text,
-        "<p>Windows: {windows} of {millis} ms. Streams with buffers: {streams}.</p>\n"
+        " of {millis} ms. Streams with buffers: {streams}.</p>\n"
     )
 }
 
@@ -58,6 +73,7 @@ fn write_summary(text: &mut String, page: &Page) -> Result<(), AllocError>
     ensures { OnOk result (string_bytes text.new ≡ string_bytes text.old ++ spec.summary page.now) }
 {
     write_counts(text, page.end)?;
+    write_clock(text, page.rate)?;
     write_extent(
         text,
         page.values.windows,

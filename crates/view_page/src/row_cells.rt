@@ -98,7 +98,7 @@ pub(crate) fn system_cells(e: &SystemTotals) -> [Cell; 7]
     ensures { result ≡ spec.system_cells e.now }
 {
     [
-        Cell::Number(u64::from(e.program), CellUnit::Same),
+        Cell::Program(e.program),
         Cell::Checked(short(e.transport), Some(e.transport_size), CellUnit::Same),
         Cell::Bar(short(e.transport), Some(e.transport_size)),
         Cell::Checked(short(e.transport_excesses), Some(0), CellUnit::Same),

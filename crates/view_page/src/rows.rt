@@ -1,5 +1,5 @@
 //! The rows of the page's tables, as the events come.
-ghost use Rattle.std.specs.Prelude.{◌≡◌, ◌++◌, OnOk};
+ghost use Rattle.std.specs.Prelude.{◌≡◌, ◌++◌, OnOk, string_bytes};
 ghost use Rattle.view_page.specs.Rows as spec;
 
 use crate::cells::{Cell, CellWord, write_cells, write_row};
@@ -14,8 +14,8 @@ use crate::row_cells::{
     refused_cells, stream_cells, system_cells, table_cells, table_fault_cells, transport_cells,
     unclocked_cells,
 };
-use crate::summary_cells::{fault_cells, totals_cells, write_sentence};
-use events::{Event, Fault, InputEvent, StreamBegin, SummaryEvent, Verdict, fault_of};
+use crate::summary_cells::{fault_cells, time_cells, totals_cells, write_sentence};
+use events::{Event, Fault, InputEvent, StreamBegin, SummaryEvent, TimedEvent, Verdict, fault_of};
 use page_charts::PidLabels;
 use std::alloc::{AllocError, Global};
 use std::marker::Model;
@@ -105,13 +105,18 @@ impl Rows {
     }
 
     // A fault, with a row if it is one of the first.
-    fn take_fault(&mut self, labels: &PidLabels, cells: &[Cell]) -> Result<(), AllocError>
-        ensures { OnOk result (self.new ≡ spec.with_fault labels.now self.old cells.now) }
+    fn take_fault(
+        &mut self,
+        labels: &PidLabels,
+        fault: &Option<Fault>,
+        cells: &[Cell],
+    ) -> Result<(), AllocError>
+        ensures { OnOk result (self.new ≡ spec.with_fault labels.now fault.now self.old cells.now) }
     {
         let count = self.count;
         self.count = count.saturating_add(1);
         if count < MOST_FAULTS {
-            write_row(&mut self.faults, labels, cells)
+            write_fault_row(&mut self.faults, labels, fault, cells)
         } else {
             Ok(())
         }
@@ -124,7 +129,7 @@ impl Rows {
     {
         match fault {
             None => Ok(()),
-            Some(fault) => self.take_fault(labels, &fault_cells(fault)),
+            Some(known) => self.take_fault(labels, fault, &fault_cells(known)),
         }
     }
 
@@ -155,61 +160,92 @@ impl Rows {
 
     // A fault, if an event is one.
     #[tactic(auto, unfolding(crate::specs::Rows::with_fault_event))]
-    fn take_faults(&mut self, labels: &PidLabels, event: &Event) -> Result<(), AllocError>
-        ensures { OnOk result (self.new ≡ spec.with_fault_event labels.now self.old event.now) }
+    fn take_faults(
+        &mut self,
+        labels: &PidLabels,
+        fault: &Option<Fault>,
+        event: &Event,
+    ) -> Result<(), AllocError>
+        ensures { OnOk result (self.new ≡ spec.with_fault_event labels.now fault.now self.old event.now) }
     {
         match event {
             Event::Excess(e) => self.take_fault(
                 labels,
+                fault,
                 &excess_cells(CellWord::TransportExcess, e),
             ),
-            Event::MainExcess(e) => self.take_fault(labels, &excess_cells(CellWord::MainExcess, e)),
+            Event::MainExcess(e) => self.take_fault(
+                labels,
+                fault,
+                &excess_cells(CellWord::MainExcess, e),
+            ),
             Event::MultiplexingExcess(e) => {
-                self.take_fault(labels, &excess_cells(CellWord::MultiplexingExcess, e))
+                self.take_fault(
+                    labels,
+                    fault,
+                    &excess_cells(CellWord::MultiplexingExcess, e),
+                )
             }
             Event::ElementaryExcess(e) => {
-                self.take_fault(labels, &excess_cells(CellWord::ElementaryExcess, e))
+                self.take_fault(labels, fault, &excess_cells(CellWord::ElementaryExcess, e))
             }
             Event::SystemExcess(e) => {
-                self.take_fault(labels, &program_excess_cells(CellWord::SystemExcess, e))
+                self.take_fault(
+                    labels,
+                    fault,
+                    &program_excess_cells(CellWord::SystemExcess, e),
+                )
             }
             Event::SystemMainExcess(e) => {
-                self.take_fault(labels, &program_excess_cells(CellWord::SystemMainExcess, e))
+                self.take_fault(
+                    labels,
+                    fault,
+                    &program_excess_cells(CellWord::SystemMainExcess, e),
+                )
             }
-            Event::Late(e) => self.take_fault(labels, &late_cells(e)),
-            Event::ElementaryLate(e) => self.take_fault(labels, &elementary_late_cells(e)),
-            Event::Ahead(e) => self.take_fault(labels, &ahead_cells(e)),
+            Event::Late(e) => self.take_fault(labels, fault, &late_cells(e)),
+            Event::ElementaryLate(e) => self.take_fault(labels, fault, &elementary_late_cells(e)),
+            Event::Ahead(e) => self.take_fault(labels, fault, &ahead_cells(e)),
             Event::PcrRepetition(e) => {
-                self.take_fault(labels, &clock_time_cells(CellWord::PcrRepetition, e))
+                self.take_fault(labels, fault, &clock_time_cells(CellWord::PcrRepetition, e))
             }
             Event::PcrDiscontinuity(e) => {
-                self.take_fault(labels, &clock_time_cells(CellWord::PcrDiscontinuity, e))
+                self.take_fault(
+                    labels,
+                    fault,
+                    &clock_time_cells(CellWord::PcrDiscontinuity, e),
+                )
             }
-            Event::PcrAccuracy(e) => self.take_fault(labels, &clock_place_cells(e)),
-            Event::TableRepetition(e) => self.take_fault(labels, &table_fault_cells(e)),
-            Event::Unclocked(e) => self.take_fault(labels, &unclocked_cells(e)),
-            Event::Refused(e) => self.take_fault(labels, &refused_cells(e)),
-            Event::Continuity(e) => self.take_fault(labels, &continuity_cells(e)),
-            Event::CheckWord(e) => self.take_fault(labels, &check_word_cells(e)),
-            Event::Rule(_) => self.take_rule(labels, &fault_of(event, None)),
+            Event::PcrAccuracy(e) => self.take_fault(labels, fault, &clock_place_cells(e)),
+            Event::TableRepetition(e) => self.take_fault(labels, fault, &table_fault_cells(e)),
+            Event::Unclocked(e) => self.take_fault(labels, fault, &unclocked_cells(e)),
+            Event::Refused(e) => self.take_fault(labels, fault, &refused_cells(e)),
+            Event::Continuity(e) => self.take_fault(labels, fault, &continuity_cells(e)),
+            Event::CheckWord(e) => self.take_fault(labels, fault, &check_word_cells(e)),
+            Event::Rule(_) => self.take_rule(labels, fault),
             _ => Ok(()),
         }
     }
 
     // How the bytes of the input are packets.
     #[tactic(auto, unfolding(crate::specs::Rows::with_input))]
-    fn take_input(&mut self, labels: &PidLabels, event: &InputEvent) -> Result<(), AllocError>
-        ensures { OnOk result (self.new ≡ spec.with_input labels.now self.old event.now) }
+    fn take_input(
+        &mut self,
+        labels: &PidLabels,
+        fault: &Option<Fault>,
+        event: &InputEvent,
+    ) -> Result<(), AllocError>
+        ensures { OnOk result (self.new ≡ spec.with_input labels.now fault.now self.old event.now) }
     {
         match event {
-            InputEvent::Slip(e) => self.take_fault(labels, &slip_cells(e)),
+            InputEvent::Slip(e) => self.take_fault(labels, fault, &slip_cells(e)),
             InputEvent::PacketSize(size) => {
                 write_row(&mut self.apart, labels, &packet_size_cells(*size))
             }
-            InputEvent::Empty => self.take_fault(labels, &empty_cells()),
-            InputEvent::NoStream(form) => self.take_fault(labels, &no_stream_cells(*form)),
-            InputEvent::OtherRate(e) => self.take_fault(labels, &other_rate_cells(e)),
-            InputEvent::Rest(e) => self.take_fault(labels, &rest_cells(e)),
+            InputEvent::Empty => self.take_fault(labels, fault, &empty_cells()),
+            InputEvent::NoStream(form) => self.take_fault(labels, fault, &no_stream_cells(*form)),
+            InputEvent::OtherRate(e) => self.take_fault(labels, fault, &other_rate_cells(e)),
+            InputEvent::Rest(e) => self.take_fault(labels, fault, &rest_cells(e)),
         }
     }
 
@@ -233,13 +269,18 @@ impl Rows {
         write_row(&mut self.buffers, labels, cells)
     }
 
-    /// Takes an event, with what PIDs carry.
-    #[tactic(auto, unfolding(crate::specs::Rows::with_event))]
-    pub fn take(&mut self, labels: &PidLabels, event: &Event) -> Result<(), AllocError>
-        ensures { OnOk result (self.new ≡ spec.with_event labels.now self.old event.now) }
+    // An event, with the fault that it says there is.
+    #[tactic(auto, unfolding(crate::specs::Rows::with_kind))]
+    fn take_kind(
+        &mut self,
+        labels: &PidLabels,
+        fault: &Option<Fault>,
+        event: &Event,
+    ) -> Result<(), AllocError>
+        ensures { OnOk result (self.new ≡ spec.with_kind labels.now fault.now self.old event.now) }
     {
         match event {
-            Event::Input(event) => self.take_input(labels, event),
+            Event::Input(event) => self.take_input(labels, fault, event),
             Event::Stream(stream) => self.take_stream(labels, stream),
             Event::Transport(e) => self.take_buffer(labels, &transport_cells(e)),
             Event::Main(e) => self.take_buffer(labels, &main_cells(e)),
@@ -266,7 +307,30 @@ impl Rows {
             }
             Event::Check(e) => write_row(&mut self.checks, labels, &check_cells(e)),
             Event::Summary(e) => self.take_summary(labels, e),
-            _ => self.take_faults(labels, event),
+            _ => self.take_faults(labels, fault, event),
         }
     }
+
+    /// Takes an event, with what PIDs carry.
+    pub fn take(&mut self, labels: &PidLabels, event: &TimedEvent) -> Result<(), AllocError>
+        ensures { OnOk result (self.new ≡ spec.with_event labels.now self.old event.now) }
+    {
+        let fault = fault_of(&event.event, event.at);
+        self.take_kind(labels, &fault, &event.event)
+    }
+}
+
+// Appends the row of a fault: when it is, and its cells.
+fn write_fault_row(
+    text: &mut String,
+    labels: &PidLabels,
+    fault: &Option<Fault>,
+    cells: &[Cell],
+) -> Result<(), AllocError>
+    ensures { OnOk result (string_bytes text.new ≡ string_bytes text.old ++ spec.fault_row labels.now fault.now cells.now) }
+{
+    text.push_str("<tr>")?;
+    write_cells(text, labels, &time_cells(fault))?;
+    write_cells(text, labels, cells)?;
+    text.push_str("\n")
 }

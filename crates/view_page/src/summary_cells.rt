@@ -121,6 +121,17 @@ fn moment_cell(at: Option<u128>) -> Cell
     }
 }
 
+/// Returns the cells of when a fault is: from when to when, as far as that is known.
+#[tactic(auto, unfolding(crate::specs::SummaryCells::time_cells))]
+pub(crate) fn time_cells(fault: &Option<Fault>) -> [Cell; 2]
+    ensures { result ≡ spec.time_cells fault.now }
+{
+    match fault {
+        None => [Cell::Word(CellWord::Nothing), Cell::Word(CellWord::Nothing)],
+        Some(fault) => [moment_cell(fault.from), moment_cell(fault.to)],
+    }
+}
+
 // A measured value, if there is one.
 #[tactic(auto, unfolding(crate::specs::SummaryCells::value_cell))]
 fn value_cell(measured: Option<Measured>, scale: CellUnit) -> Cell

@@ -71,7 +71,7 @@ impl Values {
         self.slacks.open(pid, name, 0)
     }
 
-    // `held`: what its buffers held, if a byte came.
+    // `held`: what its buffers held, if a byte came; of the main buffer, if a payload byte came.
     fn take_held(&mut self, held: &HeldFigures) -> Result<(), AllocError>
         ensures { (kept : KeptValues) → AreValues self.old kept →
             OnOk result (AreValues self.new (spec.with_held kept held.now)) }
@@ -82,6 +82,9 @@ impl Values {
         let pid = held.pid;
         let number = held.number;
         self.transports.take(pid, number, short(held.transport))?;
+        if held.main == 0 {
+            return Ok(());
+        }
         self.mains.take(pid, number, held.main)?;
         self.mains.take(pid, number, held.main_least)
     }

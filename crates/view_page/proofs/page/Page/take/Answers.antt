@@ -8,16 +8,18 @@ use Rattle.view_page.proofs.page.Page.take.Goals as goal
 
 pub returns : goal.returns
 returns c = λ s is.
-    let event = c.args.event.now in
+    let event = c.args.event.now.event in
     let between : PageState = record {
       millis = s.millis;
-      rows = rows.with_event s.labels s.rows event;
+      rate = s.rate;
+      rows = rows.with_event s.labels s.rows c.args.event.now;
       values = values.with_event s.values event;
       labels = labels.with_event s.labels event;
       end = s.end;
     } in
     let page : IsPage (record c.args.self.now { rows = c.take.new.self; values = c.take-2.new.self; labels = c.take_label.new.labels }) between = record {
       millis = is.millis;
+      rate = is.rate;
       rows = c.in_ok-take.ensures ∙ cc (is.labels, is.rows);
       values = c.in_ok-take-2.ensures s.values is.values;
       labels = c.in_ok-take_label.ensures ∙ ap (λ (l : LabelsState). labels.with_event l event) is.labels;
