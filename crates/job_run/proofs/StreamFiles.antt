@@ -28,7 +28,6 @@ use Rattle.job_run.specs.RefusalLine.{refusal_line}
 use Rattle.job_run.specs.SlipLines.{packets_line}
 use Rattle.stream_jobs.specs.Answers.{Answers, Refuses}
 use Rattle.data_times.specs.DataTimes.{timed, times_of}
-use Rattle.data_times.specs.References.{references_in}
 use Rattle.data_times.specs.declared.references.ClockReference.{ClockReference}
 use Rattle.stream_jobs.specs.AskedMarks.{as_asked}
 use Rattle.stream_jobs.specs.JobOptions.{JobOptionsView}
@@ -45,7 +44,8 @@ use Rattle.job_run.specs.SeveralInputs.{GivesIn, InputsLead, JoinedLead, NamedSt
 use Rattle.job_run.specs.SeveralInputs.{packets_input, stream_input, stream_inputs, streams_lines, under, with_first}
 use Rattle.job_run.specs.StreamFiles.{AreNamedInputs, AreTaken, EndsAt, FilesLead, HasRead, IsInput, IsInputIn, IsInputOf, IsLedTo, IsNamedInput, IsRefusalOf}
 use Rattle.job_run.specs.StreamFiles.{IsTakenFrom, IsTakenOf, JoinedLeads, TakenLead, TakenView, read_line, stopped_by, taken_lines, told_under}
-use Rattle.job_run.specs.Streams.{IsOfStream, IsRead, PacketNotesView, ReadingView, asked_findings, findings_for, notes_for, timed_notes}
+use Rattle.job_run.specs.Streams.{IsOfStream, IsRead, PacketNotesView, ReadingView, asked_findings, findings_for, notes_for, parts_by, parts_for}
+use Rattle.job_run.specs.Streams.{references_by, references_for, timed_notes}
 
 -- 1. One stream
 
@@ -100,17 +100,24 @@ of_bytes a bytes (Err o) none is = record {
 }
 
 pub carried_is_input : (a : JobArgumentsView) (bytes : List ℕ) (notes said : PacketNotesView) (references : List ClockReference) (size : ℕ)
-    (at_times marked findings found : List FindingView) (w : JobOptionsView) (r : Result TakenView Outcome) →
+    (later : List ClockReference) (at_times parts marked findings found : List FindingView) (w : JobOptionsView) (r : Result TakenView Outcome) →
     IsOfStream bytes notes references found size → findings ≡ found → other_packets bytes ≡ None → w ≡ a.options → marked ≡ as_asked w findings →
-    said ≡ timed_notes (times_of references marked) notes → at_times ≡ timed references marked → IsInputOf a said (size / 188) at_times r → IsInput a bytes r
-carried_is_input a bytes notes said references size at_times marked findings found w r of same none asked marks told times is =
+    later ≡ references_by w.joined references marked → parts ≡ parts_by w.joined references marked →
+    said ≡ timed_notes (times_of later parts) notes → at_times ≡ timed later parts → IsInputOf a said (size / 188) at_times r → IsInput a bytes r
+carried_is_input a bytes notes said references size later at_times parts marked findings found w r of same none asked marks later_is parts_are told times is =
     let asked_are : marked ≡ asked_findings a.options bytes =
     marks ∙ ap (λ (x : JobOptionsView). as_asked x findings) asked ∙ ap (λ (x : List FindingView). as_asked a.options x) (same ∙ of.found_is) in
+    let references_are : later ≡ references_for a.options bytes =
+    later_is ∙ ap (λ (x : JobOptionsView). references_by x.joined references marked) asked
+    ∙ ap₂ (λ (r : List ClockReference) (x : List FindingView). references_by a.options.joined r x) of.references_are asked_are in
+    let all_parts : parts ≡ parts_for a.options bytes =
+    parts_are ∙ ap (λ (x : JobOptionsView). parts_by x.joined references marked) asked
+    ∙ ap₂ (λ (r : List ClockReference) (x : List FindingView). parts_by a.options.joined r x) of.references_are asked_are in
     let all : at_times ≡ findings_for a.options bytes =
-    times ∙ ap₂ (λ (r : List ClockReference) (x : List FindingView). timed r x) of.references_are asked_are in
+    times ∙ ap₂ (λ (r : List ClockReference) (x : List FindingView). timed r x) references_are all_parts in
     let notes_are : said ≡ notes_for a.options bytes =
-    told ∙ ap₂ (λ (r : List ClockReference) (x : List FindingView). timed_notes (times_of r x) notes) of.references_are asked_are
-    ∙ ap (λ (n : PacketNotesView). timed_notes (times_of (references_in (carried bytes)) (asked_findings a.options bytes)) n) of.notes_are in
+    told ∙ ap₂ (λ (r : List ClockReference) (x : List FindingView). timed_notes (times_of r x) notes) references_are all_parts
+    ∙ ap (λ (n : PacketNotesView). timed_notes (times_of (references_for a.options bytes) (parts_for a.options bytes)) n) of.notes_are in
     of_bytes a bytes r none
     (subst (λ (x : PacketNotesView). IsInputOf a x (length (carried bytes) / 188) (findings_for a.options bytes) r) notes_are
     (subst (λ (x : List FindingView). IsInputOf a said (length (carried bytes) / 188) x r) all

@@ -25,7 +25,7 @@ use crate::reason_output::reason_output;
 use crate::refusal_line::write_refusal;
 use crate::slip_lines::{write_packets, write_slips};
 use crate::table_lines::{are_missed, told_tables, write_other_tables};
-use crate::timed_text::timed_stream;
+use crate::timed_text::{joined_stream, timed_stream};
 use crate::warning_lines::{is_damaged, told_warnings, write_warnings};
 use demux::Finding;
 use other_tables::{OtherTable, other_tables};
@@ -377,8 +377,10 @@ fn carried_outcome(
         size,
     } = stream.end()?;
     let count = size as u64 / 188;
-    let marked = mark_as_asked(alloc, &arguments.options(), demux.into_findings())?;
-    let (notes, findings) = timed_stream(alloc, references, notes, marked)?;
+    let options = arguments.options();
+    let marked = mark_as_asked(alloc, &options, demux.into_findings())?;
+    let (references, parts) = joined_stream(alloc, &options, references, marked)?;
+    let (notes, findings) = timed_stream(alloc, references, notes, parts)?;
     let outcome = findings_outcome(alloc, arguments, &notes, count, findings)?;
     Ok(outcome)
 }

@@ -15,7 +15,7 @@ use crate::input_lines::write_input;
 use crate::job_arguments::JobArguments;
 use crate::outcome::{JobOutcome, only_text, packets_outcome, refused_outcome, told_of};
 use crate::reading::{StreamReading, read_stream};
-use crate::timed_text::timed_stream;
+use crate::timed_text::{joined_stream, timed_stream};
 use demux::Finding;
 use devices::{Halt, NamedFiles};
 use other_tables::{OtherTable, other_tables};
@@ -94,8 +94,10 @@ fn carried_input(
         size,
     } = stream.end()?;
     let count = size as u64 / 188;
-    let marked = mark_as_asked(alloc, &arguments.options(), demux.into_findings())?;
-    let (notes, findings) = timed_stream(alloc, references, notes, marked)?;
+    let options = arguments.options();
+    let marked = mark_as_asked(alloc, &options, demux.into_findings())?;
+    let (references, parts) = joined_stream(alloc, &options, references, marked)?;
+    let (notes, findings) = timed_stream(alloc, references, notes, parts)?;
     let taken = taken_or_refused(alloc, arguments, &notes, count, findings)?;
     Ok(taken)
 }

@@ -1,4 +1,5 @@
-//! Teletext without stamps in a stream that was read: its findings with their moments, and what is said of its packets.
+//! What a job is made of in a stream that was read: if it was joined from several, its parts one after another;
+//! teletext without stamps with its moments, and what is said of its packets.
 
 ghost use Rattle.std.specs.Prelude.{◌≡◌, IfOk, filter, map};
 ghost use Rattle.data_times.specs.DataTimes as text;
@@ -8,8 +9,10 @@ ghost use Rattle.job_run.specs.Streams as spec;
 use crate::carried_stream::PacketNotes;
 use data_times::{ClockReference, TextTimes, text_times};
 use demux::Finding;
+use joined_parts::part_joins;
 use packet_sync::{Field, FieldLeftOut};
 use std::alloc::{AllocError, Global};
+use stream_jobs::JobOptions;
 
 // Whether it is a field of PES headers that each unit has.
 #[tactic(auto, unfolding(crate::specs::Streams::is_of_unit))]
@@ -47,6 +50,30 @@ fn timed_notes(times: &TextTimes, notes: PacketNotes) -> PacketNotes
     let PacketNotes { slips, fields } = notes;
     let fields = unwritten(times, fields);
     PacketNotes { slips, fields }
+}
+
+/// Returns the clock references and the findings of a stream; if it was joined from several and that is asked for,
+/// those of its parts one after another.
+#[tactic(auto, unfolding(crate::specs::Streams::references_by, crate::specs::Streams::parts_by))]
+pub(crate) fn joined_stream(
+    alloc: Global,
+    options: &JobOptions<'_>,
+    references: Vec<ClockReference>,
+    findings: Vec<Finding<'static>>,
+) -> Result<(Vec<ClockReference>, Vec<Finding<'static>>), AllocError>
+    ensures references { IfOk result (λ parts. parts.0.items
+        ≡ spec.references_by options.now.joined references.items (map finding_view findings.entry.items)) }
+    ensures findings { IfOk result (λ parts. map finding_view parts.1.items
+        ≡ spec.parts_by options.now.joined references.items (map finding_view findings.entry.items)) }
+{
+    if !options.joined {
+        return Ok((references, findings));
+    }
+    let joins = part_joins(alloc, &references, &findings)?;
+    let references = joins.moved_references(alloc, &references)?;
+    let mut findings = findings;
+    joins.move_findings(&mut findings);
+    Ok((references, findings))
 }
 
 /// Returns what is said of the packets of a stream with these clock references, and its findings, each PES packet of

@@ -60,6 +60,8 @@ pub record AreAlike (a : JobArgumentsView) (w : JobOptionsView) (d : Described) 
   pub pids : map (λ s. s.pid) d.streams ≡ map (λ t. t.pid) input.streams
   -- the DTS are the stream's own, and the programs of the streams are on one clock
   pub own : a.options.make_dts ≡ false
+  -- no parts are joined
+  pub unjoined : a.options.joined ≡ false
   pub clock : ProgramClock
   pub one_clock : All (λ t. clock_of input.programs t ≡ clock) input.streams
   -- each unit is one PES packet that nothing interrupts

@@ -93,7 +93,7 @@ pub const START: OptionRow = OptionRow {
     name: "start",
     value: ValueKind::Moment,
     form: "YYYY-MM-DDThh:mm:ss",
-    unit: "",
+    unit: "the years 1970 to 2037",
     apart: "",
     help: "the moment of the first packet",
 };
@@ -136,6 +136,16 @@ pub const MAKE_DTS: OptionRow = OptionRow {
     unit: "",
     apart: "",
     help: "DTS are made from PTS",
+};
+
+/// Whether the parts of a recording that was joined from several come one after another.
+pub const JOINED: OptionRow = OptionRow {
+    name: "joined",
+    value: ValueKind::Flag,
+    form: "",
+    unit: "",
+    apart: "",
+    help: "a recording that was joined from several: its parts come one after another",
 };
 
 /// Whether the units at which a decoder may begin are marked.

@@ -13,9 +13,9 @@ pub returns-then-not-is_full-clause-each : goal.returns-then-not-is_full-clause-
 returns-then-not-is_full-clause-each g c =
     let all : List Entry = failing c.args.description.now c.args.plan.now in
     let counted : c.len.result ≡ length c.windows.found.items = search rules in
-    let pushed : c.extend_from_slice.new.self.items ≡ c.windows.found.items ++ c.failing_from.result.items = search rules in
-    let short : length c.failing_from.result.items < 1024 = search rules in
-    rw pushed (all_found all c.windows.found.items c.failing_from.result.items c.windows.invariant 1024 (rw counted at c.failing_from.ensures) short)
+    let pushed : c.extend_from_slice.new.self.items ≡ c.windows.found.items ++ c.failing_from-more.result.items = search rules in
+    let short : length c.failing_from-more.result.items < 1024 = search rules in
+    rw pushed (all_found all c.windows.found.items c.failing_from-more.result.items c.windows.invariant 1024 (rw counted at c.failing_from-more.ensures) short)
 
 pub returns-then-not-is_full-clause-first : goal.returns-then-not-is_full-clause-first
 returns-then-not-is_full-clause-first g c =
@@ -25,14 +25,14 @@ pub windows-smaller : goal.windows-smaller
 windows-smaller g c =
     let all : List Entry = failing c.args.description.now c.args.plan.now in
     let counted : c.len.result ≡ length c.windows.found.items = search rules in
-    let pushed : c.extend_from_slice.new.self.items ≡ c.windows.found.items ++ c.failing_from.result.items = search rules in
-    let full : length c.failing_from.result.items ≡ 1024 = search rules in
+    let pushed : c.extend_from_slice.new.self.items ≡ c.windows.found.items ++ c.failing_from-more.result.items = search rules in
+    let full : length c.failing_from-more.result.items ≡ 1024 = search rules in
     rw pushed
-    (fewer_left all c.windows.found.items c.failing_from.result.items c.windows.invariant 1024 (rw counted at c.failing_from.ensures) full (omega arith))
+    (fewer_left all c.windows.found.items c.failing_from-more.result.items c.windows.invariant 1024 (rw counted at c.failing_from-more.ensures) full (omega arith))
 
 pub windows-preserved : goal.windows-preserved
 windows-preserved g c =
     let all : List Entry = failing c.args.description.now c.args.plan.now in
     let counted : c.len.result ≡ length c.windows.found.items = search rules in
-    let pushed : c.extend_from_slice.new.self.items ≡ c.windows.found.items ++ c.failing_from.result.items = search rules in
-    rw pushed (more_found all c.windows.found.items c.failing_from.result.items c.windows.invariant 1024 (rw counted at c.failing_from.ensures))
+    let pushed : c.extend_from_slice.new.self.items ≡ c.windows.found.items ++ c.failing_from-more.result.items = search rules in
+    rw pushed (more_found all c.windows.found.items c.failing_from-more.result.items c.windows.invariant 1024 (rw counted at c.failing_from-more.ensures))

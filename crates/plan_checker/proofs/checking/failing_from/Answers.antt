@@ -9,4 +9,4 @@ pub returns : goal.returns
 returns g c =
     let asked = asked_entries c.args.description.now c.args.plan.now in
     ap (λ (s : Search). s.found) (c.search_conditions.ensures ∙ ap (λ (s : Search). after s asked) c.new-search.ensures)
-    ∙ found_from asked c.args.number _ ∙ ap (λ (es : List Entry). take _ (drop c.args.number es)) (asked_fail c.args.description.now c.args.plan.now)
+    ∙ found_from asked c.args.number 1024 ∙ ap (λ (es : List Entry). take 1024 (drop c.args.number es)) (asked_fail c.args.description.now c.args.plan.now)
