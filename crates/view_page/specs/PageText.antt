@@ -72,10 +72,13 @@ unfoldable pub counts : ReportEnd → List ℕ
 counts end = codes "<p>" ++ (grouped end.packets ++ (codes " packets, " ++ (grouped end.refused ++ (codes " refused, " ++ (grouped end.left
     ++ codes " bytes after the last.</p>\n")))))
 
--- by what clock bytes arrive
+-- by what clock bytes arrive: a given rate, or the clock references
+unfoldable pub rate_text : ℕ → List ℕ
+rate_text rate = codes "<p>Moments at " ++ (grouped rate ++ codes " bit/s")
+
 unfoldable pub clock_text : Option ℕ → List ℕ
 clock_text None = codes "<p>Moments by the clock references"
-clock_text (Some rate) = codes "<p>Moments at " ++ (grouped rate ++ codes " bit/s")
+clock_text (Some rate) = rate_text rate
 
 -- the number of windows and of viewed streams
 unfoldable pub extent : ℕ → ℕ → ℕ → List ℕ

@@ -34,6 +34,16 @@ fn write_counts(text: &mut String, end: ReportEnd) -> Result<(), AllocError>
     text.push_str(" bytes after the last.</p>\n")
 }
 
+// By a given rate.
+#[tactic(auto, unfolding(crate::specs::PageText::rate_text))]
+fn write_rate(text: &mut String, rate: u64) -> Result<(), AllocError>
+    ensures { OnOk result (string_bytes text.new ≡ string_bytes text.old ++ spec.rate_text rate) }
+{
+    text.push_str("<p>Moments at ")?;
+    write_grouped(text, rate)?;
+    text.push_str(" bit/s")
+}
+
 // By what clock bytes arrive.
 #[tactic(auto, unfolding(crate::specs::PageText::clock_text))]
 fn write_clock(text: &mut String, rate: Option<u64>) -> Result<(), AllocError>
@@ -41,11 +51,7 @@ fn write_clock(text: &mut String, rate: Option<u64>) -> Result<(), AllocError>
 {
     match rate {
         None => text.push_str("<p>Moments by the clock references"),
-        Some(rate) => {
-            text.push_str("<p>Moments at ")?;
-            write_grouped(text, rate)?;
-            text.push_str(" bit/s")
-        }
+        Some(rate) => write_rate(text, rate),
     }
 }
 
