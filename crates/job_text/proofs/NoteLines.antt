@@ -1,5 +1,6 @@
 -- What stands beside a number is a comment, and ends its line.
-use Rattle.std.proofs.Common.{◌≡◌, ℕ, zero, suc, ◌+◌, ◌/◌, ◌%◌, ◌*◌, ◌==◌, ◌≤◌, nat_le, nat_lt, Bool, true, false, List, [], ◌∷◌, ◌++◌, ◌||◌, length, map, codes, decimal}
+use Rattle.std.proofs.Common.{◌≡◌, ℕ, zero, suc, ◌+◌, ◌/◌, ◌%◌, ◌*◌, ◌==◌, ◌≤◌, nat_le, nat_lt, Bool, true, false, List, [], ◌∷◌, ◌++◌, ◌||◌, if◌then◌else◌}
+use Rattle.std.proofs.Common.{length, map, codes, decimal}
 use Rattle.std.proofs.Common.{refl, sym, ap, ◌∙◌, subst, arith, append_assoc, pos, negsuc, Some, inl, inr, ◌⊎◌}
 use Rattle.std.proofs.lemmas.Bool.{and_parts, and_from, cond_both, le-leb, leb-true}
 use Rattle.std.proofs.lemmas.Bool.Decides.{nat_tests}
@@ -52,37 +53,50 @@ pub decimal_shown : (n : ℕ) → Shown (decimal n)
 unfolding digits
 decimal_shown n = digits_shown 64 n [] refl
 
+three_shown : (a b c : ℕ) → Shown (decimal a ++ (decimal b ++ decimal c))
+three_shown a b c =
+    shown_both (decimal a) (decimal b ++ decimal c) (decimal_shown a) (shown_both (decimal b) (decimal c) (decimal_shown b) (decimal_shown c))
+
 group_shown : (n : ℕ) → Shown (group n)
+unfolding group
 group_shown n =
-    shown_both (codes ",") _ refl
-    (shown_both (decimal (n / 100 % 10)) _ (decimal_shown (n / 100 % 10))
-    (shown_both (decimal (n / 10 % 10)) (decimal (n % 10)) (decimal_shown (n / 10 % 10)) (decimal_shown (n % 10))))
+    shown_both (codes ",") (decimal (n / 100 % 10) ++ (decimal (n / 10 % 10) ++ decimal (n % 10))) refl (three_shown (n / 100 % 10) (n / 10 % 10) (n % 10))
 
 grouped_shown : (n : ℕ) → Shown (grouped n)
 unfolding grouped
 grouped_shown n =
-    let two = shown_both (group (n / 1_000)) (group n) (group_shown (n / 1_000)) (group_shown n) in
-    cond_both (nat_lt n 1_000) (decimal n) _ Shown (λ _. decimal_shown n) (λ _.
-    cond_both (nat_lt n 1_000_000) (decimal (n / 1_000) ++ group n) _ Shown
-    (λ _. shown_both (decimal (n / 1_000)) (group n) (decimal_shown (n / 1_000)) (group_shown n)) (λ _.
-    cond_both (nat_lt n 1_000_000_000) (decimal (n / 1_000_000) ++ (group (n / 1_000) ++ group n)) _ Shown
-    (λ _. shown_both (decimal (n / 1_000_000)) (group (n / 1_000) ++ group n) (decimal_shown (n / 1_000_000)) two) (λ _.
-    shown_both (decimal (n / 1_000_000_000)) _ (decimal_shown (n / 1_000_000_000))
-    (shown_both (group (n / 1_000_000)) (group (n / 1_000) ++ group n) (group_shown (n / 1_000_000)) two))))
+    let one = group n in
+    let two = group (n / 1_000) ++ one in
+    let three = group (n / 1_000_000) ++ two in
+    let one_is = group_shown n in
+    let two_is = shown_both (group (n / 1_000)) one (group_shown (n / 1_000)) one_is in
+    let three_is = shown_both (group (n / 1_000_000)) two (group_shown (n / 1_000_000)) two_is in
+    let thousands = decimal (n / 1_000) ++ one in
+    let millions = decimal (n / 1_000_000) ++ two in
+    let billions = decimal (n / 1_000_000_000) ++ three in
+    let thousands_are = shown_both (decimal (n / 1_000)) one (decimal_shown (n / 1_000)) one_is in
+    let millions_are = shown_both (decimal (n / 1_000_000)) two (decimal_shown (n / 1_000_000)) two_is in
+    let billions_are = shown_both (decimal (n / 1_000_000_000)) three (decimal_shown (n / 1_000_000_000)) three_is in
+    let from_millions = if nat_lt n 1_000_000_000 then millions else billions in
+    let from_thousands = if nat_lt n 1_000_000 then thousands else from_millions in
+    cond_both (nat_lt n 1_000) (decimal n) from_thousands Shown (λ _. decimal_shown n) (λ _.
+    cond_both (nat_lt n 1_000_000) thousands from_millions Shown (λ _. thousands_are) (λ _.
+    cond_both (nat_lt n 1_000_000_000) millions billions Shown (λ _. millions_are) (λ _. billions_are)))
 
 thousandths_shown : (n : ℕ) → Shown (thousandths n)
 unfolding thousandths
 thousandths_shown n =
-    cond_both (n == 0) [] _ Shown (λ _. refl) (λ _.
-    shown_both (codes ".") _ refl
-    (shown_both (decimal (n / 100 % 10)) _ (decimal_shown (n / 100 % 10))
-    (shown_both (decimal (n / 10 % 10)) (decimal (n % 10)) (decimal_shown (n / 10 % 10)) (decimal_shown (n % 10)))))
+    let digits_of = decimal (n / 100 % 10) ++ (decimal (n / 10 % 10) ++ decimal (n % 10)) in
+    cond_both (n == 0) [] (codes "." ++ digits_of) Shown (λ _. refl)
+    (λ _. shown_both (codes ".") digits_of refl (three_shown (n / 100 % 10) (n / 10 % 10) (n % 10)))
 
 quotient_shown : (whole n : ℕ) → Shown (quotient whole n)
+unfolding quotient
 quotient_shown whole n =
     shown_both (grouped (n / whole)) (thousandths (n % whole * 1_000 / whole)) (grouped_shown (n / whole)) (thousandths_shown (n % whole * 1_000 / whole))
 
 two_shown : (n : ℕ) → Shown (two_digits n)
+unfolding two_digits
 two_shown n = shown_both (decimal (n / 10 % 10)) (decimal (n % 10)) (decimal_shown (n / 10 % 10)) (decimal_shown (n % 10))
 
 stream_name_shown : (n : ℕ) → Shown (stream_type_name n)
@@ -129,16 +143,18 @@ name_note words h = cond_both (length words == 0) [] (note words) IsNote (λ _. 
 
 number_is : (m : Measure) (n : ℕ) → IsNote (number_note m n)
 number_is Plain n = inl refl
-number_is Ticks n = is_note _ (shown_both (quotient 90 n) (codes " ms") (quotient_shown 90 n) refl)
-number_is Clock n = is_note _ (shown_both (quotient 90_000 n) (codes " s") (quotient_shown 90_000 n) refl)
-number_is BitRate n = is_note _ (shown_both (grouped n) (codes " bits/s") (grouped_shown n) refl)
-number_is Bytes n = is_note _ (shown_both (grouped n) (codes " bytes") (grouped_shown n) refl)
+number_is Ticks n = is_note (quotient 90 n ++ codes " ms") (shown_both (quotient 90 n) (codes " ms") (quotient_shown 90 n) refl)
+number_is Clock n = is_note (quotient 90_000 n ++ codes " s") (shown_both (quotient 90_000 n) (codes " s") (quotient_shown 90_000 n) refl)
+number_is BitRate n = is_note (grouped n ++ codes " bits/s") (shown_both (grouped n) (codes " bits/s") (grouped_shown n) refl)
+number_is Bytes n = is_note (grouped n ++ codes " bytes") (shown_both (grouped n) (codes " bytes") (grouped_shown n) refl)
 number_is Milliseconds n = is_note (codes "ms") refl
 number_is Seconds n =
-    is_note _
-    (shown_both (decimal (n / 3_600)) _ (decimal_shown (n / 3_600))
-    (shown_both (codes ":") _ refl
-    (shown_both (two_digits (n / 60 % 60)) _ (two_shown (n / 60 % 60)) (shown_both (codes ":") (two_digits (n % 60)) refl (two_shown (n % 60))))))
+    let seconds = codes ":" ++ two_digits (n % 60) in
+    let minutes = codes ":" ++ (two_digits (n / 60 % 60) ++ seconds) in
+    let seconds_are = shown_both (codes ":") (two_digits (n % 60)) refl (two_shown (n % 60)) in
+    let minutes_are = shown_both (codes ":") (two_digits (n / 60 % 60) ++ seconds) refl
+    (shown_both (two_digits (n / 60 % 60)) seconds (two_shown (n / 60 % 60)) seconds_are) in
+    is_note (decimal (n / 3_600) ++ minutes) (shown_both (decimal (n / 3_600)) minutes (decimal_shown (n / 3_600)) minutes_are)
 number_is StreamType n = name_note (stream_type_name n) (stream_name_shown n)
 number_is ServiceType n = name_note (service_type_name n) (service_name_shown n)
 

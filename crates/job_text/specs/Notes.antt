@@ -36,7 +36,7 @@ measure_of key =
 
 -- 2. Numbers: their digits in groups of three; what is left of a whole, in thousandths, rounded down
 
-abbrev pub group : ℕ → List ℕ
+unfoldable pub group : ℕ → List ℕ
 group n = codes "," ++ (decimal (n / 100 % 10) ++ (decimal (n / 10 % 10) ++ decimal (n % 10)))
 
 unfoldable pub grouped : ℕ → List ℕ
@@ -49,10 +49,10 @@ grouped n =
 unfoldable pub thousandths : ℕ → List ℕ
 thousandths n = if n == 0 then [] else codes "." ++ (decimal (n / 100 % 10) ++ (decimal (n / 10 % 10) ++ decimal (n % 10)))
 
-abbrev pub quotient : ℕ → ℕ → List ℕ
+unfoldable pub quotient : ℕ → ℕ → List ℕ
 quotient whole n = grouped (n / whole) ++ thousandths (n % whole * 1_000 / whole)
 
-abbrev pub two_digits : ℕ → List ℕ
+unfoldable pub two_digits : ℕ → List ℕ
 two_digits n = decimal (n / 10 % 10) ++ decimal (n % 10)
 
 -- 3. Names: of stream_type (ISO/IEC 13818-1, table 2-34), of service_type (EN 300 468, table 87)

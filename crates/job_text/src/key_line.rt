@@ -39,7 +39,9 @@ pub(crate) fn write_number<A: Allocator>(
 ) -> Result<(), AllocError>
     ensures { OnOk result (string_bytes text.new ≡ string_bytes text.old ++ number_line (key.now, number)) }
 {
-    write!(text, "{key} = {number}")?;
+    text.push_str(key)?;
+    text.push_str(" = ")?;
+    write!(text, "{number}")?;
     write_note(text, measure_of(key), number)?;
     text.push_str("\n")
 }

@@ -9,6 +9,7 @@ use std::alloc::{AllocError, Allocator};
 use std::fmt::Write;
 
 // The last three digits of a number after a comma.
+#[tactic(auto, unfolding(crate::specs::Notes::group))]
 fn write_group<A: Allocator>(text: &mut String<A>, number: u64) -> Result<(), AllocError>
     ensures { OnOk result (string_bytes text.new ≡ string_bytes text.old ++ spec.group number) }
 {
@@ -58,6 +59,7 @@ fn write_thousandths<A: Allocator>(text: &mut String<A>, number: u64) -> Result<
 }
 
 // A number of parts of a whole.
+#[tactic(auto, unfolding(crate::specs::Notes::quotient))]
 fn write_quotient<A: Allocator>(
     text: &mut String<A>,
     whole: u64,
@@ -103,6 +105,7 @@ fn write_amount<A: Allocator>(
 }
 
 // Two digits.
+#[tactic(auto, unfolding(crate::specs::Notes::two_digits))]
 fn write_two_digits<A: Allocator>(text: &mut String<A>, number: u64) -> Result<(), AllocError>
     ensures { OnOk result (string_bytes text.new ≡ string_bytes text.old ++ spec.two_digits number) }
 {
@@ -115,7 +118,8 @@ fn write_duration<A: Allocator>(text: &mut String<A>, number: u64) -> Result<(),
     ensures { OnOk result (string_bytes text.new ≡ string_bytes text.old
         ++ spec.number_note Seconds number) }
 {
-    write!(text, " # {}", number / 3_600)?;
+    text.push_str(" # ")?;
+    write!(text, "{}", number / 3_600)?;
     text.push_str(":")?;
     write_two_digits(text, number / 60 % 60)?;
     text.push_str(":")?;
