@@ -82,4 +82,4 @@ unfoldable pub picture : List ℕ → Frame → LabelsState → List PidCurve �
 picture name f labels order curves = picture_head name ++ (scales_text f ++ (flat_map (curve f labels order) curves ++ codes "</svg>\n"))
 
 abbrev pub chart : List ℕ → Frame → LabelsState → List PidCurve → List PidCurve → List ℕ
-chart name f labels order curves = keys f.unit labels order curves ++ (picture name f labels order curves ++ values.table f curves)
+chart name f labels order curves = keys f.unit labels order curves ++ (picture name f labels order curves ++ values.table (codes "PID") f curves)

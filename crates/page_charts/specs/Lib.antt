@@ -13,3 +13,4 @@ pub mod ValueTables
 pub mod Charts
 pub mod Strips
 pub mod StripTables
+pub mod Stacks

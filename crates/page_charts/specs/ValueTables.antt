@@ -58,10 +58,11 @@ last_row f entry = if nat_lt (length entry.curve.slots) (slots_of f entry.curve.
 abbrev pub rows : Frame → PidCurve → List ℕ
 rows f entry = numbered (row f entry) 0 entry.curve.slots ++ last_row f entry
 
-unfoldable pub head : List ℕ → List ℕ
-head unit = codes
-    "<details><summary>These numbers</summary><table><caption>A row is left out if its values are those of the row above.</caption><tr><th scope=col>PID<th scope=col>from, s<th scope=col>least, "
-    ++ (unit ++ (codes "<th scope=col>greatest, " ++ (unit ++ codes "\n")))
+unfoldable pub head : List ℕ → List ℕ → List ℕ
+head owner unit = codes
+    "<details><summary>These numbers</summary><table><caption>A row is left out if its values are those of the row above.</caption><tr><th scope=col>"
+    ++ (owner ++ (codes "<th scope=col>from, s<th scope=col>least, " ++ (unit ++ (codes "<th scope=col>greatest, " ++ (unit ++ codes "\n")))))
 
-unfoldable pub table : Frame → List PidCurve → List ℕ
-table f curves = head (unit_name f.unit) ++ (flat_map (rows f) curves ++ codes "</table></details>\n")
+-- after the name of what the curves are of
+unfoldable pub table : List ℕ → Frame → List PidCurve → List ℕ
+table owner f curves = head owner (unit_name f.unit) ++ (flat_map (rows f) curves ++ codes "</table></details>\n")

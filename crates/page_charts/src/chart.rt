@@ -45,8 +45,12 @@ fn write_sample(text: &mut String, class: usize) -> Result<(), AllocError>
     )
 }
 
-// A value with its unit.
-fn write_with_unit(text: &mut String, unit: ChartUnit, value: u64) -> Result<(), AllocError>
+/// Appends a value with its unit.
+pub(crate) fn write_with_unit(
+    text: &mut String,
+    unit: ChartUnit,
+    value: u64,
+) -> Result<(), AllocError>
     ensures { OnOk result (string_bytes text.new ≡ string_bytes text.old ++ spec.with_unit unit value) }
 {
     write_value(text, unit, value)?;
@@ -250,8 +254,9 @@ fn write_curves(
     Ok(())
 }
 
+/// Appends how a picture begins, with its name.
 #[tactic(auto, unfolding(crate::specs::Charts::picture_head))]
-fn write_picture_head(text: &mut String, name: &str) -> Result<(), AllocError>
+pub(crate) fn write_picture_head(text: &mut String, name: &str) -> Result<(), AllocError>
     ensures { OnOk result (string_bytes text.new ≡ string_bytes text.old ++ spec.picture_head name.now) }
 {
     write!(
@@ -295,5 +300,5 @@ pub fn write_chart(
 {
     write_keys(text, frame.unit, labels, order, curves)?;
     write_picture(text, name, frame, labels, order, curves)?;
-    write_value_table(text, frame, curves)
+    write_value_table(text, "PID", frame, curves)
 }

@@ -7,6 +7,7 @@ pub mod SummaryCells
 pub mod InputCells
 pub mod RowTexts
 pub mod Rows
+pub mod Services
 pub mod Values
 pub mod Pages
 pub mod PageText

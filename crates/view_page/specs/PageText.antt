@@ -10,8 +10,9 @@ use Rattle.page_charts.specs.PidCurves.{greatest_value}
 use Rattle.view_page.specs.declared.page.Page.{Page}
 use Rattle.events.specs.declared.event.ReportEnd.{ReportEnd}
 use Rattle.view_page.specs.declared.page_heads.TheConstants.{APART, BACK, BUFFERS, CHECKS, CLOCKS, FAULTS, FRONT, MAINS, PIDS, RATES, SLACKS, STREAMS, STRIPS}
-use Rattle.view_page.specs.declared.page_heads.TheConstants.{SYSTEMS, TABLES, TRANSPORTS}
+use Rattle.view_page.specs.declared.page_heads.TheConstants.{SERVICES, SYSTEMS, TABLES, TRANSPORTS}
 use Rattle.page_charts.specs.PidLabels.{LabelsState}
+use Rattle.page_charts.specs.Stacks.{stack}
 use Rattle.page_charts.specs.StripTables.{table as strip_table}
 use Rattle.view_page.specs.Cells.{carried_cell}
 use Rattle.view_page.specs.MarkCells.{marks_text}
@@ -24,6 +25,9 @@ front_text = FRONT.now
 
 unfoldable pub strips_text : List ℕ
 strips_text = STRIPS.now
+
+unfoldable pub services_text : List ℕ
+services_text = SERVICES.now
 
 unfoldable pub rates_text : List ℕ
 rates_text = RATES.now
@@ -103,6 +107,13 @@ buffer_chart p name entry = one_chart p name Bytes (entry ∷ [])
 unfoldable pub rates : Page → List ℕ
 rates p = rates_text ++ one_chart p (codes "bit rate by PID over time") BitRate p.values.rates.curves.items
 
+-- the bit rates of programs, each on those after it
+unfoldable pub services : Page → List ℕ
+services p =
+    services_text
+    ++ stack (codes "bit rate by service over time") (frame BitRate p.values.windows p.millis (greatest_value p.services.curves.sums.curves.items)) p.labels
+    p.services.curves.rates.curves.items p.services.curves.sums.curves.items
+
 unfoldable pub transports : Page → List ℕ
 transports p = transports_text ++ flat_map (buffer_chart p (codes "bytes in a transport buffer over time")) p.values.transports.curves.items
 
@@ -113,7 +124,7 @@ unfoldable pub slacks : Page → List ℕ
 slacks p = slacks_text ++ one_chart p (codes "time from a unit's last byte to its DTS over time") Time p.values.slacks.curves.items
 
 unfoldable pub charts : Page → List ℕ
-charts p = rates p ++ (transports p ++ (mains p ++ slacks p))
+charts p = services p ++ (rates p ++ (transports p ++ (mains p ++ slacks p)))
 
 unfoldable pub pictures : Page → List ℕ
 pictures p = strips p ++ charts p

@@ -23,7 +23,7 @@ nav a{color:inherit;margin-right:1.2em;display:inline-block}caption{text-align:l
 .s4{--c:var(--s4)}.s5{--c:var(--s5);stroke-dasharray:130 40}.s6{--c:var(--s6);stroke-dasharray:40 30}.s7{--c:var(--s7);stroke-dasharray:150 40 30 40}
 .s8{--c:var(--s0);stroke-dasharray:20 20}.s9{--c:var(--s1);stroke-dasharray:20 60}.s10{--c:var(--s2);stroke-dasharray:200 30}.s11{--c:var(--s3);stroke-dasharray:80 80}
 .s12{--c:var(--s4);stroke-dasharray:20 20}.s13{--c:var(--s5);stroke-dasharray:20 60}.s14{--c:var(--s6);stroke-dasharray:200 30}.s15{--c:var(--s7);stroke-dasharray:80 80}
-.range{stroke-dasharray:none}.key{color:var(--ink)}.key span{display:inline-block;margin-right:1.4em}.sample{width:3em;height:.6em}
+.range{stroke-dasharray:none}.area{fill:var(--c);stroke:var(--paper);stroke-width:8;stroke-dasharray:none}.key{color:var(--ink)}.key span{display:inline-block;margin-right:1.4em}.sample{width:3em;height:.6em}
 table{border-collapse:collapse;font-variant-numeric:tabular-nums}th,td{padding:.15em .9em .15em 0;text-align:right;border-bottom:1px solid var(--line)}
 th{font-weight:500;vertical-align:bottom}.word{text-align:left}.bad{color:var(--bad);font-weight:600}.wide{overflow-x:auto}table:not(:has(td)){display:none}.tall{max-height:28em;overflow-y:auto}
 .bar{width:12em;height:.8em}.fill{stroke:var(--s0);stroke-width:7}.bar .over{stroke-width:7}.mark{stroke:var(--ink);stroke-width:2}
@@ -31,11 +31,14 @@ details{margin:.3em 0 0 5em}.more{margin-left:0}@media(max-width:45em){.chart te
 @media print{details,nav{display:none}.tall{max-height:none}.wide,.tall{overflow:visible}tr,.chart{break-inside:avoid}h2{break-after:avoid}table{font-size:.8em}th,td{padding-right:.5em}}
 </style></head><body>
 <h1>Transport stream</h1>
-<nav><a href=#over-time>Buffers over time</a><a href=#rates>Bit rates</a><a href=#checks>Checks</a><a href=#kinds>Faults</a><a href=#streams>Streams</a><a href=#clocks>Clock references</a><a href=#tables>Tables</a></nav>
+<nav><a href=#over-time>Buffers over time</a><a href=#services>Services</a><a href=#rates>Bit rates</a><a href=#checks>Checks</a><a href=#kinds>Faults</a><a href=#streams>Streams</a><a href=#clocks>Clock references</a><a href=#tables>Tables</a></nav>
 ";
 
 const STRIPS: &str =
     "<h2 id=over-time>Buffers over time</h2><p class=\"soft\">The most bytes in each buffer, by window: the stronger the colour, the fuller; red and higher: over its size; not drawn: no byte came.</p>\n";
+
+const SERVICES: &str =
+    "<h2 id=services>Bit rate by service</h2><p class=\"soft\">Packets of 188 bytes, by window: each program on those after it; the first 32 programs.</p>\n";
 
 const RATES: &str =
     "<h2 id=rates>Bit rate by PID</h2><p class=\"soft\">Packets of 188 bytes, by window; the first 32 PIDs.</p>\n";
@@ -91,6 +94,14 @@ pub(crate) fn strips_text() -> &'static str
     ensures { result.now ≡ spec.strips_text }
 {
     STRIPS
+}
+
+/// Returns the head of the part on bit rates of programs.
+#[tactic(auto, unfolding(crate::specs::PageText::services_text))]
+pub(crate) fn services_text() -> &'static str
+    ensures { result.now ≡ spec.services_text }
+{
+    SERVICES
 }
 
 /// Returns the head of the part on bit rates.

@@ -7,14 +7,15 @@ use crate::mark_cells::marks_text;
 use crate::page::Page;
 use crate::page_heads::{
     apart_text, back_text, buffers_text, checks_text, clocks_text, faults_text, front_text,
-    mains_text, pids_text, rates_text, slacks_text, streams_text, strips_text, systems_text,
-    tables_text, transports_text,
+    mains_text, pids_text, rates_text, services_text, slacks_text, streams_text, strips_text,
+    systems_text, tables_text, transports_text,
 };
 use crate::rows::{Rows, StreamRow};
 use crate::summary_cells::kinds_text;
 use events::ReportEnd;
 use page_charts::{
-    ChartUnit, Frame, PidCurve, PidLabels, greatest_value, write_chart, write_grouped, write_strips,
+    ChartUnit, Frame, PidCurve, PidLabels, greatest_value, write_chart, write_grouped, write_stack,
+    write_strips,
 };
 use std::alloc::AllocError;
 use std::fmt::Write;
@@ -184,6 +185,20 @@ fn write_rates(text: &mut String, page: &Page) -> Result<(), AllocError>
     write_all_in_one(text, rates_text(), page, name, ChartUnit::BitRate, curves)
 }
 
+// The bit rates of programs.
+#[tactic(auto, unfolding(crate::specs::PageText::services))]
+fn write_services(text: &mut String, page: &Page) -> Result<(), AllocError>
+    ensures { OnOk result (string_bytes text.new ≡ string_bytes text.old ++ spec.services page.now) }
+{
+    let rates = &page.services.curves.rates.curves;
+    let sums = &page.services.curves.sums.curves;
+    let unit = ChartUnit::BitRate;
+    let frame = Frame::new(unit, page.values.windows, page.millis, greatest_value(sums));
+    let name = "bit rate by service over time";
+    text.push_str(services_text())?;
+    write_stack(text, name, &frame, &page.labels, rates, sums)
+}
+
 // The transport buffers.
 #[tactic(auto, unfolding(crate::specs::PageText::transports))]
 fn write_transports(text: &mut String, page: &Page) -> Result<(), AllocError>
@@ -219,6 +234,7 @@ fn write_slacks(text: &mut String, page: &Page) -> Result<(), AllocError>
 fn write_charts(text: &mut String, page: &Page) -> Result<(), AllocError>
     ensures { OnOk result (string_bytes text.new ≡ string_bytes text.old ++ spec.charts page.now) }
 {
+    write_services(text, page)?;
     write_rates(text, page)?;
     write_transports(text, page)?;
     write_mains(text, page)?;
