@@ -1,5 +1,5 @@
 -- What the command line asks for.
-use Rattle.std.specs.Prelude.{ℕ, Bool, if◌then◌else◌, List, Option, Some, None, codes, map, option_and_then, option_map}
+use Rattle.std.specs.Prelude.{ℕ, ◌&&◌, Bool, if◌then◌else◌, List, Option, Some, None, codes, map, option_and_then, option_map}
 use Rattle.std.specs.Borrow.{Bor}
 use Rattle.std.specs.Str.{bytes_eq}
 use Rattle.clap.specs.Words.{Row, Text, first_of}
@@ -46,9 +46,17 @@ span_of rows =
     (number_if options (codes "to") rows))
     (number_if options (codes "from") rows)
 
--- which streams are viewed, and with which buffers
-abbrev pub request : ViewOptions → ViewSpan → List ℕ → List PidBuffers → RequestView
-request given span programs buffers = record { options = given; choice = record { programs = programs; buffers = buffers }; span = span }
+-- which streams are viewed, with which buffers, and whether by the stamps before packets of 192 bytes
+abbrev pub request : ViewOptions → ViewSpan → Bool → List ℕ → List PidBuffers → RequestView
+request given span stamps programs buffers =
+    record { options = given; choice = record { programs = programs; buffers = buffers }; span = span; stamps = stamps }
+
+-- stamps are asked for; none where a rate is given too
+abbrev pub stamps_by : Bool → Bool → Option Bool
+stamps_by stamps rate = if stamps && rate then None else Some stamps
+
+abbrev pub stamps_in : List Row → Option Bool
+stamps_in rows = stamps_by (is_given (first_of (codes "arrival-stamps") rows)) (is_given (first_of (codes "rate") rows))
 
 -- the lines of its report, or the page of them: not both
 unfoldable pub requested : Bool → Bool → RequestView → Option Request
@@ -58,11 +66,13 @@ unfoldable pub request_of : List Row → Option Request
 request_of rows =
     option_and_then (λ given.
     option_and_then (λ span.
+    option_and_then (λ stamps.
     option_and_then (λ programs.
     option_and_then (λ buffers.
-    requested (is_given (first_of (codes "page") rows)) (is_given (first_of (codes "json") rows)) (request given span programs buffers))
+    requested (is_given (first_of (codes "page") rows)) (is_given (first_of (codes "json") rows)) (request given span stamps programs buffers))
     (buffer_list (first_of (codes "buffers") rows)))
     (numbers_of options (codes "program") rows))
+    (stamps_in rows))
     (span_of rows))
     (options_of rows)
 

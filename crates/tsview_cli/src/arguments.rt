@@ -63,6 +63,20 @@ fn span_of(matches: &ArgMatches<'_>) -> Option<ViewSpan>
     Some(ViewSpan { from, to })
 }
 
+// Whether stamps are asked for; none where a rate is given too.
+fn stamps_by(stamps: bool, rate: bool) -> Option<bool>
+    ensures { result ≡ spec.stamps_by stamps rate }
+{
+    if stamps && rate { None } else { Some(stamps) }
+}
+
+fn stamps_in(matches: &ArgMatches<'_>) -> Option<bool>
+    ensures { result ≡ spec.stamps_in (rows_of (found_of matches.now)) }
+{
+    let stamps = is_given(text_of(matches, "arrival-stamps"));
+    stamps_by(stamps, is_given(text_of(matches, "rate")))
+}
+
 // Its lines, or a page of them; none where both are asked for.
 #[tactic(auto, unfolding(crate::specs::Arguments::requested))]
 fn requested(page: bool, json: bool, request: ViewRequest) -> Option<Request>
@@ -89,6 +103,9 @@ fn request_of(alloc: Global, matches: &ArgMatches<'_>) -> Result<Option<Request>
     let Some(span) = span_of(matches) else {
         return Ok(None);
     };
+    let Some(stamps) = stamps_in(matches) else {
+        return Ok(None);
+    };
     let Some(programs) = numbers_of(alloc, &OPTIONS, matches, "program")? else {
         return Ok(None);
     };
@@ -102,6 +119,7 @@ fn request_of(alloc: Global, matches: &ArgMatches<'_>) -> Result<Option<Request>
         options,
         choice,
         span,
+        stamps,
     };
     Ok(requested(page, json, request))
 }

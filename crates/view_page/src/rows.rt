@@ -4,7 +4,8 @@ ghost use Rattle.view_page.specs.Rows as spec;
 
 use crate::cells::{Cell, CellWord, write_cells, write_row};
 use crate::input_cells::{
-    empty_cells, no_stream_cells, other_rate_cells, packet_size_cells, rest_cells, slip_cells,
+    empty_cells, no_stamps_cells, no_stream_cells, other_rate_cells, packet_size_cells, rest_cells,
+    slip_cells, stamp_jump_cells,
 };
 use crate::mark_cells::mark_cells;
 use crate::row_cells::{
@@ -210,6 +211,8 @@ impl Rows {
             InputEvent::NoStream(form) => self.take_fault(labels, &no_stream_cells(*form)),
             InputEvent::OtherRate(e) => self.take_fault(labels, &other_rate_cells(e)),
             InputEvent::Rest(e) => self.take_fault(labels, &rest_cells(e)),
+            InputEvent::NoStamps => self.take_fault(labels, &no_stamps_cells()),
+            InputEvent::StampJump(e) => self.take_fault(labels, &stamp_jump_cells(e)),
         }
     }
 
