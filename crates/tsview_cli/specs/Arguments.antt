@@ -1,11 +1,11 @@
 -- What the command line asks for.
-use Rattle.std.specs.Prelude.{ℕ, ◌&&◌, Bool, if◌then◌else◌, List, Option, Some, None, codes, map, option_and_then, option_map}
+use Rattle.std.specs.Prelude.{ℕ, Bool, false, if◌then◌else◌, List, Option, Some, None, codes, map, option_and_then, option_map}
 use Rattle.std.specs.Borrow.{Bor}
 use Rattle.std.specs.Str.{bytes_eq}
 use Rattle.clap.specs.Words.{Row, Text, first_of}
 use Rattle.devices.specs.Options.{is_given}
 use Rattle.arrival.specs.declared.arrival.Arrival.{Arrival}
-use Rattle.arrival.specs.declared.arrival.Arrival.TheVariants.{Unknown, AtRate}
+use Rattle.arrival.specs.declared.arrival.Arrival.TheVariants.{Unknown, AtRate, OnLines}
 use Rattle.option_lists.specs.Lists.{buffer_list}
 use Rattle.stream_coding.specs.declared.buffers.PidBuffers.{PidBuffers}
 use Rattle.es_view.specs.declared.view_options.ViewOptions.{ViewOptions}
@@ -52,11 +52,13 @@ request given span stamps programs buffers =
     record { options = given; choice = record { programs = programs; buffers = buffers }; span = span; stamps = stamps }
 
 -- stamps are asked for; none where a rate is given too
-abbrev pub stamps_by : Bool → Bool → Option Bool
-stamps_by stamps rate = if stamps && rate then None else Some stamps
+unfoldable pub stamps_beside : Arrival → Bool → Option Bool
+stamps_beside Unknown stamps = Some stamps
+stamps_beside (AtRate rate) stamps = if stamps then None else Some false
+stamps_beside (OnLines lines) stamps = Some stamps
 
-abbrev pub stamps_in : List Row → Option Bool
-stamps_in rows = stamps_by (is_given (first_of (codes "arrival-stamps") rows)) (is_given (first_of (codes "rate") rows))
+abbrev pub stamps_in : List Row → Arrival → Option Bool
+stamps_in rows arrival = stamps_beside arrival (is_given (first_of (codes "arrival-stamps") rows))
 
 -- the lines of its report, or the page of them: not both
 unfoldable pub requested : Bool → Bool → RequestView → Option Request
@@ -72,7 +74,7 @@ request_of rows =
     requested (is_given (first_of (codes "page") rows)) (is_given (first_of (codes "json") rows)) (request given span stamps programs buffers))
     (buffer_list (first_of (codes "buffers") rows)))
     (numbers_of options (codes "program") rows))
-    (stamps_in rows))
+    (stamps_in rows given.arrival))
     (span_of rows))
     (options_of rows)
 

@@ -64,17 +64,26 @@ fn span_of(matches: &ArgMatches<'_>) -> Option<ViewSpan>
 }
 
 // Whether stamps are asked for; none where a rate is given too.
-fn stamps_by(stamps: bool, rate: bool) -> Option<bool>
-    ensures { result ≡ spec.stamps_by stamps rate }
+#[tactic(auto, unfolding(crate::specs::Arguments::stamps_beside))]
+fn stamps_beside(arrival: &Arrival, stamps: bool) -> Option<bool>
+    ensures { result ≡ spec.stamps_beside arrival.now stamps }
 {
-    if stamps && rate { None } else { Some(stamps) }
+    match arrival {
+        Arrival::Unknown | Arrival::OnLines(_) => Some(stamps),
+        Arrival::AtRate(_) => {
+            if stamps {
+                None
+            } else {
+                Some(false)
+            }
+        }
+    }
 }
 
-fn stamps_in(matches: &ArgMatches<'_>) -> Option<bool>
-    ensures { result ≡ spec.stamps_in (rows_of (found_of matches.now)) }
+fn stamps_in(matches: &ArgMatches<'_>, arrival: &Arrival) -> Option<bool>
+    ensures { result ≡ spec.stamps_in (rows_of (found_of matches.now)) arrival.now }
 {
-    let stamps = is_given(text_of(matches, "arrival-stamps"));
-    stamps_by(stamps, is_given(text_of(matches, "rate")))
+    stamps_beside(arrival, is_given(text_of(matches, "arrival-stamps")))
 }
 
 // Its lines, or a page of them; none where both are asked for.
@@ -103,7 +112,7 @@ fn request_of(alloc: Global, matches: &ArgMatches<'_>) -> Result<Option<Request>
     let Some(span) = span_of(matches) else {
         return Ok(None);
     };
-    let Some(stamps) = stamps_in(matches) else {
+    let Some(stamps) = stamps_in(matches, &options.arrival) else {
         return Ok(None);
     };
     let Some(programs) = numbers_of(alloc, &OPTIONS, matches, "program")? else {
