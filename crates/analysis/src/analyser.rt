@@ -254,8 +254,8 @@ impl Analyser {
         self.take_events(found, events)
     }
 
-    /// Takes the next packet, before which four bytes come, as a number: by the stamp in them, if stamps are asked for. Appends
-    /// the events that the packet settles.
+    /// Takes the next packet, before which four bytes come, as a number: by the stamp in them, if stamps are asked for.
+    /// Appends the events that the packet settles.
     #[tactic(auto, unfolding(crate::specs::Analysis::stamped_in, crate::specs::Analysis::stamped_events_in))]
     pub fn take_stamped(
         &mut self,

@@ -1,5 +1,6 @@
 -- What a capture holds: packets, and bytes between them that are in no packet (packet_sync/specs/Slips and OtherPackets).
-use Rattle.std.specs.Prelude.{ℕ, zero, suc, ◌+◌, ◌*◌, ◌/◌, nat_lt, if◌then◌else◌, List, [], ◌∷◌, ◌++◌, length, take, drop, slice_index, slice_range, Option, None, Some}
+use Rattle.std.specs.Prelude.{ℕ, zero, suc, ◌+◌, ◌*◌, ◌/◌, nat_lt, if◌then◌else◌, List, [], ◌∷◌, ◌++◌, length, take, drop, slice_index, slice_range, Option}
+use Rattle.std.specs.Prelude.{None, Some}
 use Rattle.events.specs.declared.input_event.FileForm.{FileForm}
 use Rattle.packet_sync.specs.OtherPackets.{other_packets}
 use Rattle.packet_sync.specs.Slips.{slip_size}

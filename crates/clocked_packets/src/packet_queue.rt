@@ -212,8 +212,8 @@ impl PacketQueue {
         Ok(arrival)
     }
 
-    /// Takes the sample of a clock beside the next packet, if there is one, in place of clock references, and returns how
-    /// the waiting packets arrive, if that is known now. The caller then takes them, and lets the packet wait.
+    /// Takes the sample of a clock beside the next packet, if there is one, in place of clock references, and returns
+    /// how the waiting packets arrive, if that is known now. The caller then takes them, and lets the packet wait.
     pub fn take_sample(&mut self, sample: Option<PcrSample>) -> Option<Arrival>
         requires { IfSome sample IsInRange }
         ensures arrival { result ≡ spec.released_with self.old sample }

@@ -2,9 +2,7 @@
 ghost use Rattle.std.specs.Prelude.{◌≡◌, ◌++◌, OnOk, string_bytes};
 ghost use Rattle.events.specs.InputLines as spec;
 
-use crate::input_event::{
-    FileForm, InputEvent, OtherRate, RestBytes, SlippedBytes, StampJump,
-};
+use crate::input_event::{FileForm, InputEvent, OtherRate, RestBytes, SlippedBytes, StampJump};
 use crate::lines::{number, word, write_line};
 use std::alloc::AllocError;
 

@@ -5,7 +5,8 @@ use Rattle.std.specs.Prelude.{IfSome}
 use Rattle.std.specs.Option.{option_map}
 use Rattle.std.proofs.lemmas.Bool.Decides.{nat_tests}
 use Rattle.std.proofs.lemmas.List.{append-nil, length-append}
-use Rattle.arrival.specs.StampClocks.{StampState, after, is_near, is_same, near_sample, no_stamp, sample_at, sample_if, sample_of, stamp_in, step_at, ticks_since}
+use Rattle.arrival.specs.StampClocks.{StampState, after, is_near, is_same, near_sample, no_stamp, sample_at, sample_if, sample_of, stamp_in, step_at}
+use Rattle.arrival.specs.StampClocks.{ticks_since}
 use Rattle.arrival.specs.StampClocks.{value_after}
 use Rattle.arrival.specs.declared.clock.PcrSample.{PcrSample}
 use Rattle.arrival.specs.declared.line.Line.{Line}

@@ -99,7 +99,8 @@ reaches_anew line byte is le scale =
     let soon : tick_after line byte ≤ moment_anew (Some line) byte = omega (arith, tick_soon line byte is le) in
     omega (arith, by_tick scale line byte some, mul-le-mul_left scale soon)
 
-pub anew : (d : ℕ) (last : TimedSample) (sample : PcrSample) (line : Option Line) (first here k : ℕ) → last.sample ≡ sample → first ≤ here → IsAt d here sample →
+pub anew : (d : ℕ) (last : TimedSample) (sample : PcrSample) (line : Option Line) (first here k : ℕ) → last.sample ≡ sample → first ≤ here →
+    IsAt d here sample →
     IfSome line (λ l. IsClockLine l × (l.byte + 178 ≤ 188 * first)) → IfSome line (λ l. k ≡ here) →
     Stands d (Some last) (moment_anew line sample.byte) line k (here + 1)
 anew d last sample None first here k same le at is place = record {
@@ -124,7 +125,8 @@ line_with before sample moment = record {
   ticks = elapsed before.sample.ticks sample.ticks;
 }
 
-is_line : (d : ℕ) (before : TimedSample) (sample : PcrSample) (moment here : ℕ) → GoesOnFrom before sample → IsAt d here sample → IsMoment before.sample.byte moment →
+is_line : (d : ℕ) (before : TimedSample) (sample : PcrSample) (moment here : ℕ) → GoesOnFrom before sample → IsAt d here sample →
+    IsMoment before.sample.byte moment →
     IsClockLine (line_with before sample moment)
 is_line d before sample moment here on at is = record {
   begun = is.begun;
@@ -202,7 +204,8 @@ pub record Next (d : ℕ) (clock : ArrivalClockState) (sample : PcrSample) (firs
   pub none : line_to clock sample ≡ None → clock.line ≡ None
   pub origin : Origin clock.clock.last first (line_to clock sample)
 
-next_anew : (d : ℕ) (clock : ArrivalClockState) (sample : PcrSample) (first here : ℕ) → Stands d clock.clock.last clock.moment clock.line first here → first ≤ here →
+next_anew : (d : ℕ) (clock : ArrivalClockState) (sample : PcrSample) (first here : ℕ) → Stands d clock.clock.last clock.moment clock.line first here →
+    first ≤ here →
     IsAt d here sample →
     Anew clock.clock.last sample → Next d clock sample first here
 next_anew d clock sample first here s le at n =
@@ -215,7 +218,8 @@ next_anew d clock sample first here s le at n =
       origin = rw same (origin_before clock.clock.last first clock.line s.begun);
     }
 
-next_on : (d : ℕ) (clock : ArrivalClockState) (sample : PcrSample) (first here : ℕ) → Stands d clock.clock.last clock.moment clock.line first here → IsAt d here sample →
+next_on : (d : ℕ) (clock : ArrivalClockState) (sample : PcrSample) (first here : ℕ) → Stands d clock.clock.last clock.moment clock.line first here →
+    IsAt d here sample →
     OnLine clock.clock.last sample → Next d clock sample first here
 unfolding line_from moment_by
 next_on d clock sample first here s at o =
@@ -233,7 +237,8 @@ next_on d clock sample first here s at o =
       origin = rw same (inr (record { before = o.before; is = o.is; byte = refl }));
     }
 
-pub next : (d : ℕ) (clock : ArrivalClockState) (sample : PcrSample) (first here : ℕ) → Stands d clock.clock.last clock.moment clock.line first here → first ≤ here →
+pub next : (d : ℕ) (clock : ArrivalClockState) (sample : PcrSample) (first here : ℕ) → Stands d clock.clock.last clock.moment clock.line first here →
+    first ≤ here →
     IsAt d here sample →
     Next d clock sample first here
 next d clock sample first here s le at = elim (either clock.clock.last sample) [

@@ -148,8 +148,8 @@ impl ClockedView {
         }
     }
 
-    /// Takes the next packet with a sample of the clock by which the stream arrives in place of clock references, or with
-    /// none, and appends the events that the packet settles.
+    /// Takes the next packet with a sample of the clock by which the stream arrives in place of clock references, or
+    /// with none, and appends the events that the packet settles.
     #[tactic(auto, unfolding(crate::specs::ClockedViews::sampled_in, crate::specs::ClockedViews::sampled_events_in))]
     pub fn take_sampled(
         &mut self,
@@ -165,9 +165,7 @@ impl ClockedView {
     {
         match &mut self.queue {
             None => self.view.take(bytes, events),
-            Some(queue) => {
-                take_sampled_waiting(&mut self.view, queue, sample, bytes, events)
-            }
+            Some(queue) => { take_sampled_waiting(&mut self.view, queue, sample, bytes, events) }
         }
     }
 

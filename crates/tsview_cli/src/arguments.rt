@@ -70,13 +70,7 @@ fn stamps_beside(arrival: &Arrival, stamps: bool) -> Option<bool>
 {
     match arrival {
         Arrival::Unknown | Arrival::OnLines(_) => Some(stamps),
-        Arrival::AtRate(_) => {
-            if stamps {
-                None
-            } else {
-                Some(false)
-            }
-        }
+        Arrival::AtRate(_) => { if stamps { None } else { Some(false) } }
     }
 }
 

@@ -22,7 +22,8 @@ use Rattle.view_page.specs.RowCells.{ahead_cells, check_cells, check_word_cells,
 use Rattle.view_page.specs.RowCells.{elementary_cells, elementary_late_cells, excess_cells, late_cells, main_cells, multiplexing_cells, pid_cells}
 use Rattle.view_page.specs.RowCells.{program_excess_cells, reference_cells, refused_cells, stream_cells, system_cells, table_cells, table_fault_cells}
 use Rattle.view_page.specs.RowCells.{transport_cells, unclocked_cells}
-use Rattle.view_page.specs.InputCells.{empty_cells, no_stream_cells, no_stamps_cells, other_rate_cells, stamp_jump_cells, packet_size_cells, rest_cells, slip_cells}
+use Rattle.view_page.specs.InputCells.{empty_cells, no_stream_cells, no_stamps_cells, other_rate_cells, stamp_jump_cells, packet_size_cells, rest_cells}
+use Rattle.view_page.specs.InputCells.{slip_cells}
 use Rattle.page_charts.specs.PidLabels.{LabelsState}
 use Rattle.view_page.specs.MarkCells.{mark_cells}
 use Rattle.view_page.specs.SummaryCells.{fault_cells, sentence_text, totals_cells}
