@@ -27,12 +27,12 @@ if [ $# -lt 5 ]; then
     awk -v RS= -v ORS='\n\n' -v burst=$((bufsize / 8 / 184 + 3)) -v pace=$((maxrate * 188 / 184 + 25 * 188 * 8 * 10 / 9)) -v size=$((bufsize / 8)) \
         -v audio_burst=$packets -v audio_pace=$(((packets * 135360000 + distance - 1) / distance)) -v audio_size=$((frames * frame)) -v distance=$distance '
         function put(key, value) { sub("\n" key " = [^\n]*", "\n" key " = " value) }
-        /^\[\[stream\]\]/ && /\ntype = 27$/ { put("burst_packets", burst); put("pace", pace); put("size", size) }
-        /^\[\[stream\]\]/ && /\ntype = [34]$/ { put("burst_packets", audio_burst); put("pace", audio_pace); put("size", audio_size); put("interval", distance) }
+        /^\[\[stream\]\]/ && /\ntype = 27( |$)/ { put("burst_packets", burst); put("pace", pace); put("size", size) }
+        /^\[\[stream\]\]/ && /\ntype = [34]( |$)/ { put("burst_packets", audio_burst); put("pace", audio_pace); put("size", audio_size); put("interval", distance) }
         { print }' "$work/description" > "$work/declared"
     mv "$work/declared" "$work/description"
 fi
-rate=$(sed -n 's/^rate = //p' "$work/description")
+rate=$(awk '/^rate/ { print $3 }' "$work/description")
 until "$tsmux" plan < "$work/description" > "$work/plan" 2> "$work/no-plan"; do
     rate=$((rate + rate / 64))
     sed -i "s/^rate = .*/rate = $rate/" "$work/description"

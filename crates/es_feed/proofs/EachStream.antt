@@ -11,6 +11,7 @@ use Rattle.demux.specs.FoundSoFar.{FoundSoFar, found_in_all, taken_all}
 use Rattle.demux.specs.Views.{FindingView}
 use Rattle.demux.proofs.FoundSoFar.{all_are_found, nothing_at_first, packets_add}
 use Rattle.packet_sync.specs.Slips.{carried}
+use Rattle.es_units.specs.ApartUnits.{apart_from, apart_units}
 use Rattle.es_units.specs.CarriedUnits.{CarriedUnit}
 use Rattle.es_units.specs.Stamps.{moved}
 use Rattle.es_units.specs.UnitSteps.{none_so_far}
@@ -21,7 +22,7 @@ use Rattle.es_feed.specs.StreamFeeding.{after_cut, fed_of, is_packet}
 use Rattle.es_feed.specs.Ticks.{after_packets, after_pcr, fed_packets, fed_pcr}
 use Rattle.es_feed.specs.Maps.{MapView}
 use Rattle.es_feed.specs.declared.found_pcr.FoundPcr.{FoundPcr}
-use Rattle.es_feed.proofs.FedEach.{Event, Finds, Shows, after_event, fed_event, fed_events, finds, found_by}
+use Rattle.es_feed.proofs.FedEach.{Event, Finds, Shows, after_event, coming, fed_event, fed_events, finds, found_by}
 use Rattle.es_feed.proofs.FedFirst.{AreUnfed, AreWaiting, MovedByFirst, first_moved}
 use Rattle.es_feed.proofs.FedPackets.{marked_both, packet_marking, packets_marking}
 use Rattle.es_feed.proofs.FedRises.{rise_on}
@@ -226,14 +227,16 @@ by_one_constant earliest marking maps streams bytes early a none =
           let found : finds es ≡ fs = all_finds marking (carried bytes) in
           let units : s.units ≡ none_so_far pid true = ap (λ (t : FedStreamView). t.units) is in
           let before : s.before ≡ None = ap (λ (t : FedStreamView). t.before) is in
+          let place : s.place ≡ 0 = ap (λ (t : FedStreamView). t.place) is in
           ap (λ (xs : List Fed). units_fed k xs) all
-          ∙ m.are_moved k s at
+          ∙ (m.are_moved k s at
           (subst (λ u. AreAlone u (finds es)) (sym units)
-          (subst (λ (l : List FindingView). AreAlone (none_so_far pid true) l) (sym found) (alone_first pid true fs alone)))
-          ∙ ap (λ (b : Option ℕ). moved m.base b (map (λ (w : CarriedUnit). w.unit) (to_come s.units (finds es)))) before
-          ∙ ap (λ u. moved m.base None (map (λ (w : CarriedUnit). w.unit) (to_come u (finds es)))) units
-          ∙ ap (λ (l : List FindingView). moved m.base None (map (λ (w : CarriedUnit). w.unit) (to_come (none_so_far pid true) l))) found
-          ∙ ap (λ (ws : List CarriedUnit). moved m.base None (map (λ (w : CarriedUnit). w.unit) ws)) (come_carried pid true fs alone);
+          (subst (λ (l : List FindingView). AreAlone (none_so_far pid true) l) (sym found) (alone_first pid true fs alone)))).units
+          ∙ ap (λ (b : Option ℕ). moved m.base b (map (λ (w : CarriedUnit). w.unit) (coming s (finds es)))) before
+          ∙ ap (λ (p : ℕ). moved m.base None (map (λ (w : CarriedUnit). w.unit) (apart_from p (to_come s.units (finds es))))) place
+          ∙ ap (λ u. moved m.base None (map (λ (w : CarriedUnit). w.unit) (apart_units (to_come u (finds es))))) units
+          ∙ ap (λ (l : List FindingView). moved m.base None (map (λ (w : CarriedUnit). w.unit) (apart_units (to_come (none_so_far pid true) l)))) found
+          ∙ ap (λ (ws : List CarriedUnit). moved m.base None (map (λ (w : CarriedUnit). w.unit) (apart_units ws))) (come_carried pid true fs alone);
     }
 
 pub each_rises : EachRises

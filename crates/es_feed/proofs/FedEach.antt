@@ -1,25 +1,25 @@
 -- What is fed of each stream, step by step, where nothing is told.
-use Rattle.std.proofs.Common.{◌≡◌, ◌≢◌, ◌∙◌, ◌⊎◌, ◌<◌, ℕ, zero, suc, ◌+◌, ◌++◌, eqb, Bool, true, false, Option, Some, None, List, [], ◌∷◌, map, slice_get, refl}
+use Rattle.std.proofs.Common.{◌≡◌, ◌≢◌, ◌∙◌, ◌⊎◌, ◌<◌, ℕ, ◌++◌, eqb, Bool, true, false, Option, Some, None, List, [], ◌∷◌, slice_get, refl}
 use Rattle.std.proofs.Common.{sym, ap, ap₂, subst, inl, inr, arith}
 use Rattle.std.specs.Option.{option_to_list}
 use Rattle.std.proofs.lemmas.Bool.Decides.{eqb_tells}
-use Rattle.std.proofs.lemmas.Grind.{flat_map-append}
-use Rattle.std.proofs.lemmas.List.{append-nil}
-use Rattle.pes_packet.specs.AccessUnits.{AccessUnit}
 use Rattle.demux.specs.Laws.{has_pid}
 use Rattle.demux.specs.Views.{FindingView}
+use Rattle.es_units.specs.ApartSteps.{place_past, set_apart}
+use Rattle.es_units.specs.ApartUnits.{apart_from, is_same_next}
 use Rattle.es_units.specs.CarriedUnits.{CarriedUnit, role_of}
 use Rattle.es_units.specs.Stamps.{dts_after, moved}
 use Rattle.es_units.specs.UnitSteps.{UnitsSoFar, after_finding, ended_unit, goes_on_as, made_whole}
-use Rattle.es_feed.specs.EachStream.{fed_if, have_fault, units_fed}
-use Rattle.es_feed.specs.Feeding.{Fed, FedStreamView, FeedView, after_found, after_one, before_with, fed_by, fed_ends, fed_last, fed_one, fed_with}
-use Rattle.es_feed.specs.Feeding.{origin_after, place_from, stream_with, whole_by}
+use Rattle.es_units.proofs.ApartSteps.{Soon, dts_past, given_first, set_own}
+use Rattle.es_feed.specs.EachStream.{have_fault, units_fed}
+use Rattle.es_feed.specs.Feeding.{Fed, FedStreamView, FeedView, after_found, after_one, before_with, fed_ends, fed_one, fed_with}
+use Rattle.es_feed.specs.Feeding.{made_by, place_from, same_by, stream_with, whole_by}
 use Rattle.es_feed.specs.Ticks.{after_own, fed_own, without_unit}
-use Rattle.es_feed.specs.declared.due.Due.{Due}
 use Rattle.es_feed.specs.declared.found_pcr.FoundPcr.{FoundPcr}
-use Rattle.es_feed.specs.declared.origin.Origin.{Origin}
+use Rattle.es_feed.proofs.ApartOnes.{same_alone}
+use Rattle.es_feed.proofs.GivenSoon.{given_soon}
 use Rattle.es_feed.proofs.OneStream.{fixed, other_role}
-use Rattle.es_feed.proofs.FedSteps.{Gives, HasBase, Out, Rests, clock_out, fault_split, finding_gives, finding_rests, fixes_fixed, given_before, given_others}
+use Rattle.es_feed.proofs.FedSteps.{Gives, HasBase, Out, Rests, clock_out, finding_gives, finding_rests, fixes_fixed, given_before, given_others}
 use Rattle.es_feed.proofs.FedSteps.{given_units, units_in}
 use Rattle.es_feed.proofs.ListedStreams.{AreKeys, Key, get_set_other, get_set_same, key, key_at, keys, not_placed, placed, set_keys}
 use Rattle.es_feed.proofs.OwnUnits.{AreAlone, alone_after, alone_without, to_come, to_come_early, to_come_more}
@@ -58,10 +58,18 @@ unfoldable pub Skips : Event → FedStreamView → Type 0
 Skips e r = (es : List Event) → AreAlone r.units (finds (e ∷ es)) →
     (to_come r.units (finds (e ∷ es)) ≡ to_come r.units (finds es)) × AreAlone r.units (finds es)
 
--- a stream that is t after it, and of which it gives w
+-- a stream that is t after it, and of which it gives w: the unit that it makes whole, with a DTS of its own
+pub record TakesOne (s t : FedStreamView) (w : Option CarriedUnit) (fs more : List FindingView) : Type 0 where
+  pub whole : Option CarriedUnit
+  pub same : Bool
+  pub given : w ≡ set_apart same s.place whole
+  pub place : t.place ≡ place_past same s.place whole
+  pub come : to_come s.units fs ≡ option_to_list whole ++ to_come t.units more
+  pub is : (u : CarriedUnit) → whole ≡ Some u → same ≡ true → is_same_next u (to_come t.units more) ≡ true
+  pub alone : AreAlone t.units more
+
 unfoldable pub Takes : Event → FedStreamView → FedStreamView → Option CarriedUnit → Type 0
-Takes e s t w = (es : List Event) → AreAlone s.units (finds (e ∷ es)) →
-    (to_come s.units (finds (e ∷ es)) ≡ option_to_list w ++ to_come t.units (finds es)) × AreAlone t.units (finds es)
+Takes e s t w = (es : List Event) → AreAlone s.units (finds (e ∷ es)) → TakesOne s t w (finds (e ∷ es)) (finds es)
 
 pub record StepRests (feed : FeedView) (e : Event) : Type 0 where
   pub rests : Rests feed (after_event feed e) (fed_event feed e)
@@ -103,7 +111,17 @@ finding_skips f r other es alone =
 
 finding_takes : (f : FindingView) (s : FedStreamView) → Takes (Finds f) s (after_found s f) (whole_by s f)
 unfolding Takes finds found_by
-finding_takes f s es alone = (to_come_more s.units f (finds es), alone_after s.units f (finds es) alone)
+finding_takes f s es alone =
+    let later = alone_after s.units f (finds es) alone in
+    record {
+      whole = made_by s f;
+      same = same_by s f;
+      given = refl;
+      place = refl;
+      come = to_come_more s.units f (finds es);
+      is = same_alone s f (finds es) later;
+      alone = later;
+    }
 
 clock_skips : (pcr : FoundPcr) (r : FedStreamView) → Skips (Shows pcr) r
 unfolding Skips finds found_by
@@ -111,7 +129,15 @@ clock_skips pcr r es alone = (refl, alone)
 
 clock_takes : (pcr : FoundPcr) (s : FedStreamView) → Takes (Shows pcr) s (without_unit s) (ended_unit false s.units.unit)
 unfolding Takes finds found_by
-clock_takes pcr s es alone = (to_come_early s.units (finds es) alone, alone_without s.units (finds es) alone)
+clock_takes pcr s es alone = record {
+  whole = ended_unit false s.units.unit;
+  same = false;
+  given = sym (set_own s.place (ended_unit false s.units.unit));
+  place = refl;
+  come = to_come_early s.units (finds es) alone;
+  is = λ u some no. absurd (let never : ⊥ = cc in never);
+  alone = alone_without s.units (finds es) alone;
+}
 
 other_skips : (ks : List Key) (ss : List FedStreamView) (f : FindingView) (j k : ℕ) (s r : FedStreamView) (own : Bool) → AreKeys ks → keys ss ≡ ks →
     slice_get ss j ≡ Some s → has_pid s.units.pid f.pid ≡ true →
@@ -163,19 +189,43 @@ step ks feed (Shows pcr) are is none = clock_step feed pcr (clock_out feed pcr n
 
 -- 3. A stream after a step, where the constant is fixed by then
 
+-- the units that are still to come of it, each with a DTS of its own
+abbrev pub coming : FedStreamView → List FindingView → List CarriedUnit
+coming s fs = apart_from s.place (to_come s.units fs)
+
 pub record Advances (base k : ℕ) (s : FedStreamView) (e : Event) (es : List Event) (next : FeedView) (fed : List Fed) : Type 0 where
   pub after : FedStreamView
   pub at : slice_get next.streams k ≡ Some after
   pub given : Option CarriedUnit
   pub units : units_fed k fed ≡ moved base s.before (units_in given)
   pub before : after.before ≡ dts_after base s.before (units_in given)
-  pub come : to_come s.units (finds (e ∷ es)) ≡ option_to_list given ++ to_come after.units (finds es)
+  pub soon : Soon base s.before (option_to_list given)
+  pub come : Soon base after.before (coming after (finds es)) → coming s (finds (e ∷ es)) ≡ option_to_list given ++ coming after (finds es)
   pub alone : AreAlone after.units (finds es)
+
+past_given : (base : ℕ) (before : Option ℕ) (w : Option CarriedUnit) → dts_after base before (units_in w) ≡ dts_past base before w
+unfolding dts_after dts_past units_in
+past_given base before None = refl
+past_given base before (Some u) = refl
+
+takes_come : (base : ℕ) (s t : FedStreamView) (w : Option CarriedUnit) (fs more : List FindingView) (after : Option ℕ) → TakesOne s t w fs more →
+    after ≡ dts_after base s.before (units_in w) → Soon base after (coming t more) → coming s fs ≡ option_to_list w ++ coming t more
+takes_come base s t w fs more after k is soon =
+    let given = set_apart k.same s.place k.whole in
+    let later = to_come t.units more in
+    let placed : coming t more ≡ apart_from (place_past k.same s.place k.whole) later = ap (λ (p : ℕ). apart_from p later) k.place in
+    let past : after ≡ dts_past base s.before given = is ∙ ap (λ (x : Option CarriedUnit). dts_after base s.before (units_in x)) k.given
+    ∙ past_given base s.before given in
+    ap (λ (us : List CarriedUnit). apart_from s.place us) k.come
+    ∙ given_first base s.place s.before k.whole k.same later k.is
+    (subst (λ (us : List CarriedUnit). Soon base (dts_past base s.before given) us) placed
+    (subst (λ (b : Option ℕ). Soon base b (coming t more)) past soon))
+    ∙ ap₂ (λ (x : Option CarriedUnit) (us : List CarriedUnit). option_to_list x ++ us) (sym k.given) (sym placed)
 
 pub rests_on : (base k : ℕ) (feed : FeedView) (e : Event) (es : List Event) (s : FedStreamView) → StepRests feed e → k < 255 →
     slice_get feed.streams k ≡ Some s → AreAlone s.units (finds (e ∷ es)) →
     Advances base k s e es (after_event feed e) (fed_event feed e)
-unfolding Skips moved dts_after units_in
+unfolding Skips moved dts_after units_in Soon
 rests_on base k feed e es s r few at alone =
     let skips = r.skips k s at es alone in
     record {
@@ -184,14 +234,15 @@ rests_on base k feed e es s r few at alone =
       given = None;
       units = r.rests.none k few;
       before = refl;
-      come = skips.0;
+      soon = tt;
+      come = λ soon. ap (λ (us : List CarriedUnit). apart_from s.place us) skips.0;
       alone = skips.1;
     }
 
 gives_other : (base k : ℕ) (ks : List Key) (feed : FeedView) (e : Event) (es : List Event) (s : FedStreamView) (g : StepGives feed e) → AreKeys ks →
     keys feed.streams ≡ ks → k ≢ g.place → slice_get feed.streams k ≡ Some s →
     AreAlone s.units (finds (e ∷ es)) → Advances base k s e es (after_event feed e) (fed_event feed e)
-unfolding Skips moved dts_after units_in
+unfolding Skips moved dts_after units_in Soon
 gives_other base k ks feed e es s g are is apart at alone =
     let skips = g.skips k s apart at es alone in
     let w = g.gives in
@@ -205,7 +256,8 @@ gives_other base k ks feed e es s g are is apart at alone =
       units = ap (λ (xs : List Fed). units_fed k xs) w.fed_is
           ∙ given_others w.due feed.origin g.stream.number k g.stream.before g.whole (λ same. apart (same ∙ number));
       before = refl;
-      come = skips.0;
+      soon = tt;
+      come = λ soon. ap (λ (us : List CarriedUnit). apart_from s.place us) skips.0;
       alone = skips.1;
     }
 
@@ -220,17 +272,19 @@ gives_own base ks feed e es g are is here none alone =
     let number : g.stream.number ≡ g.place =
     are.number g.place (key g.stream) (ap (λ (l : List Key). slice_get l g.place) (sym is) ∙ key_at feed.streams g.place g.stream w.at) in
     let told : have_fault (option_to_list (fed_with w.due feed.origin g.stream.number g.stream.before g.whole)) ≡ false = ap have_fault (sym w.fed_is) ∙ none in
+    let after = stream_with w.due feed.origin g.after g.whole in
+    let before = ap (λ (b : Option ℕ). before_with w.due feed.origin b g.whole) w.before
+    ∙ given_before w.due feed.origin g.stream.number base g.stream.before g.whole here told in
     record {
-      after = stream_with w.due feed.origin g.after g.whole;
-      at = ap (λ (ss : List FedStreamView). slice_get ss g.place) w.streams
-          ∙ get_set_same feed.streams g.place g.stream (stream_with w.due feed.origin g.after g.whole) w.at;
+      after = after;
+      at = ap (λ (ss : List FedStreamView). slice_get ss g.place) w.streams ∙ get_set_same feed.streams g.place g.stream after w.at;
       given = g.whole;
       units = ap (λ (n : ℕ). units_fed n (fed_event feed e)) (sym number) ∙ ap (λ (xs : List Fed). units_fed g.stream.number xs) w.fed_is
           ∙ given_units w.due feed.origin g.stream.number base g.stream.before g.whole here told;
-      before = ap (λ (b : Option ℕ). before_with w.due feed.origin b g.whole) w.before
-          ∙ given_before w.due feed.origin g.stream.number base g.stream.before g.whole here told;
-      come = takes.0;
-      alone = takes.1;
+      before = before;
+      soon = given_soon w.due feed.origin g.stream.number base g.stream.before g.whole here told;
+      come = takes_come base g.stream g.after g.whole (finds (e ∷ es)) (finds es) after.before takes before;
+      alone = takes.alone;
     }
 
 pub gives_by : (base k : ℕ) (ks : List Key) (feed : FeedView) (e : Event) (es : List Event) (s : FedStreamView) (g : StepGives feed e) → AreKeys ks →
@@ -268,85 +322,3 @@ unfolding Step
 step_advances base k ks feed e es s (inl r) are is few known none at alone = rests_on base k feed e es s r few at alone
 step_advances base k ks feed e es s (inr g) are is few known none at alone =
     gives_by base k ks feed e es s g are is (fixes_fixed g.gives.due feed.origin g.whole base known).here none at alone (eqb_tells k g.place)
-
--- 4. The end: the last unit of each stream
-
-abbrev pub units_of_all : List CarriedUnit → List AccessUnit
-units_of_all ws = map (λ (w : CarriedUnit). w.unit) ws
-
-unfoldable pub AreFrom : ℕ → List FedStreamView → Type 0
-AreFrom k ss = (i : ℕ) (t : FedStreamView) → slice_get ss i ≡ Some t → t.number ≡ k + i
-
-from_next : (k : ℕ) (t : FedStreamView) (ts : List FedStreamView) → AreFrom k (t ∷ ts) → AreFrom (k + 1) ts
-unfolding AreFrom
-from_next k t ts from i u at = let there = from (suc i) u at in omega (arith, there)
-
-from_head : (k : ℕ) (t : FedStreamView) (ts : List FedStreamView) → AreFrom k (t ∷ ts) → t.number ≡ k
-unfolding AreFrom
-from_head k t ts from = let here = from zero t refl in omega (arith, here)
-
-not_less : (n k number : ℕ) → number ≡ k → n < k → n ≢ number
-not_less n k number is below same = let no : ⊥ = omega (arith, is, below, same) in no
-
-last_none : (d : Due) (base k n : ℕ) (ss : List FedStreamView) → AreFrom k ss → n < k → units_fed n (fed_last d (fixed base) ss) ≡ []
-unfolding fed_last
-last_none d base k n [] from below = refl
-last_none d base k n (t ∷ ts) from below =
-    let w = ended_unit false t.units.unit in
-    let one = option_to_list (fed_by d (fixed base) t w) in
-    flat_map-append (fed_if n) one (fed_last d (origin_after d (fixed base) w) ts)
-    ∙ ap (λ (us : List AccessUnit). us ++ units_fed n (fed_last d (origin_after d (fixed base) w) ts))
-    (given_others d (fixed base) t.number n t.before w (not_less n k t.number (from_head k t ts from) below))
-    ∙ ap (λ (o : Origin). units_fed n (fed_last d o ts)) (fixes_fixed d (fixed base) w base refl).then_fixed
-    ∙ last_none d base (k + 1) n ts (from_next k t ts from) (omega (arith, below))
-
-last_own : (d : Due) (base k : ℕ) (t : FedStreamView) (ts : List FedStreamView) → AreFrom k (t ∷ ts) → have_fault (fed_last d (fixed base) (t ∷ ts)) ≡ false →
-    units_fed t.number (fed_last d (fixed base) (t ∷ ts)) ≡ moved base t.before (units_in (ended_unit false t.units.unit))
-unfolding fed_last
-last_own d base k t ts from none =
-    let w = ended_unit false t.units.unit in
-    let one = option_to_list (fed_by d (fixed base) t w) in
-    let rest = fed_last d (origin_after d (fixed base) w) ts in
-    let fixes = fixes_fixed d (fixed base) w base refl in
-    let number = from_head k t ts from in
-    let own = moved base t.before (units_in w) in
-    flat_map-append (fed_if t.number) one rest
-    ∙ ap (λ (us : List AccessUnit). us ++ units_fed t.number rest)
-    (given_units d (fixed base) t.number base t.before w fixes.here (fault_split one rest none).0)
-    ∙ ap (λ (o : Origin). own ++ units_fed t.number (fed_last d o ts)) fixes.then_fixed
-    ∙ ap (λ (us : List AccessUnit). own ++ us) (last_none d base (k + 1) t.number ts (from_next k t ts from) (omega (arith, number)))
-    ∙ append-nil own
-
-last_later : (d : Due) (base k i : ℕ) (t : FedStreamView) (ts : List FedStreamView) (us : List AccessUnit) → AreFrom k (t ∷ ts) →
-    have_fault (fed_last d (fixed base) (t ∷ ts)) ≡ false →
-    (have_fault (fed_last d (fixed base) ts) ≡ false → units_fed ((k + 1) + i) (fed_last d (fixed base) ts) ≡ us) →
-    units_fed (k + suc i) (fed_last d (fixed base) (t ∷ ts)) ≡ us
-unfolding fed_last
-last_later d base k i t ts us from none rest_is =
-    let w = ended_unit false t.units.unit in
-    let one = option_to_list (fed_by d (fixed base) t w) in
-    let rest = fed_last d (origin_after d (fixed base) w) ts in
-    let fixes = fixes_fixed d (fixed base) w base refl in
-    let number = from_head k t ts from in
-    let n : k + suc i ≡ (k + 1) + i = omega arith in
-    let clear : have_fault (fed_last d (fixed base) ts) ≡ false = ap (λ (o : Origin). have_fault (fed_last d o ts)) (sym fixes.then_fixed)
-    ∙ (fault_split one rest none).1 in
-    flat_map-append (fed_if (k + suc i)) one rest
-    ∙ ap (λ (us : List AccessUnit). us ++ units_fed (k + suc i) rest)
-    (given_others d (fixed base) t.number (k + suc i) t.before w (λ same. let no : ⊥ = omega (arith, same, number) in no))
-    ∙ ap (λ (o : Origin). units_fed (k + suc i) (fed_last d o ts)) fixes.then_fixed
-    ∙ ap (λ (m : ℕ). units_fed m (fed_last d (fixed base) ts)) n
-    ∙ rest_is clear
-
-pub last_moved : (d : Due) (base k i : ℕ) (ss : List FedStreamView) (s : FedStreamView) → AreFrom k ss → slice_get ss i ≡ Some s →
-    have_fault (fed_last d (fixed base) ss) ≡ false →
-    units_fed (k + i) (fed_last d (fixed base) ss) ≡ moved base s.before (units_in (ended_unit false s.units.unit))
-last_moved d base k i [] s from at none = absurd cc
-last_moved d base k zero (t ∷ ts) s from at none =
-    let same : t ≡ s = cc in
-    let n : k + 0 ≡ t.number = let number = from_head k t ts from in omega (arith, number) in
-    ap (λ (n : ℕ). units_fed n (fed_last d (fixed base) (t ∷ ts))) n ∙ last_own d base k t ts from none
-    ∙ ap (λ (x : FedStreamView). moved base x.before (units_in (ended_unit false x.units.unit))) same
-last_moved d base k (suc i) (t ∷ ts) s from at none =
-    last_later d base k i t ts (moved base s.before (units_in (ended_unit false s.units.unit))) from none
-    (λ clear. last_moved d base (k + 1) i ts s (from_next k t ts from) at clear)

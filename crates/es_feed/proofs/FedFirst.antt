@@ -3,15 +3,13 @@ use Rattle.std.proofs.Common.{◌≡◌, ◌≢◌, ◌∙◌, ◌⊎◌, ◌<�
 use Rattle.std.proofs.Common.{slice_get, slice_set, refl, sym, ap, ap₂, subst, inl, inr, arith}
 use Rattle.std.specs.Option.{option_to_list}
 use Rattle.std.proofs.lemmas.Bool.Decides.{eqb_tells}
-use Rattle.std.proofs.lemmas.Grind.{flat_map-append}
-use Rattle.std.proofs.lemmas.List.{map-append}
 use Rattle.std.proofs.lemmas.Option.{slice_get_within}
 use Rattle.pes_packet.specs.AccessUnits.{AccessUnit}
 use Rattle.es_units.specs.CarriedUnits.{CarriedUnit}
-use Rattle.es_units.specs.Stamps.{distance, dts_after, dts_at, moved, unit_at}
+use Rattle.es_units.specs.Stamps.{distance, dts_at, moved, unit_at}
 use Rattle.es_units.specs.UnitSteps.{ended_unit}
-use Rattle.es_units.proofs.MovedUnits.{moved_in_turn}
-use Rattle.es_feed.specs.EachStream.{BeginsAt, fed_if, have_fault, units_fed}
+use Rattle.es_units.proofs.ApartSteps.{Soon}
+use Rattle.es_feed.specs.EachStream.{BeginsAt, have_fault, units_fed}
 use Rattle.es_feed.specs.Feeding.{Fed, FedStreamView, FeedView, at_moment, before_with, base_of, due_of, fed_ends, fed_last, fed_with, origin_after}
 use Rattle.es_feed.specs.Feeding.{stream_with}
 use Rattle.es_feed.specs.Origins.{no_origin}
@@ -19,26 +17,14 @@ use Rattle.es_feed.specs.declared.due.Due.{Due}
 use Rattle.es_feed.specs.declared.origin.Origin.{Origin}
 use Rattle.es_feed.proofs.OneStream.{fixed}
 use Rattle.es_feed.proofs.FedSteps.{Fixes, HasBase, fault_split, fixes_first, fixes_fixed, given_ok, units_in}
-use Rattle.es_feed.proofs.FedEach.{AreFrom, Event, Step, StepGives, StepRests, after_event, fed_event, fed_events, finds, gives_by, last_moved, rests_on, step}
-use Rattle.es_feed.proofs.FedEach.{step_advances, step_fixed, step_keys, units_of_all}
+use Rattle.es_feed.proofs.FedEach.{Event, Step, StepGives, StepRests, after_event, fed_event, fed_events, finds, gives_by, rests_on, step}
+use Rattle.es_feed.proofs.FedEach.{step_advances, step_fixed, step_keys}
+use Rattle.es_feed.proofs.FedEnds.{AreFrom, last_moved, last_soon, units_of_all}
+use Rattle.es_feed.proofs.FedMoved.{IsMoved, advance_moved, coming_last}
 use Rattle.es_feed.proofs.ListedStreams.{AreKeys, Key, get_set_other, get_set_same, key, key_at, keys}
-use Rattle.es_feed.proofs.OwnUnits.{AreAlone, to_come, to_come_last}
+use Rattle.es_feed.proofs.OwnUnits.{AreAlone}
 
 -- 1. Once it is fixed
-
-units_more : (base k : ℕ) (before after : Option ℕ) (given : Option CarriedUnit) (all later : List CarriedUnit) (fed more : List Fed) →
-    units_fed k fed ≡ moved base before (units_in given) →
-    after ≡ dts_after base before (units_in given) → all ≡ option_to_list given ++ later → units_fed k more ≡ moved base after (units_of_all later) →
-    units_fed k (fed ++ more) ≡ moved base before (units_of_all all)
-unfolding units_in
-units_more base k before after given all later fed more here then is rest =
-    let w = units_of_all (option_to_list given) in
-    flat_map-append (fed_if k) fed more
-    ∙ ap₂ (λ (us vs : List AccessUnit). us ++ vs) here rest
-    ∙ ap (λ (b : Option ℕ). moved base before w ++ moved base b (units_of_all later)) then
-    ∙ sym (moved_in_turn base before w (units_of_all later))
-    ∙ ap (λ (us : List AccessUnit). moved base before us) (sym (map-append (λ (w : CarriedUnit). w.unit) (option_to_list given) later))
-    ∙ ap (λ (ws : List CarriedUnit). moved base before (units_of_all ws)) (sym is)
 
 from_keys : (ks : List Key) (ss : List FedStreamView) → AreKeys ks → keys ss ≡ ks → AreFrom 0 ss
 unfolding AreFrom
@@ -48,30 +34,31 @@ from_keys ks ss are is i t at =
 
 ends_moved : (base k : ℕ) (ks : List Key) (feed : FeedView) (s : FedStreamView) → AreKeys ks → keys feed.streams ≡ ks → feed.origin ≡ fixed base →
     slice_get feed.streams k ≡ Some s →
-    have_fault (fed_ends feed) ≡ false → units_fed k (fed_ends feed) ≡ moved base s.before (units_of_all (to_come s.units []))
-unfolding units_in
+    have_fault (fed_ends feed) ≡ false → IsMoved base k feed [] s
+unfolding fed_events units_in
 ends_moved base k ks feed s are is known at none =
     let d = due_of feed in
     let clear : have_fault (fed_last d (fixed base) feed.streams) ≡ false = ap (λ (o : Origin). have_fault (fed_last d o feed.streams)) (sym known) ∙ none in
     let n : 0 + k ≡ k = omega arith in
-    ap (λ (o : Origin). units_fed k (fed_last d o feed.streams)) known
-    ∙ ap (λ (m : ℕ). units_fed m (fed_last d (fixed base) feed.streams)) (sym n)
-    ∙ last_moved d base 0 k feed.streams s (from_keys ks feed.streams are is) at clear
-    ∙ ap (λ (ws : List CarriedUnit). moved base s.before (units_of_all ws)) (sym (to_come_last s.units))
+    record {
+      units = ap (λ (o : Origin). units_fed k (fed_last d o feed.streams)) known
+          ∙ ap (λ (m : ℕ). units_fed m (fed_last d (fixed base) feed.streams)) (sym n)
+          ∙ last_moved d base 0 k feed.streams s (from_keys ks feed.streams are is) at clear
+          ∙ ap (λ (ws : List CarriedUnit). moved base s.before (units_of_all ws)) (sym (coming_last s));
+      soon = subst (λ (ws : List CarriedUnit). Soon base s.before ws) (sym (coming_last s)) (last_soon d base k feed.streams s at clear);
+    }
 
 fixed_moved : (base k : ℕ) (ks : List Key) (feed : FeedView) (es : List Event) (s : FedStreamView) → AreKeys ks → keys feed.streams ≡ ks → k < 255 →
     feed.origin ≡ fixed base → slice_get feed.streams k ≡ Some s →
-    AreAlone s.units (finds es) → have_fault (fed_events feed es) ≡ false →
-    units_fed k (fed_events feed es) ≡ moved base s.before (units_of_all (to_come s.units (finds es)))
-unfolding fed_events finds
+    AreAlone s.units (finds es) → have_fault (fed_events feed es) ≡ false → IsMoved base k feed es s
+unfolding fed_events
 fixed_moved base k ks feed [] s are is few known at alone none = ends_moved base k ks feed s are is known at none
 fixed_moved base k ks feed (e ∷ es) s are is few known at alone none =
     let next = after_event feed e in
     let two = fault_split (fed_event feed e) (fed_events next es) none in
     let st = step ks feed e are is two.0 in
     let a = step_advances base k ks feed e es s st are is few known two.0 at alone in
-    units_more base k s.before a.after.before a.given (to_come s.units (finds (e ∷ es))) (to_come a.after.units (finds es)) (fed_event feed e)
-    (fed_events next es) a.units a.before a.come
+    advance_moved base k feed e es s a
     (fixed_moved base k ks next es a.after are (step_keys ks feed e st is) few (step_fixed base feed e st known) a.at a.alone two.1)
 
 -- 2. Before the first unit of all
@@ -176,7 +163,7 @@ pub record MovedByFirst (earliest count : ℕ) (feed : FeedView) (es : List Even
   pub range : base < 2 ^ 33
   pub begins : BeginsAt earliest count (fed_events feed es)
   pub are_moved : (k : ℕ) (s : FedStreamView) → slice_get feed.streams k ≡ Some s → AreAlone s.units (finds es) →
-      units_fed k (fed_events feed es) ≡ moved base s.before (units_of_all (to_come s.units (finds es)))
+      IsMoved base k feed es s
 
 -- streams before the first unit of all
 pub record AreWaiting (earliest : ℕ) (ks : List Key) (feed : FeedView) : Type 0 where
@@ -200,7 +187,7 @@ number_below ks ss k s are is at =
 
 ends_first : (earliest : ℕ) (ks : List Key) (feed : FeedView) → AreWaiting earliest ks feed → have_fault (fed_ends feed) ≡ false →
     MovedByFirst earliest (length ks) feed []
-unfolding fed_events finds units_in
+unfolding fed_events units_in
 ends_first earliest ks feed w none =
     let d = due_of feed in
     let early : feed.earliest < 2 ^ 33 = subst (λ (e : ℕ). e < 2 ^ 33) (sym w.earliest_is) w.early in
@@ -215,10 +202,13 @@ ends_first earliest ks feed w none =
           (subst (λ (xs : List Fed). BeginsAt feed.earliest (length ks) xs) (sym all) l.begins);
       are_moved = λ k s at alone.
           let n : 0 + k ≡ k = omega arith in
-          ap (λ (xs : List Fed). units_fed k xs) (all ∙ l.same)
-          ∙ ap (λ (m : ℕ). units_fed m (fed_last d (fixed l.base) feed.streams)) (sym n)
-          ∙ last_moved d l.base 0 k feed.streams s (from_keys ks feed.streams w.are w.is) at still
-          ∙ ap (λ (ws : List CarriedUnit). moved l.base s.before (units_of_all ws)) (sym (to_come_last s.units));
+          record {
+            units = ap (λ (xs : List Fed). units_fed k xs) (all ∙ l.same)
+                ∙ ap (λ (m : ℕ). units_fed m (fed_last d (fixed l.base) feed.streams)) (sym n)
+                ∙ last_moved d l.base 0 k feed.streams s (from_keys ks feed.streams w.are w.is) at still
+                ∙ ap (λ (ws : List CarriedUnit). moved l.base s.before (units_of_all ws)) (sym (coming_last s));
+            soon = subst (λ (ws : List CarriedUnit). Soon l.base s.before ws) (sym (coming_last s)) (last_soon d l.base k feed.streams s at still);
+          };
     }
 
 -- a step that feeds nothing
@@ -250,8 +240,7 @@ rests_first earliest ks feed e es r w none later =
           let below = place_below ks feed.streams k s w.is at in
           let fits : k < 255 = let few = w.few in omega (arith, below, few) in
           let a = rests_on rest.base k feed e es s r fits at alone in
-          units_more rest.base k s.before a.after.before a.given (to_come s.units (finds (e ∷ es))) (to_come a.after.units (finds es)) (fed_event feed e)
-          (fed_events next es) a.units a.before a.come
+          advance_moved rest.base k feed e es s a
           (rest.are_moved k a.after a.at a.alone);
     }
 
@@ -299,8 +288,7 @@ gives_none earliest ks feed e es g whole w none later =
       are_moved = λ k s at alone.
           let a = gives_by rest.base k ks feed e es s g w.are w.is (λ u some. absurd (let no : None ≡ Some u = sym whole ∙ some in cc)) two.0 at alone
           (eqb_tells k g.place) in
-          units_more rest.base k s.before a.after.before a.given (to_come s.units (finds (e ∷ es))) (to_come a.after.units (finds es)) (fed_event feed e)
-          (fed_events next es) a.units a.before a.come
+          advance_moved rest.base k feed e es s a
           (rest.are_moved k a.after a.at a.alone);
     }
 
@@ -334,8 +322,7 @@ gives_first earliest ks feed e es g u whole w none =
           let below = place_below ks feed.streams k s w.is at in
           let fits : k < 255 = let few = w.few in omega (arith, below, few) in
           let a = gives_by base k ks feed e es s g w.are w.is fixes.here two.0 at alone (eqb_tells k g.place) in
-          units_more base k s.before a.after.before a.given (to_come s.units (finds (e ∷ es))) (to_come a.after.units (finds es)) (fed_event feed e)
-          (fed_events next es) a.units a.before a.come
+          advance_moved base k feed e es s a
           (fixed_moved base k ks next es a.after w.are (step_keys ks feed e st w.is) fits known a.at a.alone two.1);
     }
 

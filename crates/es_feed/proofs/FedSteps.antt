@@ -324,7 +324,7 @@ pub record Fixes (d : Due) (o : Origin) (w : Option CarriedUnit) (base : ℕ) : 
 unfoldable pub units_in : Option CarriedUnit → List AccessUnit
 units_in w = map (λ (w : CarriedUnit). w.unit) (option_to_list w)
 
-if_first : (a b : Bool) → (a || b) ≡ false → a ≡ false
+pub if_first : (a b : Bool) → (a || b) ≡ false → a ≡ false
 if_first true b e = absurd cc
 if_first false b e = refl
 

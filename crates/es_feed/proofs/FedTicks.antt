@@ -1,5 +1,6 @@
 -- What a clock reference feeds.
-use Rattle.std.proofs.Common.{◌≡◌, ◌∙◌, ◌<◌, ◌≤◌, ℕ, ◌+◌, ◌^◌, ◌++◌, ◌&&◌, Bool, true, false, if◌then◌else◌, Option, Some, None, List, [], ◌∷◌, All, length}
+use Rattle.std.proofs.Common.{◌≡◌, ◌∙◌, ◌<◌, ◌≤◌, ℕ, ◌+◌, ◌-◌, ◌^◌, ◌++◌, ◌&&◌, Bool, true, false, if◌then◌else◌, Option, Some, None, List, [], ◌∷◌, All}
+use Rattle.std.proofs.Common.{length}
 use Rattle.std.proofs.Common.{drop, get_or, slice_get, slice_set, refl, sym, ap, add-one, inl, inr, ◌⊎◌, arith}
 use Rattle.std.specs.Prelude.{IfSome, max, nat_le, nat_lt}
 use Rattle.std.specs.Option.{option_to_list}
@@ -91,10 +92,10 @@ unfolding dts_or_0
 fed_before None late below = tt
 fed_before (Some dts) late below = below
 
-waits_past : (due : Option ℕ) (late : ℕ) → is_passed_by late due ≡ false → IfSome due (λ due. late < due)
+waits_past : (due : Option ℕ) (late : ℕ) → is_passed_by late due ≡ false → IfSome due (λ due. late + 63 < due)
 unfolding is_passed_by
 waits_past None late is = tt
-waits_past (Some due) late is = let over : late < due = search (arith, is) in over
+waits_past (Some due) late is = let over : late < due - 63 = search (arith, is) in omega (arith, over)
 
 -- the greatest is no less than any of them
 least_below : (least late : ℕ) (ss : List FedStreamView) → greatest_from least ss < late → least < late

@@ -1,11 +1,15 @@
 pub mod UncutUnits
+pub mod OwnUnits
+pub mod ApartOnes
+pub mod OneStream
 pub mod Restarts
 pub mod FedUnits
-pub mod OneStream
 pub mod ListedStreams
-pub mod OwnUnits
 pub mod FedSteps
+pub mod GivenSoon
 pub mod FedEach
+pub mod FedEnds
+pub mod FedMoved
 pub mod FedFirst
 pub mod FedRises
 pub mod EachStream

@@ -4,7 +4,7 @@ use Rattle.std.proofs.Common.{ap₂, arith}
 use Rattle.pes_packet.specs.AccessUnits.{AccessUnit}
 use Rattle.pes_packet.specs.declared.marks.Marks.{Marks}
 use Rattle.demux.specs.Views.{FindingView}
-use Rattle.es_units.specs.CarriedUnits.{wire_units}
+use Rattle.es_units.specs.ApartUnits.{apart_wire_units}
 use Rattle.es_units.specs.Stamps.{distance, dts_at, moved, unit_at}
 use Rattle.es_feed.specs.EachStream.{BeginsAt, fed_if, found_of_all, has_fault, have_fault, units_fed}
 use Rattle.es_feed.specs.Feeding.{Fed, FedStreamView, feed_first}
@@ -120,21 +120,21 @@ begins_own n u rest = ap (λ (us : List AccessUnit). us ++ units_fed n rest) (ow
 apart_by : (base fed_by early : ℕ) (streams : List FedStreamView) (findings : List FindingView) (fed : List Fed) → early < 2 ^ 32 →
     BeginsAt early (length streams) fed → have_fault fed ≡ false →
     AreWhole base early streams findings →
-    ((k : ℕ) (s : FedStreamView) → slice_get streams k ≡ Some s → units_fed k fed ≡ moved fed_by None (wire_units s.units.pid findings)) →
+    ((k : ℕ) (s : FedStreamView) → slice_get streams k ≡ Some s → units_fed k fed ≡ moved fed_by None (apart_wire_units s.units.pid findings)) →
     AreApart base streams findings fed
 unfolding BeginsAt has_fault
 apart_by base fed_by early streams findings [] small begins silent w each = record {
   here = 0;
   there = 0;
   are = λ k s at.
-      let wire = wire_units s.units.pid findings in
+      let wire = apart_wire_units s.units.pid findings in
       let none = none_on_wire fed_by wire (each k s at) in
       sym (ap (λ (us : List AccessUnit). map (after_time 0) us) (ap (λ (ws : List AccessUnit). moved base None ws) none ∙ moved_none base));
 }
 apart_by base fed_by early streams findings ((n, Err fault) ∷ fed) small begins silent w each = absurd cc
 apart_by base fed_by early streams findings ((n, Ok u) ∷ fed) small begins silent w each =
     let s = first_stream streams n begins.0 in
-    let other = wire_units s.0.units.pid findings in
+    let other = apart_wire_units s.0.units.pid findings in
     let v = first_on_wire fed_by other u (units_fed n fed) (sym (begins_own n u fed) ∙ each n s.0 s.1) in
     let due : distance fed_by v.first.dts ≡ early = sym (first_dts fed_by u v.first v.unit_is) ∙ begins.1 in
     record {
@@ -142,7 +142,7 @@ apart_by base fed_by early streams findings ((n, Ok u) ∷ fed) small begins sil
       there = early;
       are = λ k t at.
           ap (λ (us : List AccessUnit). map (after_time (distance base v.first.dts)) us) (each k t at)
-          ∙ one_apart base fed_by early v.first v.more (wire_units t.units.pid findings) other v.wire_is due small (w.near k n t s.0 at s.1)
+          ∙ one_apart base fed_by early v.first v.more (apart_wire_units t.units.pid findings) other v.wire_is due small (w.near k n t s.0 at s.1)
           (w.near n k s.0 t s.1 at);
     }
 

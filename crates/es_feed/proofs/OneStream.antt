@@ -9,6 +9,8 @@ use Rattle.std.proofs.lemmas.List.{append_assoc, append-nil}
 use Rattle.pes_packet.specs.AccessUnits.{AccessUnit}
 use Rattle.demux.specs.Views.{FindingView}
 use Rattle.demux.specs.Laws.{has_pid}
+use Rattle.es_units.specs.ApartSteps.{place_past, set_apart}
+use Rattle.es_units.specs.ApartUnits.{has_same}
 use Rattle.es_units.specs.CarriedUnits.{CarriedUnit, Ignored, role_of, carried_units}
 use Rattle.es_units.specs.Stamps.{distance, dts_at, unit_at, moved, unit_fault, fault_or, first_fault}
 use Rattle.es_units.specs.UnitSteps.{UnitsSoFar, after_finding, after_findings, ended_unit, given, goes_on_as, has_cut, is_start_cut, made_whole, none_so_far}
@@ -22,7 +24,8 @@ use Rattle.es_feed.specs.declared.due.Due.{Due}
 use Rattle.es_feed.specs.declared.origin.Origin.{Origin}
 use Rattle.es_feed.specs.Feeding.{FedStreamView, Fed, FeedView, ahead_of, unless_ahead, unless_fault, at_moment, last_dts, base_by, base_of, origin_after}
 use Rattle.es_feed.specs.Feeding.{before_with, fed_with, stream_with, fed_by, whole_by, after_found, lost_by, told_by, told_of, fault_by, unit_after}
-use Rattle.es_feed.specs.Feeding.{follow_after, greatest_if, place_from, after_at, fed_at, after_place, fed_place, after_unit, fed_unit, map_fed, after_one}
+use Rattle.es_feed.specs.Feeding.{follow_after, made_by, place_by, same_by, greatest_if, place_from, after_at, fed_at, after_place, fed_place, after_unit}
+use Rattle.es_feed.specs.Feeding.{fed_unit, map_fed, after_one}
 use Rattle.es_feed.specs.Feeding.{fed_one, after_all, fed_all, fed_last, fed_ends, fed_to_end, greatest_of, is_fallen, other_fed, packet_fault, packet_fed}
 use Rattle.es_feed.specs.Feeding.{restart_fed, restart_in, restarted, seen_by, seen_in, seen_of, seen_place, watched, greatest_pts_limit}
 use Rattle.es_feed.specs.EachStream.{has_fault, have_fault}
@@ -30,8 +33,11 @@ use Rattle.es_feed.specs.Restarts.{fallen_after, origin_by, restart_of}
 use Rattle.es_feed.specs.declared.feed_fault.PacketFault.{PacketFault}
 use Rattle.es_feed.specs.declared.feed_fault.Restart.{Restart}
 use Rattle.es_feed.specs.declared.restart.Seen.{Seen}
+use Rattle.es_units.proofs.ApartUnits.{none_same}
 use Rattle.es_units.proofs.UnitSteps.{uncut_carried}
 use Rattle.es_feed.specs.Laws.{FedAsCarried, beside_packets, has_loss, is_loss, is_of_packet, unless_packet}
+use Rattle.es_feed.proofs.ApartOnes.{not_apart}
+use Rattle.es_feed.proofs.OwnUnits.{to_come, to_come_more}
 use Rattle.es_feed.proofs.Restarts.{fault_split, no_fall, no_restart}
 use Rattle.given_marks.specs.Marking.{no_marking}
 use Rattle.es_feed.proofs.UncutUnits.{Uncut, no_unit, past_here, uncut_step, under_cut}
@@ -88,14 +94,17 @@ no_loss false (Some loss) none is = absurd cc
 
 other_after : (e : ℕ) (o : Origin) (s : FedStreamView) (f : FindingView) → s.follow ≡ is_some s.units.unit → role_of s.units.pid f ≡ Ignored →
     single e o s ≡ single e o (stream_with (due_from e) o (after_found s f) None)
-unfolding before_with goes_on_as
+unfolding before_with goes_on_as made_whole place_past
 other_after e o s f follows other =
-    let with_these = λ (u : UnitsSoFar) (b : Bool). single e o (record { number = s.number; before = s.before; units = u; follow = b }) in
+    let with_these = λ (u : UnitsSoFar) (b : Bool). single e o (record { number = s.number; before = s.before; units = u; follow = b; place = s.place }) in
     let units : after_finding s.units f ≡ s.units = rw other refl in
     let same : follow_after s f ≡ s.follow =
     ap (λ (u : UnitsSoFar). is_some u.unit || (s.follow && not (is_some (told_by s f)))) units
     ∙ other_follow s.follow (is_some s.units.unit) (not (is_some (told_by s f))) follows in
-    sym (ap (λ (b : Bool). with_these (after_finding s.units f) b) same ∙ ap (λ (u : UnitsSoFar). with_these u s.follow) units)
+    let placed : place_by s f ≡ s.place = rw other refl in
+    let t = after_found s f in
+    sym (ap (λ (p : ℕ). single e o (record { number = s.number; before = s.before; units = t.units; follow = t.follow; place = p })) placed
+    ∙ ap (λ (b : Bool). with_these (after_finding s.units f) b) same ∙ ap (λ (u : UnitsSoFar). with_these u s.follow) units)
 
 calm : (e : ℕ) (o : Origin) (s : FedStreamView) (start : Option (ℕ × ℕ)) (x : Option Fed) → is_fallen x ≡ false →
     restarted (single e o s) (seen_of None start x) ≡ single e o s
@@ -117,7 +126,7 @@ single_seen e o s f own = rw own refl
 single_after_by : (e : ℕ) (o : Origin) (s : FedStreamView) (f : FindingView) (own : Bool) → s.follow ≡ is_some s.units.unit → has_pid s.units.pid f.pid ≡ own →
     is_fallen (fed_by (due_from e) o s (whole_by s f)) ≡ false →
     after_one (single e o s) f ≡ single e (origin_after (due_from e) o (whole_by s f)) (stream_with (due_from e) o (after_found s f) (whole_by s f))
-unfolding map_from set_place place_from after_place origin_after before_with made_whole seen_place restart_of origin_by fallen_after
+unfolding map_from set_place place_from after_place origin_after before_with made_whole set_apart seen_place restart_of origin_by fallen_after
 single_after_by e o s f true follows own quiet =
     let t = stream_with (due_from e) o (after_found s f) (whole_by s f) in
     ap₂ restarted (single_unit_after e o s f own) (single_seen e o s f own)
@@ -135,7 +144,8 @@ neither false b none = (refl, none)
 single_fed_by : (e : ℕ) (o : Origin) (s : FedStreamView) (f : FindingView) (own : Bool) → has_pid s.units.pid f.pid ≡ own → (own ≡ true → told_by s f ≡ None) →
     is_fallen (fed_by (due_from e) o s (whole_by s f)) ≡ false →
     fed_one (single e o s) f ≡ option_to_list (packet_fed (packet_fault f)) ++ option_to_list (fed_by (due_from e) o s (whole_by s f))
-unfolding map_from set_place change_place map_fed place_from fed_place fed_at fed_with made_whole greatest_if told_of seen_place restart_of restart_fed
+unfolding map_from set_place change_place map_fed place_from fed_place fed_at fed_with made_whole set_apart greatest_if told_of seen_place restart_of
+    restart_fed
     other_place other_fed
 single_fed_by e o s f true own none quiet =
     let unit = option_to_list (fed_by (due_from e) o s (whole_by s f)) in
@@ -231,35 +241,39 @@ timed_clear d o n before w ws vs clear =
     fault_split (option_to_list (fed_with d o n before w)) (timed d (origin_after d o w) n (before_with d o before w) (ws ++ vs))
     (ap have_fault (sym parts) ∙ clear)
 
-single_timed : (e : ℕ) (o : Origin) (s : FedStreamView) (fs : List FindingView) → IsWhole s fs →
+single_timed : (e : ℕ) (o : Origin) (s : FedStreamView) (fs : List FindingView) → IsWhole s fs → has_same (to_come s.units fs) ≡ false →
     have_fault (timed (due_from e) o s.number s.before (given s.units fs ++ option_to_list (ended_unit false (after_findings s.units fs).unit))) ≡ false →
     beside_packets (fed_to_end (single e o s) fs) ≡ timed (due_from e) o s.number s.before
     (given s.units fs ++ option_to_list (ended_unit false (after_findings s.units fs).unit))
-unfolding fed_all after_all fed_last given after_findings timed greatest_if
-single_timed e o s [] whole clear =
+unfolding fed_all after_all fed_last given after_findings timed greatest_if to_come
+single_timed e o s [] whole alone clear =
     let d = due_from e in
     let w = ended_unit false s.units.unit in
     let last : fed_to_end (single e o s) [] ≡ timed d o s.number s.before (option_to_list w) =
     sym (ap (λ (ws : List CarriedUnit). timed d o s.number s.before ws) (sym (append-nil (option_to_list w))) ∙ timed_one d o s.number s.before w []) in
     ap beside_packets last ∙ clear_beside (timed d o s.number s.before (option_to_list w)) clear
-single_timed e o s (f ∷ fs) whole clear =
+single_timed e o s (f ∷ fs) whole alone clear =
     let d = due_from e in
     let step = whole_step s f fs whole in
+    let none = not_apart s f fs (same_by s f) (made_by s f) refl refl step.under
+    (ap has_same (sym (to_come_more s.units f fs)) ∙ alone) in
     let w = whole_by s f in
     let t = stream_with d o (after_found s f) w in
     let ends = option_to_list (ended_unit false (after_findings t.units fs).unit) in
     let later = given t.units fs ++ ends in
     let rest : IsWhole t fs = record { unlost = step.unlost; uncut = step.uncut; under = step.under; follows = step.follows } in
-    let two = timed_clear d o s.number s.before w (given t.units fs) ends clear in
+    let two = timed_clear d o s.number s.before w (given t.units fs) ends
+    (ap (λ (x : Option CarriedUnit). have_fault (timed d o s.number s.before ((option_to_list x ++ given t.units fs) ++ ends))) none.whole ∙ clear) in
     let next = after_one (single e o s) f in
     ap beside_packets (fed_more (single e o s) f fs) ∙ flat_map-append unless_packet (fed_one (single e o s) f) (fed_to_end next fs)
     ∙ ap (λ (xs : List Fed). xs ++ beside_packets (fed_to_end next fs)) (single_beside e o s f step.silent two.0)
     ∙ ap (λ (feed : FeedView). option_to_list (fed_by d o s w) ++ beside_packets (fed_to_end feed fs))
     (single_after_by e o s f (has_pid s.units.pid f.pid) whole.follows refl (no_fall (fed_by d o s w) two.0))
-    ∙ ap (λ (xs : List Fed). option_to_list (fed_by d o s w) ++ xs) (single_timed e (origin_after d o w) t fs rest two.1)
+    ∙ ap (λ (xs : List Fed). option_to_list (fed_by d o s w) ++ xs) (single_timed e (origin_after d o w) t fs rest none.later two.1)
     ∙ sym (timed_one d o s.number s.before w later)
     ∙ ap (λ (ws : List CarriedUnit). timed d o s.number s.before ws)
     (sym (append_assoc (option_to_list w) (given t.units fs) (option_to_list (ended_unit false (after_findings t.units fs).unit))))
+    ∙ ap (λ (x : Option CarriedUnit). timed d o s.number s.before ((option_to_list x ++ given t.units fs) ++ ends)) none.whole
 
 -- 3. Without a fault
 
@@ -353,12 +367,17 @@ all_ok n [] = refl
 all_ok n (u ∷ us) = all_ok n us
 
 pub as_carried : FedAsCarried
+unfolding to_come
 as_carried earliest number pid fs u us uncut unlost is sound =
-    let s : FedStreamView = record { number = number; before = None; units = none_so_far pid true; follow = false } in
+    let s : FedStreamView = record { number = number; before = None; units = none_so_far pid true; follow = false; place = 0 } in
     let base = distance earliest u.dts in
+    let carried = uncut_carried true pid fs uncut in
+    let alone : has_same (to_come s.units fs) ≡ false = ap has_same (sym carried)
+    ∙ none_same greatest_pts_limit base 0 None (carried_units pid fs)
+    (subst (λ (l : List AccessUnit). first_fault greatest_pts_limit base None 0 l ≡ None) (sym is) sound) in
     let moves =
-    ap (λ (ws : List CarriedUnit). timed (due_from earliest) no_origin number None ws) (sym (uncut_carried true pid fs uncut))
+    ap (λ (ws : List CarriedUnit). timed (due_from earliest) no_origin number None ws) (sym carried)
     ∙ moved_by_first earliest number (carried_units pid fs) u us is sound in
-    single_timed earliest no_origin s fs (record { unlost = unlost; uncut = uncut; under = no_unit pid fs; follows = refl })
+    single_timed earliest no_origin s fs (record { unlost = unlost; uncut = uncut; under = no_unit pid fs; follows = refl }) alone
     (ap have_fault moves ∙ all_ok number (moved base None (u ∷ us)))
     ∙ moves

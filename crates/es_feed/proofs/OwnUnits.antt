@@ -80,10 +80,10 @@ alone_without u fs a = record { under_way = refl; later = a.later }
 
 -- 3. The unit under way is given before what follows it is found
 
-abbrev so_far : ℕ → Bool → Option CarriedUnit → UnitsSoFar
+abbrev pub so_far : ℕ → Bool → Option CarriedUnit → UnitsSoFar
 so_far pid split w = record { pid = pid; split = split; unit = w }
 
-more_as : (pid : ℕ) (split : Bool) (w : Option CarriedUnit) (f : FindingView) (fs : List FindingView) (r : RoleView) → role_of pid f ≡ r →
+pub more_as : (pid : ℕ) (split : Bool) (w : Option CarriedUnit) (f : FindingView) (fs : List FindingView) (r : RoleView) → role_of pid f ≡ r →
     to_come (so_far pid split w) (f ∷ fs) ≡ option_to_list (made_whole split w r) ++ to_come (so_far pid split (goes_on_as w r)) fs
 more_as pid split w f fs r is =
     to_come_more (so_far pid split w) f fs ∙ ap (λ (r : RoleView). option_to_list (made_whole split w r) ++ to_come (so_far pid split (goes_on_as w r)) fs) is
@@ -127,7 +127,7 @@ uncut_by id (Start n) next cut is later = refl
 uncut_by id (Continuation other body) next cut is later = absurd cc
 uncut_by id (Interruption unstamped) next cut is later = absurd cc
 
-next_uncut : (id pid : ℕ) (fs : List FindingView) → next_starts pid fs ≡ true → is_cut id pid fs ≡ false
+pub next_uncut : (id pid : ℕ) (fs : List FindingView) → next_starts pid fs ≡ true → is_cut id pid fs ≡ false
 unfolding next_starts is_cut
 next_uncut id pid [] is = refl
 next_uncut id pid (f ∷ fs) is = uncut_by id (role_of pid f) (next_starts pid fs) (is_cut id pid fs) is (λ next. next_uncut id pid fs next)

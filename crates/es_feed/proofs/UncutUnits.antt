@@ -6,11 +6,11 @@ use Rattle.es_units.specs.CarriedUnits.{CarriedUnit, RoleView, Ignored, Start, C
 use Rattle.es_units.specs.UnitSteps.{goes_on_as, is_start_cut, lengthened}
 
 -- the unit under way is cut by these findings, or with a role before them
-pub under_cut : ℕ → Option CarriedUnit → List FindingView → Bool
+unfoldable pub under_cut : ℕ → Option CarriedUnit → List FindingView → Bool
 under_cut pid None fs = false
 under_cut pid (Some u) fs = is_cut u.stream_id pid fs
 
-pub past_cut : ℕ → Option CarriedUnit → RoleView → List FindingView → Bool
+unfoldable pub past_cut : ℕ → Option CarriedUnit → RoleView → List FindingView → Bool
 past_cut pid None r fs = false
 past_cut pid (Some u) r fs = unwrap_or (end_of u.stream_id r) (is_cut u.stream_id pid fs)
 

@@ -7,7 +7,8 @@ use Rattle.pes_packet.specs.AccessUnits.{AccessUnit}
 use Rattle.demux.specs.Stream.{start, pushed, finished}
 use Rattle.demux.specs.Views.{FindingView}
 use Rattle.packet_sync.specs.Slips.{carried}
-use Rattle.es_units.specs.CarriedUnits.{RoleView, Ignored, Start, Continuation, Interruption, role_of, wire_units}
+use Rattle.es_units.specs.ApartUnits.{apart_wire_units}
+use Rattle.es_units.specs.CarriedUnits.{RoleView, Ignored, Start, Continuation, Interruption, role_of}
 use Rattle.es_units.specs.Stamps.{moved}
 use Rattle.es_units.specs.UnitSteps.{none_so_far}
 use Rattle.es_feed.specs.Feeding.{Fed, FedStreamView, feed_first}
@@ -61,7 +62,7 @@ one_by_one pid (f ∷ fs) = if_start (role_of pid f) (next_starts pid fs) && one
 
 -- one with its number, before its first unit
 abbrev pub fed_stream : ℕ → ℕ → FedStreamView
-fed_stream number pid = record { number = number; before = None; units = none_so_far pid true; follow = false }
+fed_stream number pid = record { number = number; before = None; units = none_so_far pid true; follow = false; place = 0 }
 
 -- streams before their first unit, numbered from 0 on, each with a PID of its own
 pub record AreFirst (streams : List FedStreamView) : Type 0 where
@@ -79,14 +80,15 @@ BeginsAt moment count [] = ⊤
 BeginsAt moment count ((n, Ok u) ∷ fed) = (n < count) × (u.dts ≡ moment)
 BeginsAt moment count ((n, Err fault) ∷ fed) = ⊤
 
--- the units of each stream are those that its PID carries among these findings, moved by one constant
+-- the units of each stream are those that its PID carries among these findings, each with a DTS of its own where several data units in a
+-- row have one, moved by one constant
 pub record AreMovedByOne (earliest : ℕ) (streams : List FedStreamView) (findings : List FindingView) (fed : List Fed) : Type 0 where
   -- it is one of all streams: with it the first unit of all is due at `earliest`
   pub base : ℕ
   pub range : base < 2 ^ 33
   pub begins : BeginsAt earliest (length streams) fed
   pub moved_by : (k : ℕ) (s : FedStreamView) → slice_get streams k ≡ Some s → one_by_one s.units.pid findings ≡ true →
-      units_fed k fed ≡ moved base None (wire_units s.units.pid findings)
+      units_fed k fed ≡ moved base None (apart_wire_units s.units.pid findings)
 
 -- so it is, with the marks that are asked for, where nothing is told: no packet of the streams is lost, nothing cuts their units, no map changes, the clock
 -- does not jump, and each unit has a moment

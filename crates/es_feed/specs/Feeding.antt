@@ -7,6 +7,7 @@ use Rattle.pes_packet.specs.AccessUnits.{AccessUnit}
 use Rattle.demux.specs.Views.{FindingView, WhatView, IsDuplicate, BreaksCounter, IsScrambled, IsTruncated, IsSection, IsBadSection, IsPes, IsBadPes}
 use Rattle.demux.specs.Views.{IsBadPacket, IsErrored}
 use Rattle.demux.specs.Laws.{has_pid}
+use Rattle.es_units.specs.ApartSteps.{is_same_after, place_past, set_apart}
 use Rattle.es_units.specs.CarriedUnits.{CarriedUnit, first_packet, role_of}
 use Rattle.es_units.specs.Stamps.{distance, unit_at, unit_fault}
 use Rattle.es_units.specs.UnitSteps.{UnitsSoFar, after_finding, ended_unit, made_whole, start_of}
@@ -33,13 +34,15 @@ use Rattle.given_marks.specs.Marking.{MarkingView}
 
 -- 1. A stream
 
--- a stream: its number in the description, the DTS of its last unit that has a moment, what is kept of its units, and whether units
--- follow one another: one has started, and nothing that is told has come since
+-- a stream: its number in the description, the DTS of its last unit that has a moment, what is kept of its units, whether units
+-- follow one another (one has started, and nothing that is told has come since), and how many units that are due with the unit
+-- under way are before it in a row, counted up to 63
 pub record FedStreamView : Type 0 where
   pub number : ℕ
   pub before : Option ℕ
   pub units : UnitsSoFar
   pub follow : Bool
+  pub place : ℕ
 
 -- a unit at its moment with the number of its stream, or what is told in its place
 abbrev pub Fed : Type 0
@@ -103,13 +106,25 @@ fed_by due o s w = fed_with due o s.number s.before w
 
 -- 3. A finding, for the stream with its PID
 
--- the unit of the stream that it makes whole
-abbrev pub whole_by : FedStreamView → FindingView → Option CarriedUnit
-whole_by s f = made_whole s.units.split s.units.unit (role_of s.units.pid f)
+-- the unit of the stream that it makes whole, as on the wire
+abbrev pub made_by : FedStreamView → FindingView → Option CarriedUnit
+made_by s f = made_whole s.units.split s.units.unit (role_of s.units.pid f)
 
 -- the unit under way after it
 abbrev pub unit_after : FedStreamView → FindingView → Option CarriedUnit
 unit_after s f = (after_finding s.units f).unit
+
+-- it is due when the unit that it makes whole is
+abbrev pub same_by : FedStreamView → FindingView → Bool
+same_by s f = is_same_after (made_by s f) (unit_after s f)
+
+-- the unit of the stream that it makes whole, with a DTS of its own
+abbrev pub whole_by : FedStreamView → FindingView → Option CarriedUnit
+whole_by s f = set_apart (same_by s f) s.place (made_by s f)
+
+-- how many of its row are before the unit under way after it
+abbrev pub place_by : FedStreamView → FindingView → ℕ
+place_by s f = place_past (same_by s f) s.place (made_by s f)
 
 -- the packets before it that are lost: a continuity_counter does not follow the one before (2.4.3.3)
 unfoldable pub lost_by : ℕ → WhatView → Option Loss
@@ -158,7 +173,7 @@ abbrev pub follow_after : FedStreamView → FindingView → Bool
 follow_after s f = is_some (unit_after s f) || (s.follow && not (is_some (told_by s f)))
 
 abbrev pub after_found : FedStreamView → FindingView → FedStreamView
-after_found s f = record s { units = after_finding s.units f; follow = follow_after s f }
+after_found s f = record s { units = after_finding s.units f; follow = follow_after s f; place = place_by s f }
 
 -- all streams, with the moment at which the first unit is due, the constants, what the clock showed last, in units of 90 kHz, once it has
 -- come, the last tick, 0 before the first, the marks that are asked for, the programs' maps, and the stamp of the last unit, if it fell where no clock is known

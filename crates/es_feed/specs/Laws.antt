@@ -23,7 +23,7 @@ FedInTurn = (feed : FeedView) (fs more : List FindingView) → fed_all feed (fs 
 -- one stream of a PID and no map, before its first unit
 abbrev pub one_stream : ℕ → ℕ → ℕ → FeedView
 one_stream earliest number pid =
-    feed_first earliest no_marking [] (record { number = number; before = None; units = none_so_far pid true; follow = false } ∷ [])
+    feed_first earliest no_marking [] (record { number = number; before = None; units = none_so_far pid true; follow = false; place = 0 } ∷ [])
 
 -- packets of a PID are lost before one of the findings
 unfoldable pub is_loss : Option Loss → Bool

@@ -2,7 +2,7 @@
 use Rattle.std.specs.Prelude.{◌≡◌, ◌≤◌, ◌<◌, ℕ, ◌+◌, ◌^◌, true, false, None, Some, List, ◌∷◌, map, slice_get}
 use Rattle.pes_packet.specs.AccessUnits.{AccessUnit}
 use Rattle.demux.specs.Views.{FindingView}
-use Rattle.es_units.specs.CarriedUnits.{wire_units}
+use Rattle.es_units.specs.ApartUnits.{apart_wire_units}
 use Rattle.es_units.specs.Stamps.{distance, moved}
 use Rattle.es_feed.specs.EachStream.{AreFirst, found_of_all, have_fault, one_by_one, units_fed}
 use Rattle.es_feed.specs.Feeding.{Fed, FedStreamView, feed_first}
@@ -23,14 +23,15 @@ BeginNear base apart wire other =
 pub record AreWhole (base apart : ℕ) (streams : List FedStreamView) (findings : List FindingView) : Type 0 where
   pub alone : (k : ℕ) (s : FedStreamView) → slice_get streams k ≡ Some s → one_by_one s.units.pid findings ≡ true
   pub near : (j k : ℕ) (s t : FedStreamView) → slice_get streams j ≡ Some s → slice_get streams k ≡ Some t →
-      BeginNear base apart (wire_units s.units.pid findings) (wire_units t.units.pid findings)
+      BeginNear base apart (apart_wire_units s.units.pid findings) (apart_wire_units t.units.pid findings)
 
--- the units of each stream are those of its PID, moved by this constant, in the same order, and all stamps apart by one time: one of all streams
+-- the units of each stream are those of its PID, each with a DTS of its own, moved by this constant, in the same order, and all stamps apart
+-- by one time: one of all streams
 pub record AreApart (base : ℕ) (streams : List FedStreamView) (findings : List FindingView) (fed : List Fed) : Type 0 where
   pub here : ℕ
   pub there : ℕ
   pub are : (k : ℕ) (s : FedStreamView) → slice_get streams k ≡ Some s →
-      map (after_time here) (units_fed k fed) ≡ map (after_time there) (moved base None (wire_units s.units.pid findings))
+      map (after_time here) (units_fed k fed) ≡ map (after_time there) (moved base None (apart_wire_units s.units.pid findings))
 
 -- so it is where nothing is told, and the streams begin no further apart than the first unit of all is due after moment 0
 abbrev pub FedApart : Type 0

@@ -1,6 +1,7 @@
 -- What a clock reference of the input does to the feed. It moves time on where the streams are silent: a second behind the clock a tick is fed, a
 -- record of stream 255 without bytes, after which no unit comes that is due before it. A unit under way whose DTS the clock has passed by a
--- second is whole, since at its DTS all of it is in the decoder's buffer (ISO/IEC 13818-1, 2.4.2.6). And where the clock jumps, it is taken to
+-- second (less 63 units of 90 kHz: the next one may set it apart by so much) is whole, since at its DTS all of it is in the decoder's buffer
+-- (ISO/IEC 13818-1, 2.4.2.6). And where the clock jumps, it is taken to
 -- come 0.3 s after the greatest DTS so far, so that units which begin after it, and are due after it, go on from there, and no stream's
 -- first one comes sooner after its last one than usual.
 use Rattle.std.specs.Prelude.{◌≡◌, ◌<◌, ℕ, ◌+◌, ◌-◌, ◌++◌, ◌^◌, ◌&&◌, nat_le, nat_lt, Bool, true, false, if◌then◌else◌, Option, Some, None, IfSome, Ok, Err}
@@ -8,6 +9,7 @@ use Rattle.std.specs.Prelude.{List, [], ◌∷◌, All, slice_get}
 use Rattle.std.specs.Option.{option_to_list}
 use Rattle.demux.specs.Stream.{StreamState, found_in, taken}
 use Rattle.demux.specs.Views.{FindingView}
+use Rattle.es_units.specs.ApartSteps.{place_past}
 use Rattle.es_units.specs.CarriedUnits.{CarriedUnit}
 use Rattle.es_units.specs.Stamps.{distance, dts_at}
 use Rattle.es_units.specs.UnitSteps.{ended_unit}
@@ -51,9 +53,9 @@ under_way o s = under_way_at o s.before s.units.unit
 
 unfoldable pub is_passed_by : ℕ → Option ℕ → Bool
 is_passed_by late None = false
-is_passed_by late (Some due) = nat_le due late
+is_passed_by late (Some due) = nat_le (due - 63) late
 
--- it is due by this moment
+-- it is due by this moment, or would be, if it were set apart from the next one in a row
 abbrev pub is_passed : Origin → ℕ → FedStreamView → Bool
 is_passed o late s = is_passed_by late (under_way o s)
 
@@ -62,9 +64,12 @@ unfoldable pub passed_from : Origin → ℕ → ℕ → List FedStreamView → O
 passed_from o late k [] = None
 passed_from o late k (s ∷ ss) = if is_passed o late s then Some k else passed_from o late (k + 1) ss
 
--- without it
+-- without it: which unit comes next is not known when it ends, so it is of no row with that
 abbrev pub without_unit : FedStreamView → FedStreamView
-without_unit s = record s { units = record { pid = s.units.pid; split = s.units.split; unit = None } }
+without_unit s = record s {
+  units = record { pid = s.units.pid; split = s.units.split; unit = None };
+  place = place_past false s.place (ended_unit false s.units.unit);
+}
 
 unfoldable pub after_end_at : FeedView → ℕ → Option FedStreamView → FeedView
 after_end_at feed k None = feed
@@ -215,10 +220,10 @@ fed_packets s feed (packet ∷ packets) =
 
 -- 6. What is said of ticks
 
--- of a stream each unit that was fed was due before a moment, and the unit under way is due after it
+-- of a stream each unit that was fed was due before a moment, and the unit under way is due after it, also if it is set apart
 pub record IsPast (o : Origin) (moment : ℕ) (s : FedStreamView) : Type 0 where
   pub fed : IfSome s.before (λ dts. dts < moment)
-  pub later : IfSome (under_way o s) (λ due. moment < due)
+  pub later : IfSome (under_way o s) (λ due. moment + 63 < due)
 
 -- so it is of all streams where a tick is fed
 abbrev pub TicksArePast : Type 0

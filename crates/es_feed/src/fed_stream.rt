@@ -3,6 +3,7 @@
 ghost use Rattle.std.specs.Prelude.{◌≡◌, ◌≤◌, ◌<◌, ◌^◌, ◌&&◌, ◌||◌, not, IfOk, IfSome, OnOk, None, false, is_some, true};
 ghost use Rattle.demux.specs.Laws.{has_pid};
 ghost use Rattle.demux.specs.Shown.{finding_view};
+ghost use Rattle.es_units.specs.ApartSteps as apart;
 ghost use Rattle.es_units.specs.CarriedUnits as units;
 ghost use Rattle.es_units.specs.UnitSteps.{ended_unit, none_so_far, start_of};
 ghost use Rattle.es_feed.specs.Feeding as spec;
@@ -14,12 +15,13 @@ use crate::feed_fault::{CutCause, CutUnits, FeedFault, Loss};
 use crate::moments::feed;
 use crate::origin::Origin;
 use demux::{Finding, Kind, What};
-use es_units::{UnitTaker, WireUnit, dts_at};
+use es_units::{UnitTaker, WireUnit, dts_at, place_past, set_apart};
 use pes_packet::Unit;
 use std::alloc::{AllocError, Global};
 use std::marker::Model;
 
-/// A stream: its number, its PID, its current unit, the DTS of its last unit, and whether its units follow one another.
+/// A stream: its number, its PID, its current unit, the DTS of its last unit, whether its units follow one another, and
+/// how many units with the DTS of the current unit come before that unit in a row, counted up to 63.
 #[derive(Drop)]
 pub struct FedStream {
     number: u8,
@@ -27,6 +29,7 @@ pub struct FedStream {
     before: Option<u64>,
     taker: UnitTaker,
     follow: bool,
+    place: u8,
 }
 
 /// What a finding of a stream feeds.
@@ -47,9 +50,9 @@ impl Model for FedStream {
 
     ghost Value = { FedStreamView };
 
-    ghost view = { λ s. record { number = s.number; before = s.before; units = s.taker; follow = s.follow } };
+    ghost view = { λ s. record { number = s.number; before = s.before; units = s.taker; follow = s.follow; place = s.place } };
 
-    ghost invariant = { λ s. (s.taker.pid ≡ s.pid) × IfSome s.before (λ dts. dts ≤ 2 ^ 52) };
+    ghost invariant = { λ s. (s.taker.pid ≡ s.pid) × IfSome s.before (λ dts. dts ≤ 2 ^ 52) × (s.place ≤ 63) };
 }
 
 // The loss that a finding tells of, if it tells of one.
@@ -160,7 +163,7 @@ impl FedStream {
     /// Returns a stream of a PID before its first unit, with its number in the description. Of a unit after which
     /// something is lost a part may be, so it is left out.
     pub fn new(number: u8, pid: u16) -> FedStream
-        ensures { result ≡ record { number = number; before = None; units = none_so_far pid true; follow = false } }
+        ensures { result ≡ record { number = number; before = None; units = none_so_far pid true; follow = false; place = 0 } }
     {
         FedStream {
             number,
@@ -168,6 +171,7 @@ impl FedStream {
             before: None,
             taker: UnitTaker::new(pid, true),
             follow: false,
+            place: 0,
         }
     }
 
@@ -205,6 +209,20 @@ impl FedStream {
         fault
     }
 
+    // A finding was taken that makes this unit whole, if it does: the unit with a DTS of its own.
+    fn set_apart(&mut self, made: Option<WireUnit>) -> Option<WireUnit>
+        ensures unit { result ≡ apart.set_apart (apart.is_same_after made self.old.units.unit) self.old.place made }
+        ensures stream { self.new ≡ record self.old {
+          place
+              = apart.place_past (apart.is_same_after made self.old.units.unit) self.old.place made;
+        } }
+    {
+        let same = self.taker.is_same_after(&made);
+        let place = self.place;
+        self.place = place_past(same, place, &made);
+        set_apart(same, place, made)
+    }
+
     /// Takes a finding, and gives the unit that it makes whole at its moment, or why it can't have one; and what is
     /// told of it.
     pub(crate) fn take(
@@ -226,7 +244,8 @@ impl FedStream {
             ≡ spec.origin_after due origin.old (spec.whole_by self.old (finding_view finding.now))) }
         ensures bound { IsOrigin origin.new }
     {
-        let whole = self.taker.take(alloc, finding)?;
+        let made = self.taker.take(alloc, finding)?;
+        let whole = self.set_apart(made);
         let fault = self.tell(finding);
         let start = start_of(&whole);
         let unit = feed(self.number, &mut self.before, due, origin, whole);
@@ -264,7 +283,7 @@ impl FedStream {
         }
     }
 
-    /// Returns whether its unit under way is due by a moment.
+    /// Returns whether its unit under way is due by a moment, or would be, if it were set apart from the next one.
     #[tactic(auto, unfolding(crate::specs::Ticks::is_passed_by))]
     pub(crate) fn is_passed(&self, origin: Origin, late: u64) -> bool
         requires { IsOrigin origin }
@@ -272,7 +291,7 @@ impl FedStream {
     {
         match self.under_way(origin) {
             None => false,
-            Some(due) => due <= late,
+            Some(due) => due.saturating_sub(63) <= late,
         }
     }
 
@@ -291,6 +310,7 @@ impl FedStream {
         ensures bound { IsOrigin origin.new }
     {
         let whole = self.taker.end();
+        self.place = place_past(false, self.place, &whole);
         feed(self.number, &mut self.before, due, origin, whole)
     }
 

@@ -16,7 +16,7 @@ use Rattle.es_units.proofs.StampFaults.{or_none, place_none, test_none}
 use Rattle.es_units.proofs.StampMoments.{shows_dts}
 use Rattle.es_units.proofs.UnitMoments.{contents}
 
-same_number : (a b : ℕ) → (a == b) ≡ true → a ≡ b
+pub same_number : (a b : ℕ) → (a == b) ≡ true → a ≡ b
 same_number a b e = grind (arith, nat_tests)
 
 -- 1. One after another
@@ -133,7 +133,7 @@ no_distance : (a w : ℕ) → a % 2 ^ 33 ≡ w % 2 ^ 33 → distance a w ≡ 0
 unfolding distance
 no_distance a w same = omega (arith, same)
 
-not_true : (b : Bool) → (b ≡ true → ⊥) → b ≡ false
+pub not_true : (b : Bool) → (b ≡ true → ⊥) → b ≡ false
 not_true true never = absurd (never refl)
 not_true false never = refl
 
@@ -145,7 +145,7 @@ zero_test : (n : ℕ) → n ≡ 0 → (n == 0) ≡ true
 zero_test n is = rw is refl
 
 -- a DTS that rises is another one than that before it
-rises : (base : ℕ) (before : Option ℕ) (d e : ℕ) → dts_not_increasing base (Some (dts_at base before d)) e ≡ None → (e == d) ≡ false
+pub rises : (base : ℕ) (before : Option ℕ) (d e : ℕ) → dts_not_increasing base (Some (dts_at base before d)) e ≡ None → (e == d) ≡ false
 unfolding dts_not_increasing
 rises base before d e none =
     let at = dts_at base before d in
@@ -157,18 +157,6 @@ rises base before d e none =
     let yes = zero_test (distance (at + base) e) (no_distance (at + base) e shown) in
     let no : ⊥ = cc in no)
 
--- so is one that is due later
-pub later_apart : (base : ℕ) (before : Option ℕ) (d e : ℕ) → dts_at base before d < dts_at base (Some (dts_at base before d)) e → (e == d) ≡ false
-unfolding dts_at
-later_apart base before d e later =
-    let at = dts_at base before d in
-    not_true (e == d) (λ same.
-    let is : e ≡ d = same_number e d same in
-    let shown : (at + base) % 2 ^ 33 ≡ e % 2 ^ 33 = shows_dts base before d ∙ ap (λ (n : ℕ). n % 2 ^ 33) (sym is) in
-    let none = no_distance (at + base) e shown in
-    let more : at < at + distance (at + base) e = later in
-    let no : ⊥ = omega (arith, none, more) in no)
-
 next_rises : (limit base place : ℕ) (before : Option ℕ) (u : CarriedUnit) (us : List CarriedUnit) →
     first_fault limit base (Some (dts_at base before u.unit.dts)) place (map (λ x. x.unit) us) ≡ None → is_same_next u us ≡ false
 unfolding is_same_next first_fault
@@ -179,7 +167,7 @@ next_rises limit base place before u (v ∷ us) none =
     let apart = (or_none (dts_not_increasing base at v.unit.dts) _ own).0 in
     and_false (u.stream_id == 0xBD) (v.unit.dts == u.unit.dts) (rises base before u.unit.dts v.unit.dts apart)
 
-none_same : (limit base place : ℕ) (before : Option ℕ) (us : List CarriedUnit) → first_fault limit base before place (map (λ x. x.unit) us) ≡ None →
+pub none_same : (limit base place : ℕ) (before : Option ℕ) (us : List CarriedUnit) → first_fault limit base before place (map (λ x. x.unit) us) ≡ None →
     has_same us ≡ false
 unfolding first_fault has_same
 none_same limit base place before [] none = refl

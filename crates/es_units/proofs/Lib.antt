@@ -16,6 +16,7 @@ pub mod SameIds
 pub mod TimeOrder
 pub mod MadeDts
 pub mod ApartUnits
+pub mod ApartSteps
 pub mod UnitSteps
 pub mod TakenUnits
 pub mod UnitMoments

@@ -38,8 +38,12 @@ apart_dts place (u ∷ us) = apart_by (is_same_next u us) place u.unit.dts ∷ a
 
 -- 3. Units with these
 
+-- where so many units of a row are before the first
+abbrev pub apart_from : ℕ → List CarriedUnit → List CarriedUnit
+apart_from place us = with_dts (apart_dts place us) us
+
 abbrev pub apart_units : List CarriedUnit → List CarriedUnit
-apart_units us = with_dts (apart_dts 0 us) us
+apart_units us = apart_from 0 us
 
 -- those of a PID, as on the wire
 abbrev pub apart_wire_units : ℕ → List FindingView → List AccessUnit

@@ -14,5 +14,6 @@ pub mod UnitRuns
 pub mod CountedUnits
 pub mod Laws
 pub mod UnitSteps
+pub mod ApartSteps
 pub mod UnitMoments
 pub mod TakenUnits

@@ -9,7 +9,7 @@ use crate::wire_unit::FoundUnit;
 use std::alloc::{AllocError, Allocator};
 
 // Private_stream_1 (ISO/IEC 13818-1, table 2-22).
-const PRIVATE_STREAM_1: u8 = 0xbd;
+pub(crate) const PRIVATE_STREAM_1: u8 = 0xbd;
 
 // The DTS of a unit.
 fn dts_of<A: Allocator>(unit: &FoundUnit<'_, A>) -> u64
@@ -36,9 +36,9 @@ fn is_same_at<A: Allocator>(at: usize, unit: &FoundUnit<'_, A>, found: &[FoundUn
     }
 }
 
-// How many units of a row are before the next unit, if so many are before this one, counted up to 63.
+/// Returns how many units of a row are before the next unit, if so many are before this one, counted up to 63.
 #[tactic(auto, unfolding(crate::specs::ApartUnits::next_place))]
-fn next_place(same: bool, place: u8) -> u8
+pub(crate) fn next_place(same: bool, place: u8) -> u8
     requires { place ≤ 63 }
     ensures value { result ≡ spec.next_place same place }
     ensures bound { result ≤ 63 }
@@ -46,9 +46,9 @@ fn next_place(same: bool, place: u8) -> u8
     if same { (place + 1).min(63) } else { 0 }
 }
 
-// The DTS of a unit with so many of its row before it.
+/// Returns the DTS of a unit with so many of its row before it.
 #[tactic(auto, unfolding(crate::specs::ApartUnits::apart_by))]
-fn apart_by(same: bool, place: u8, dts: u64) -> u64
+pub(crate) fn apart_by(same: bool, place: u8, dts: u64) -> u64
     requires { place ≤ 63 }
     ensures { result ≡ spec.apart_by same place dts }
 {

@@ -9,6 +9,7 @@
 #![tactic(auto)]
 
 mod apart;
+mod apart_steps;
 mod carried;
 mod counted_packets;
 mod counted_units;
@@ -35,6 +36,7 @@ mod warnings;
 mod wire_unit;
 
 pub use apart::apart_units;
+pub use apart_steps::{place_past, set_apart};
 pub use carried::carried_units;
 pub use counted_packets::CountedPackets;
 pub use counted_units::CountedUnits;

@@ -2,12 +2,14 @@
 
 ghost use Rattle.std.specs.Prelude.{◌≡◌, ◌∷◌, [], IfOk, IfSome, OnOk, OnErr, None, Some, true, false, option_map};
 ghost use Rattle.demux.specs.Shown.{finding_view, what_view};
+ghost use Rattle.es_units.specs.ApartSteps as apart;
 ghost use Rattle.es_units.specs.CarriedUnits as units;
 ghost use Rattle.es_units.specs.TakenUnits as taken;
 ghost use Rattle.es_units.specs.TakenUnits.{OthersStay};
 ghost use Rattle.es_units.specs.UnitSteps as spec;
 ghost use Rattle.es_units.specs.Shown.{role_view, start_view};
 
+use crate::apart_steps::is_same_after;
 use crate::pes_role::{PesRole, UnitStart, is_on, role_of};
 use crate::unit_bytes::{BodyBytes, UnitBytes};
 use crate::wire_unit::WireUnit;
@@ -248,6 +250,13 @@ impl<B: UnitBytes> UnitTaker<B> {
             None => None,
             Some(unit) => Some((unit.packet, unit.dts)),
         }
+    }
+
+    /// Returns whether a unit that it gave is due when its unit under way is, as far as that has bytes.
+    pub fn is_same_after(&self, unit: &Option<WireUnit<B>>) -> bool
+        ensures { result ≡ apart.is_same_after unit.now self.now.unit }
+    {
+        is_same_after(unit, &self.unit)
     }
 
     /// Returns the stream_id of the unit under way.

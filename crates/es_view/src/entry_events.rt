@@ -1,5 +1,5 @@
 //! Events of a stream that the tables name.
-ghost use Rattle.std.specs.Prelude.{◌≡◌, ◌++◌, ◌<◌, OnOk};
+ghost use Rattle.std.specs.Prelude.{◌≡◌, ◌++◌, ◌∷◌, [], Some, ◌<◌, OnOk};
 ghost use Rattle.std.specs.Option.{option_to_list};
 ghost use Rattle.tstd_rows.specs.Entering.{entered_view};
 ghost use Rattle.tstd_rows.specs.Held.{Held, IsHeld};
@@ -84,6 +84,21 @@ pub(crate) fn excess_of(options: &ViewOptions, place: &Place, excess: &Excess) -
     }
 }
 
+// Appends an excess of the transport buffer. A call of its own: few packets end one.
+#[inline(never)]
+fn push_excess(
+    events: &mut Vec<Event>,
+    options: &ViewOptions,
+    place: &Place,
+    excess: &Excess,
+) -> Result<(), AllocError>
+    ensures { OnOk result (events.new.items
+        ≡ events.old.items ++ spec.excess_events options.now place.now (excess.now ∷ [])) }
+{
+    events.push(Event::Excess(excess_of(options, place, excess)))?;
+    Ok(())
+}
+
 // Appends the excess of the transport buffer, if there is one.
 #[inline(always)]
 fn push_excess_if(
@@ -95,9 +110,24 @@ fn push_excess_if(
     ensures { OnOk result (events.new.items
         ≡ events.old.items ++ spec.excess_events options.now place.now (option_to_list excess.now)) }
 {
-    if let Some(excess) = excess {
-        events.push(Event::Excess(excess_of(options, place, excess)))?;
+    match excess {
+        None => Ok(()),
+        Some(excess) => push_excess(events, options, place, excess),
     }
+}
+
+// Appends an excess of the main buffer. A call of its own: few packets end one.
+#[inline(never)]
+fn push_main_excess(
+    events: &mut Vec<Event>,
+    options: &ViewOptions,
+    place: &Place,
+    excess: &Excess,
+) -> Result<(), AllocError>
+    ensures { OnOk result (events.new.items
+        ≡ events.old.items ++ spec.main_excess_events options.now place.now (excess.now ∷ [])) }
+{
+    events.push(Event::MainExcess(excess_of(options, place, excess)))?;
     Ok(())
 }
 
@@ -112,10 +142,10 @@ fn push_main_excess_if(
     ensures { OnOk result (events.new.items
         ≡ events.old.items ++ spec.main_excess_events options.now place.now (option_to_list excess.now)) }
 {
-    if let Some(excess) = excess {
-        events.push(Event::MainExcess(excess_of(options, place, excess)))?;
+    match excess {
+        None => Ok(()),
+        Some(excess) => push_main_excess(events, options, place, excess),
     }
-    Ok(())
 }
 
 fn late_event(options: &ViewOptions, place: &Place, unit: &UnitSeen) -> Event
@@ -129,6 +159,21 @@ fn late_event(options: &ViewOptions, place: &Place, unit: &UnitSeen) -> Event
         by: span_of(options, place.rx, unit.lateness()),
         bytes: unit.bytes,
     })
+}
+
+// Appends a unit that was late. A call of its own: few units are.
+#[inline(never)]
+fn push_late(
+    events: &mut Vec<Event>,
+    options: &ViewOptions,
+    place: &Place,
+    unit: &UnitSeen,
+) -> Result<(), AllocError>
+    ensures { OnOk result (events.new.items
+        ≡ events.old.items ++ spec.late_event options.now place.now unit.now ∷ []) }
+{
+    events.push(late_event(options, place, unit))?;
+    Ok(())
 }
 
 // Appends a unit that ended, if it was late.
@@ -147,8 +192,7 @@ fn push_late_if(
             if unit.lateness() == 0 {
                 return Ok(());
             }
-            events.push(late_event(options, place, unit))?;
-            Ok(())
+            push_late(events, options, place, unit)
         }
         None => Ok(()),
     }
@@ -165,6 +209,16 @@ fn ahead_event(place: &Place, ahead: u64) -> Event
     })
 }
 
+// Appends a unit that would stay longer than any may. A call of its own: few units would.
+#[inline(never)]
+#[tactic(auto, unfolding(crate::specs::EntryEvents::ahead_events))]
+fn push_ahead(events: &mut Vec<Event>, place: &Place, ahead: u64) -> Result<(), AllocError>
+    ensures { OnOk result (events.new.items ≡ events.old.items ++ spec.ahead_events place.now (Some ahead)) }
+{
+    events.push(ahead_event(place, ahead))?;
+    Ok(())
+}
+
 /// Appends a unit that would stay longer than any may, if one begins.
 #[tactic(auto, unfolding(crate::specs::EntryEvents::ahead_events))]
 pub(crate) fn push_ahead_if(
@@ -174,10 +228,10 @@ pub(crate) fn push_ahead_if(
 ) -> Result<(), AllocError>
     ensures { OnOk result (events.new.items ≡ events.old.items ++ spec.ahead_events place.now ahead) }
 {
-    if let Some(ahead) = ahead {
-        events.push(ahead_event(place, ahead))?;
+    match ahead {
+        None => Ok(()),
+        Some(ahead) => push_ahead(events, place, ahead),
     }
-    Ok(())
 }
 
 // What has ended with a packet. A call of its own: with few packets something has.

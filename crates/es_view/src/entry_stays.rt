@@ -1,5 +1,5 @@
 //! How long the bytes of a stream stay in its buffers, and how long the buffers are not empty.
-ghost use Rattle.std.specs.Prelude.{◌≡◌, ◌++◌, OnOk};
+ghost use Rattle.std.specs.Prelude.{◌≡◌, ◌++◌, ◌∷◌, [], Some, OnOk};
 ghost use Rattle.es_view.specs.EntryStays as spec;
 
 use crate::clocks::first_byte;
@@ -76,6 +76,31 @@ pub(crate) fn overstay_if(
     }
 }
 
+// Appends that the bytes of a unit stay too long. A call of its own: those of few units do.
+#[inline(never)]
+#[tactic(auto, unfolding(crate::specs::EntryStays::delayed_events))]
+fn push_delayed(
+    events: &mut Vec<Event>,
+    options: &ViewOptions,
+    place: &Place,
+    buffer: BufferKind,
+    limit: u64,
+    stay: &Stay,
+) -> Result<(), AllocError>
+    ensures { OnOk result (events.new.items
+        ≡ events.old.items ++ spec.delayed_events options.now place.now buffer limit (Some stay.now)) }
+{
+    events.push(Event::Rule(RuleEvent::Delayed(BufferStay {
+        number: place.pid,
+        buffer,
+        packet: place.packet,
+        begin: stay.begin.saturating_sub(u128::from(options.origin)),
+        end: stay.end.saturating_sub(u128::from(options.origin)),
+        limit,
+    })))?;
+    Ok(())
+}
+
 /// Appends that the bytes of a unit stay too long, if they do.
 #[tactic(auto, unfolding(crate::specs::EntryStays::delayed_events))]
 pub(crate) fn push_delayed_if(
@@ -89,17 +114,10 @@ pub(crate) fn push_delayed_if(
     ensures { OnOk result (events.new.items
         ≡ events.old.items ++ spec.delayed_events options.now place.now buffer limit stay.now) }
 {
-    if let Some(stay) = stay {
-        events.push(Event::Rule(RuleEvent::Delayed(BufferStay {
-            number: place.pid,
-            buffer,
-            packet: place.packet,
-            begin: stay.begin.saturating_sub(u128::from(options.origin)),
-            end: stay.end.saturating_sub(u128::from(options.origin)),
-            limit,
-        })))?;
+    match stay {
+        None => Ok(()),
+        Some(stay) => push_delayed(events, options, place, buffer, limit, stay),
     }
-    Ok(())
 }
 
 fn busy_event(options: &ViewOptions, place: &Place, buffer: BufferKind, stay: &Stay) -> Event
@@ -115,6 +133,22 @@ fn busy_event(options: &ViewOptions, place: &Place, buffer: BufferKind, stay: &S
     }))
 }
 
+// Appends that a buffer was not empty for more than a second. A call of its own: few packets end such a time.
+#[inline(never)]
+fn push_busy(
+    events: &mut Vec<Event>,
+    options: &ViewOptions,
+    place: &Place,
+    buffer: BufferKind,
+    stay: &Stay,
+) -> Result<(), AllocError>
+    ensures { OnOk result (events.new.items
+        ≡ events.old.items ++ spec.busy_event options.now place.now buffer stay.now ∷ []) }
+{
+    events.push(busy_event(options, place, buffer, stay))?;
+    Ok(())
+}
+
 /// Appends that a buffer was not empty for more than a second, if such a time has ended with a packet.
 pub(crate) fn push_busy_if(
     events: &mut Vec<Event>,
@@ -128,7 +162,7 @@ pub(crate) fn push_busy_if(
         ≡ events.old.items ++ spec.busy_ended options.now place.now buffer before.now after.now) }
 {
     if before.count < after.count {
-        events.push(busy_event(options, place, buffer, &after.last))?;
+        return push_busy(events, options, place, buffer, &after.last);
     }
     Ok(())
 }

@@ -154,21 +154,6 @@ fn arriving(
     }
 }
 
-// The same packet, whatever begins with it.
-fn arriving_in(
-    options: &ViewOptions,
-    index: u64,
-    rx: u32,
-    counter: Option<u8>,
-    clock: &Option<PcrSample>,
-    packet: &Packet<'_>,
-) -> Arriving
-    ensures { result ≡ spec.arriving options.now index rx counter clock.now (packet_view packet.now) }
-{
-    let beginning = beginning_in(counter, packet);
-    arriving(options, index, rx, counter, clock, beginning, packet)
-}
-
 // Its payload, among whose bytes frames begin.
 fn payload_of<'a>(
     options: &ViewOptions,
@@ -176,14 +161,15 @@ fn payload_of<'a>(
     rx: u32,
     counter: Option<u8>,
     clock: &Option<PcrSample>,
+    beginning: Beginning,
     packet: &Packet<'a>,
 ) -> FramedPayload<'a>
+    requires { beginning ≡ spec.beginning_in counter (packet_view packet.now) }
     ensures { frames.payload_view result ≡ spec.payload_of options.now index rx counter clock.now (packet_view packet.now) }
 {
-    let beginning = beginning_in(counter, packet);
     let size = packet.payload.unwrap_or(&[]).len() as u64;
     FramedPayload {
-        arriving: arriving_in(options, index, rx, counter, clock, packet),
+        arriving: arriving(options, index, rx, counter, clock, beginning, packet),
         base: payload_byte(index, size),
         tick: unit_tick(options, clock, beginning),
         beginning,
@@ -213,12 +199,14 @@ fn unit_stay(
     clock: &Option<PcrSample>,
     limit: u64,
     counter: Option<u8>,
+    beginning: Beginning,
     packet: &Packet<'_>,
 ) -> Option<Stay>
+    requires { beginning ≡ spec.beginning_in counter (packet_view packet.now) }
     ensures { result ≡ spec.unit_stay options.now index clock.now limit counter (packet_view packet.now) }
 {
     let size = packet.payload.unwrap_or(&[]).len() as u64;
-    let tick = unit_tick(options, clock, beginning_in(counter, packet));
+    let tick = unit_tick(options, clock, beginning);
     overstay_if(options, limit, payload_byte(index, size), tick)
 }
 
@@ -298,19 +286,22 @@ impl StreamEntry {
         window: u64,
         place: &Place,
         clock: &Option<PcrSample>,
+        beginning: Beginning,
         packet: &Packet<'_>,
         events: &mut Vec<Event>,
     ) -> Result<(), AllocError>
+        requires { beginning ≡ spec.beginning_in self.old.counter (packet_view packet.now) }
         ensures entry { (e : EntryState) → IsEntry self.old e → OnOk result
             (IsEntry self.new (spec.entry_entered options.now index window clock.now e (packet_view packet.now))) }
         ensures found { (e : EntryState) → IsEntry self.old e → OnOk result (events.new.items
             ≡ events.old.items ++ spec.events_entered options.now index clock.now place.now e (packet_view packet.now) e.framed) }
     {
-        let unread = is_unread(beginning_in(self.counter, packet));
+        let unread = is_unread(beginning);
         let rx = self.seen.buffers.rx;
         match &mut self.frames {
             None => {
-                let arriving = arriving_in(options, index, rx, self.counter, clock, packet);
+                let counter = self.counter;
+                let arriving = arriving(options, index, rx, counter, clock, beginning, packet);
                 self.seen.enter_whole(
                     options,
                     place,
@@ -323,7 +314,8 @@ impl StreamEntry {
                 Ok(())
             }
             Some(frames) => {
-                let payload = payload_of(options, index, rx, self.counter, clock, packet);
+                let counter = self.counter;
+                let payload = payload_of(options, index, rx, counter, clock, beginning, packet);
                 frames.enter(
                     options,
                     place,
@@ -356,12 +348,22 @@ impl StreamEntry {
     {
         let place = self.place(index);
         let beginning = beginning_in(self.counter, packet);
-        let stay = unit_stay(options, index, clock, self.limit, self.counter, packet);
+        let stay = unit_stay(
+            options,
+            index,
+            clock,
+            self.limit,
+            self.counter,
+            beginning,
+            packet,
+        );
         push_ahead_if(events, &place, ahead_by(clock, beginning))?;
         let buffer = last_buffer(&self.seen.buffers);
         push_delayed_if(events, options, &place, buffer, self.limit, &stay)?;
         let before = self.seen.busy();
-        self.enter(options, index, window, &place, clock, packet, events)?;
+        self.enter(
+            options, index, window, &place, clock, beginning, packet, events,
+        )?;
         push_stays(events, options, &place, &before, &self.seen.busy())?;
         self.counter = counter_after(self.counter, packet);
         self.seen.add_delayed_if(&stay);

@@ -1,5 +1,5 @@
 //! What is found of the two buffers of video.
-ghost use Rattle.std.specs.Prelude.{◌≡◌, ◌++◌, OnOk};
+ghost use Rattle.std.specs.Prelude.{◌≡◌, ◌++◌, ◌∷◌, [], OnOk};
 ghost use Rattle.std.specs.Option.{option_to_list};
 ghost use Rattle.tstd_rows.specs.HeldVideo.{video_view};
 ghost use Rattle.es_view.specs.VideoEvents as spec;
@@ -20,6 +20,21 @@ fn with_size(place: &Place, size: u64) -> Place
     Place { size, ..*place }
 }
 
+// Appends an excess of the multiplexing buffer. A call of its own: few packets end one.
+#[inline(never)]
+fn push_multiplexing_excess(
+    events: &mut Vec<Event>,
+    options: &ViewOptions,
+    place: &Place,
+    excess: &Excess,
+) -> Result<(), AllocError>
+    ensures { OnOk result (events.new.items
+        ≡ events.old.items ++ spec.multiplexing_excess_events options.now place.now (excess.now ∷ [])) }
+{
+    events.push(Event::MultiplexingExcess(excess_of(options, place, excess)))?;
+    Ok(())
+}
+
 // Appends an excess of the multiplexing buffer, if there is one.
 fn push_multiplexing_excess_if(
     events: &mut Vec<Event>,
@@ -30,9 +45,24 @@ fn push_multiplexing_excess_if(
     ensures { OnOk result (events.new.items
         ≡ events.old.items ++ spec.multiplexing_excess_events options.now place.now (option_to_list excess.now)) }
 {
-    if let Some(excess) = excess {
-        events.push(Event::MultiplexingExcess(excess_of(options, place, excess)))?;
+    match excess {
+        None => Ok(()),
+        Some(excess) => push_multiplexing_excess(events, options, place, excess),
     }
+}
+
+// Appends an excess of the elementary stream buffer. A call of its own: few packets end one.
+#[inline(never)]
+fn push_elementary_excess(
+    events: &mut Vec<Event>,
+    options: &ViewOptions,
+    place: &Place,
+    excess: &Excess,
+) -> Result<(), AllocError>
+    ensures { OnOk result (events.new.items
+        ≡ events.old.items ++ spec.elementary_excess_events options.now place.now (excess.now ∷ [])) }
+{
+    events.push(Event::ElementaryExcess(excess_of(options, place, excess)))?;
     Ok(())
 }
 
@@ -46,10 +76,10 @@ fn push_elementary_excess_if(
     ensures { OnOk result (events.new.items
         ≡ events.old.items ++ spec.elementary_excess_events options.now place.now (option_to_list excess.now)) }
 {
-    if let Some(excess) = excess {
-        events.push(Event::ElementaryExcess(excess_of(options, place, excess)))?;
+    match excess {
+        None => Ok(()),
+        Some(excess) => push_elementary_excess(events, options, place, excess),
     }
-    Ok(())
 }
 
 #[tactic(auto, unfolding(crate::specs::VideoEvents::cause_told))]
@@ -81,6 +111,22 @@ fn elementary_late_event(
     })
 }
 
+// Appends a unit that was late in the elementary stream buffer. A call of its own: few units are.
+#[inline(never)]
+fn push_elementary_late(
+    events: &mut Vec<Event>,
+    options: &ViewOptions,
+    place: &Place,
+    unit: &VideoUnit,
+    cause: LateCause,
+) -> Result<(), AllocError>
+    ensures { OnOk result (events.new.items
+        ≡ events.old.items ++ spec.elementary_late_event options.now place.now unit.now cause ∷ []) }
+{
+    events.push(elementary_late_event(options, place, unit, cause))?;
+    Ok(())
+}
+
 // Appends a unit that ended, if it was late in the elementary stream buffer.
 #[tactic(auto, unfolding(crate::specs::VideoEvents::elementary_late_events, crate::specs::VideoEvents::late_events_by))]
 fn push_elementary_late_if(
@@ -93,10 +139,7 @@ fn push_elementary_late_if(
 {
     match unit {
         Some(unit) => match unit.cause() {
-            Some(cause) => {
-                events.push(elementary_late_event(options, place, unit, cause))?;
-                Ok(())
-            }
+            Some(cause) => push_elementary_late(events, options, place, unit, cause),
             None => Ok(()),
         },
         None => Ok(()),

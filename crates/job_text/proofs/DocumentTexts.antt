@@ -12,11 +12,10 @@ use Rattle.unit_timing.specs.declared.framing.Framing.{Framing}
 use Rattle.unit_timing.specs.declared.multiplexing_buffer.MultiplexingBuffer.{MultiplexingBuffer}
 use Rattle.hex.specs.Hex.{encode_lower}
 use Rattle.toml_writer.specs.Text.{key_text}
-use Rattle.toml.specs.Data.{string, integer, boolean, Members, no_members, member, is_before, members_depth, members_have_valid_dates, members_are_sorted}
-use Rattle.toml.specs.Text.{IsLinesText, IsDocumentText, expressions, pairs, sections, elements}
+use Rattle.toml.specs.Data.{string, integer, boolean, Members, no_members, member, is_before, members_are_sorted}
+use Rattle.toml.specs.Text.{expressions, pairs, sections, elements}
 use Rattle.toml.specs.Tables.{Expression}
-use Rattle.toml.proofs.Lines.{IsLinesText-append, after}
-use Rattle.toml.proofs.ReadBack.{parse_document-printed}
+use Rattle.toml.proofs.Lines.{after}
 use Rattle.job_text.specs.DescriptionParts.{EventPartView, HeadingView, NetworkPartView, ProgramPartView, StreamPartView, TablePartView}
 use Rattle.job_text.specs.KeyLines.{with_numbers, with_hex, with_list, hex_line, list_line, key_line, number_lines}
 use Rattle.job_text.specs.Fields.{program_numbers, burst_numbers, frame_numbers, group_numbers, time_numbers, size_numbers, pace_numbers, place_numbers}
@@ -26,11 +25,12 @@ use Rattle.job_text.specs.Documents.{stream_place, stream_middle, stream_rest, s
 use Rattle.job_text.specs.Texts.{event_text, heading_text, network_text, network_if_any, program_text, stream_text, table_text}
 use Rattle.job_text.specs.Laws.{Fits, FitsEvent, FitsHeading, FitsNetwork, FitsProgram, FitsAllowance, FitsMultiplexing, FitsFraming, FitsStream, FitsTable}
 use Rattle.job_text.specs.Laws.{TextsAreRead}
+use Rattle.job_text.proofs.Comments.{AreCommented, commented_both, document_read}
 use Rattle.job_text.proofs.FlatArrays.{list_none, list_some, numbers_are, numbers_sorted, digits_are, digits_sorted}
 use Rattle.job_text.proofs.Scalars.{AreScalars, IsScalar, scalar_lines, lines_are_text}
-use Rattle.job_text.proofs.TableArrays.{AreTables, element_lines, elements_are_text, pairs_past, sections_with, shallow, dated_past, sorted_past, before_tables}
-use Rattle.job_text.proofs.SingleTables.{IsTable, lines_if_any, expressions_if_any, table_is_text, pairs_past_table, sections_with_table, shallow_table}
-use Rattle.job_text.proofs.SingleTables.{dated_past_table, sorted_past_table, before_table}
+use Rattle.job_text.proofs.TableArrays.{AreTables, element_lines, elements_are_text, pairs_past, sections_with, sorted_past, before_tables}
+use Rattle.job_text.proofs.SingleTables.{IsTable, lines_if_any, expressions_if_any, table_is_text, pairs_past_table, sections_with_table}
+use Rattle.job_text.proofs.SingleTables.{sorted_past_table, before_table}
 
 -- numbers are scalars
 small : (n : ℕ) → Fits n → IsScalar (integer (pos n))
@@ -460,81 +460,55 @@ begun : (es : List Expression) → 1 ≤ length es → after false es ≡ true
 begun es some = grind (arith, nat_tests)
 
 last_is_text : (ws : List Members) → AreTables ws
-    → IsLinesText false true (elements ([], codes "table") (elements_of ws) ++ []) (flat_map (element_lines (codes "table")) ws)
+    → AreCommented true (elements ([], codes "table") (elements_of ws) ++ []) (flat_map (element_lines (codes "table")) ws)
 unfolding key_text
 last_is_text ws w =
-    subst (λ (es : List Expression). IsLinesText false true es (flat_map (element_lines (codes "table")) ws))
+    subst (λ (es : List Expression). AreCommented true es (flat_map (element_lines (codes "table")) ws))
     (sym (append-nil (elements ([], codes "table") (elements_of ws))))
     (elements_are_text (codes "table") ws refl w)
 
-arrays_are_text : (ts us ws : List Members) → AreTables ts → AreTables us → AreTables ws → IsLinesText false true (arrays ts us ws) (array_lines ts us ws)
+arrays_are_text : (ts us ws : List Members) → AreTables ts → AreTables us → AreTables ws → AreCommented true (arrays ts us ws) (array_lines ts us ws)
 unfolding key_text
 arrays_are_text ts us ws a b w =
     let programs = elements_are_text (codes "program") ts refl a in
     let streams = elements_are_text (codes "stream") us refl b in
-    let two = IsLinesText-append false true (elements ([], codes "stream") (elements_of us)) (elements ([], codes "table") (elements_of ws) ++ [])
+    let two = commented_both true (elements ([], codes "stream") (elements_of us)) (elements ([], codes "table") (elements_of ws) ++ [])
     (flat_map (element_lines (codes "stream")) us) (flat_map (element_lines (codes "table")) ws) streams (last_is_text ws w) in
-    IsLinesText-append false true (elements ([], codes "program") (elements_of ts))
+    commented_both true (elements ([], codes "program") (elements_of ts))
     (elements ([], codes "stream") (elements_of us) ++ (elements ([], codes "table") (elements_of ws) ++ []))
     (flat_map (element_lines (codes "program")) ts) (flat_map (element_lines (codes "stream")) us ++ flat_map (element_lines (codes "table")) ws) programs two
 
 tables_are_text : (n : Option Members) (ts us ws : List Members) → IsTable n → AreTables ts → AreTables us → AreTables ws →
-    IsLinesText false true (tables n ts us ws) (table_lines n ts us ws)
+    AreCommented true (tables n ts us ws) (table_lines n ts us ws)
 unfolding key_text
 tables_are_text n ts us ws t a b w =
-    IsLinesText-append false true (expressions_if_any (codes "network") n) (arrays ts us ws)
+    commented_both true (expressions_if_any (codes "network") n) (arrays ts us ws)
     (lines_if_any (codes "network") n) (array_lines ts us ws)
     (table_is_text (codes "network") n refl t) (arrays_are_text ts us ws a b w)
 
 all_are_text : (es : List Members) (n : Option Members) (ts us ws : List Members) → AreTables es → IsTable n → AreTables ts → AreTables us → AreTables ws
-    → IsLinesText false true (all_tables_of es n ts us ws) (all_lines es n ts us ws)
+    → AreCommented true (all_tables_of es n ts us ws) (all_lines es n ts us ws)
 unfolding key_text
 all_are_text es n ts us ws e t a b w =
-    IsLinesText-append false true (elements ([], codes "event") (elements_of es)) (tables n ts us ws)
+    commented_both true (elements ([], codes "event") (elements_of es)) (tables n ts us ws)
     (flat_map (element_lines (codes "event")) es) (table_lines n ts us ws)
     (elements_are_text (codes "event") es refl e) (tables_are_text n ts us ws t a b w)
 
 document_is_text : (h : HeadingView) (es : List Members) (n : Option Members) (ts us ws : List Members) → FitsHeading h → AreTables es → IsTable n →
     AreTables ts → AreTables us → AreTables ws
-    → IsDocumentText false (document h es n ts us ws) (heading_text h ++ all_lines es n ts us ws)
+    → AreCommented false (expressions (document h es n ts us ws)) (heading_text h ++ all_lines es n ts us ws)
 document_is_text h es n ts us ws f e t a b w =
     let head = pairs (document h [] None [] [] []) in
     let rest = all_tables_of es n ts us ws in
     let text = all_lines es n ts us ws in
-    let first : IsLinesText false false head (heading_text h) =
-    subst (λ (t : List ℕ). IsLinesText false false head t) (heading_lines h) (lines_are_text false (document h [] None [] [] []) (heading_scalars h f)) in
-    let second : IsLinesText false (after false head) rest text =
-    subst (λ (s : Bool). IsLinesText false s rest text) (sym (begun head (omega arith))) (all_are_text es n ts us ws e t a b w) in
-    let whole = IsLinesText-append false false head rest (heading_text h) text first second in
+    let first : AreCommented false head (heading_text h) =
+    subst (λ (t : List ℕ). AreCommented false head t) (heading_lines h) (lines_are_text false (document h [] None [] [] []) (heading_scalars h f)) in
+    let second : AreCommented (after false head) rest text =
+    subst (λ (s : Bool). AreCommented s rest text) (sym (begun head (omega arith))) (all_are_text es n ts us ws e t a b w) in
+    let whole = commented_both false head rest (heading_text h) text first second in
     let same : expressions (document h es n ts us ws) ≡ head ++ rest =
     ap₂ (λ (xs ys : List Expression). xs ++ ys) (whole_pairs h es n ts us ws) (whole_sections h es n ts us ws) in
-    subst (λ (es : List Expression). IsLinesText false false es (heading_text h ++ text)) (sym same) whole
-
-document_shallow : (h : HeadingView) (es : List Members) (n : Option Members) (ts us ws : List Members) → AreTables es → IsTable n → AreTables ts →
-    AreTables us → AreTables ws →
-    members_depth (document h es n ts us ws) ≤ 80
-document_shallow h es n ts us ws e t a b w =
-    let last : members_depth (after_tables h) ≤ 3 = grind (arith, nat_tests) in
-    let private = shallow (codes "table") ws (after_tables h) w last in
-    let inner = shallow (codes "stream") us (after_streams h ws) b private in
-    let middle : members_depth (after_programs h us ws) ≤ 3 = grind (arith, nat_tests) in
-    let outer = shallow (codes "program") ts (after_programs h us ws) a middle in
-    let named : members_depth (after_network h ts us ws) ≤ 3 = grind (arith, nat_tests) in
-    let within : members_depth (after_events h n ts us ws) ≤ 3 = shallow_table (codes "network") n (after_network h ts us ws) t named in
-    let all = shallow (codes "event") es (after_events h n ts us ws) e within in
-    grind (arith, nat_tests)
-
-document_dated : (h : HeadingView) (es : List Members) (n : Option Members) (ts us ws : List Members) → AreTables es → IsTable n → AreTables ts → AreTables us →
-    AreTables ws →
-    members_have_valid_dates (document h es n ts us ws) ≡ true
-document_dated h es n ts us ws e t a b w =
-    rw (
-      dated_past (codes "event") es (after_events h n ts us ws) e,
-      dated_past_table (codes "network") n (after_network h ts us ws) t,
-      dated_past (codes "program") ts (after_programs h us ws) a,
-      dated_past (codes "stream") us (after_streams h ws) b,
-      dated_past (codes "table") ws (after_tables h) w,
-    )
+    subst (λ (es : List Expression). AreCommented false es (heading_text h ++ text)) (sym same) whole
 
 before_events : (other : List ℕ) (h : HeadingView) (n : Option Members) (ts us ws : List Members) → is_lt (slice_cmp nat_cmp other (codes "network")) ≡ true
     → is_lt (slice_cmp nat_cmp other (codes "original_network_id")) ≡ true → is_before other (after_events h n ts us ws) ≡ true
@@ -574,9 +548,9 @@ texts_are_read h es n ps ss qs f e m p s q =
     let lines : all_lines vs t ts us ws ≡ flat_map event_text es
     ++ (network_if_any n ++ (flat_map program_text ps ++ (flat_map stream_text ss ++ flat_map table_text qs))) =
     ap₂ (λ (xs ys : List ℕ). xs ++ ys) (events_lines es) rest in
-    let text : IsDocumentText false (document h vs t ts us ws)
+    let text : AreCommented false (expressions (document h vs t ts us ws))
     (heading_text h ++ (flat_map event_text es ++ (network_if_any n ++ (flat_map program_text ps ++ (flat_map stream_text ss ++ flat_map table_text qs)))))
     =
-    subst (λ (l : List ℕ). IsDocumentText false (document h vs t ts us ws) (heading_text h ++ l)) lines (document_is_text h vs t ts us ws f ev fits a b w) in
-    parse_document-printed false (document h vs t ts us ws) _ text (document_shallow h vs t ts us ws ev fits a b w)
-    (document_dated h vs t ts us ws ev fits a b w) (document_sorted h vs t ts us ws ev fits a b w)
+    subst (λ (l : List ℕ). AreCommented false (expressions (document h vs t ts us ws)) (heading_text h ++ l)) lines
+    (document_is_text h vs t ts us ws f ev fits a b w) in
+    document_read (document h vs t ts us ws) _ text (document_sorted h vs t ts us ws ev fits a b w)

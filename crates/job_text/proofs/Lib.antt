@@ -1,3 +1,5 @@
+pub mod Comments
+pub mod NoteLines
 pub mod FlatArrays
 pub mod Scalars
 pub mod TableArrays

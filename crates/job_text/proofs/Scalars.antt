@@ -1,14 +1,16 @@
 -- Tables of strings, numbers, truth values and flat arrays, as lines.
-use Rattle.std.proofs.Common.{◌≡◌, ℕ, ◌≤◌, max, Bool, true, false, List, [], ◌++◌, refl, arith}
-use Rattle.std.proofs.lemmas.Bool.Decides.{nat_tests}
+use Rattle.std.proofs.Common.{◌≡◌, ℕ, ◌≤◌, Bool, true, false, List, [], ◌++◌, codes, refl, arith}
 use Rattle.std.specs.Int.{w64}
 use Rattle.std.specs.Prelude.{FitsSigned}
 use Rattle.toml_writer.specs.Text.{key_text}
-use Rattle.toml.specs.Data.{Data, string, integer, float, boolean, datetime, array, table, Members, no_members, member, depth, members_depth}
-use Rattle.toml.specs.Data.{members_have_valid_dates}
+use Rattle.toml.specs.Data.{Data, string, integer, float, boolean, datetime, array, table, Members, no_members, member, depth, has_valid_dates}
 use Rattle.toml.specs.Tables.{key_value}
-use Rattle.toml.specs.Text.{IsLineText, IsLinesText, IsValueText, pairs, sections, is_section}
+use Rattle.toml.specs.Text.{IsValueText, pairs, sections, is_section}
+use Rattle.toml.proofs.ReadLines.{IsPrinted}
 use Rattle.job_text.specs.KeyLines.{value_text, key_line}
+use Rattle.job_text.specs.Notes.{note_of}
+use Rattle.job_text.proofs.Comments.{IsCommented, AreCommented}
+use Rattle.job_text.proofs.NoteLines.{note_tail}
 use Rattle.job_text.proofs.FlatArrays.{AreFlat, array_is_text, array_is_no_section, no_array_section, array_low, array_dated}
 
 -- a value that stands on one line
@@ -47,27 +49,7 @@ is_no_section (datetime x) h = absurd h
 is_no_section (array x) h = array_is_no_section x h
 is_no_section (table x) h = absurd h
 
--- the line of a scalar is TOML's
-line_is_text : (started : Bool) (k : List ℕ) (d : Data) → key_text k ≡ k → IsScalar d → IsLineText false started ([], k) (key_value d) (key_line k d)
-unfolding key_line
-line_is_text started k d bare h = (value_text d, rw bare refl, value_is_text d h)
-
-pub lines_are_text : (started : Bool) (ms : Members) → AreScalars ms → IsLinesText false started (pairs ms) (scalar_lines ms)
-lines_are_text started no_members h = refl
-lines_are_text started (member k d ms) h =
-    rw (is_no_section d h.1) (key_line k d, scalar_lines ms, refl, line_is_text started k d h.0 h.1, lines_are_text true ms h.2)
-
--- and it has no tables, is no deeper than an array, and has no dates
-pub no_sections : (path : List (List ℕ)) (ms : Members) → AreScalars ms → sections path ms ≡ []
-no_sections path no_members h = refl
-no_sections path (member k (string s) ms) h = no_sections path ms h.2
-no_sections path (member k (integer z) ms) h = no_sections path ms h.2
-no_sections path (member k (boolean b) ms) h = no_sections path ms h.2
-no_sections path (member k (float x) ms) h = absurd h.1
-no_sections path (member k (datetime x) ms) h = absurd h.1
-no_sections path (member k (array x) ms) h = rw (no_array_section path k x h.1) (no_sections path ms h.2)
-no_sections path (member k (table x) ms) h = absurd h.1
-
+-- what the reader asks of it
 low : (d : Data) → IsScalar d → depth d ≤ 1
 low (string s) h = omega arith
 low (integer z) h = omega arith
@@ -77,19 +59,36 @@ low (datetime x) h = absurd h
 low (array x) h = array_low x h
 low (table x) h = absurd h
 
-both_low : (m n : ℕ) → m ≤ 1 → n ≤ 1 → max m n ≤ 1
-both_low m n h k = grind (arith, nat_tests)
+dated : (d : Data) → IsScalar d → has_valid_dates d ≡ true
+dated (string s) h = refl
+dated (integer z) h = refl
+dated (boolean b) h = refl
+dated (float x) h = absurd h
+dated (datetime x) h = absurd h
+dated (array x) h = array_dated x h
+dated (table x) h = absurd h
 
-pub flat : (ms : Members) → AreScalars ms → members_depth ms ≤ 1
-flat no_members h = omega arith
-flat (member k d ms) h = both_low (depth d) (members_depth ms) (low d h.1) (flat ms h.2)
+-- the line of a scalar is TOML's, with what stands beside it
+line_is_text : (started : Bool) (k : List ℕ) (d : Data) → key_text k ≡ k → IsScalar d → IsCommented started ([], k) (key_value d) (key_line k d)
+unfolding key_line
+line_is_text started k d bare h = (value_text d, note_of k d ++ codes "\n", rw bare refl, value_is_text d h, note_tail k d)
 
-pub dated : (ms : Members) → AreScalars ms → members_have_valid_dates ms ≡ true
-dated no_members h = refl
-dated (member k (string s) ms) h = dated ms h.2
-dated (member k (integer z) ms) h = dated ms h.2
-dated (member k (boolean b) ms) h = dated ms h.2
-dated (member k (float x) ms) h = absurd h.1
-dated (member k (datetime x) ms) h = absurd h.1
-dated (member k (array x) ms) h = rw (array_dated x h.1) (dated ms h.2)
-dated (member k (table x) ms) h = absurd h.1
+line_is_printed : (k : List ℕ) (d : Data) → IsScalar d → IsPrinted ([], k) (key_value d)
+line_is_printed k d h = let within = low d h in (refl, omega (arith, within), dated d h)
+
+pub lines_are_text : (started : Bool) (ms : Members) → AreScalars ms → AreCommented started (pairs ms) (scalar_lines ms)
+lines_are_text started no_members h = refl
+lines_are_text started (member k d ms) h =
+    rw (is_no_section d h.1)
+    (key_line k d, scalar_lines ms, refl, line_is_text started k d h.0 h.1, line_is_printed k d h.1, lines_are_text true ms h.2)
+
+-- and it has no tables
+pub no_sections : (path : List (List ℕ)) (ms : Members) → AreScalars ms → sections path ms ≡ []
+no_sections path no_members h = refl
+no_sections path (member k (string s) ms) h = no_sections path ms h.2
+no_sections path (member k (integer z) ms) h = no_sections path ms h.2
+no_sections path (member k (boolean b) ms) h = no_sections path ms h.2
+no_sections path (member k (float x) ms) h = absurd h.1
+no_sections path (member k (datetime x) ms) h = absurd h.1
+no_sections path (member k (array x) ms) h = rw (no_array_section path k x h.1) (no_sections path ms h.2)
+no_sections path (member k (table x) ms) h = absurd h.1

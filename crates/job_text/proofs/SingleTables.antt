@@ -1,15 +1,15 @@
 -- A table at a key, as lines.
-use Rattle.std.proofs.Common.{◌≡◌, ℕ, suc, max, ◌≤◌, true, false, List, [], ◌∷◌, ◌++◌, Option, Some, None, refl, arith, append-nil}
-use Rattle.std.proofs.lemmas.Bool.Decides.{nat_tests}
+use Rattle.std.proofs.Common.{◌≡◌, ℕ, true, List, [], ◌∷◌, ◌++◌, Option, Some, None, refl, arith, append-nil}
 use Rattle.toml_writer.specs.Text.{key_text}
 use Rattle.std.specs.Ordering.{nat_cmp, is_lt}
 use Rattle.std.specs.Cmp.Lexicographic.{slice_cmp}
-use Rattle.toml.specs.Data.{is_before, table, Members, no_members, member, members_depth, members_have_valid_dates, members_are_sorted}
+use Rattle.toml.specs.Data.{is_before, table, Members, no_members, member, members_are_sorted}
 use Rattle.toml.specs.Tables.{Expression, std_table}
-use Rattle.toml.specs.Text.{IsLineText, IsLinesText, needs_header, pairs, sections, section}
+use Rattle.toml.specs.Text.{needs_header, pairs, sections, section}
 use Rattle.job_text.specs.KeyLines.{table_header}
 use Rattle.job_text.specs.Documents.{with_table}
-use Rattle.job_text.proofs.Scalars.{AreScalars, scalar_lines, lines_are_text, is_no_section, no_sections, flat, dated}
+use Rattle.job_text.proofs.Comments.{IsCommented, AreCommented}
+use Rattle.job_text.proofs.Scalars.{AreScalars, scalar_lines, lines_are_text, is_no_section, no_sections}
 
 -- it has scalars alone, its keys in order
 abbrev pub IsTable : Option Members → Type 0
@@ -28,17 +28,17 @@ headed : (t : Members) → AreScalars t → needs_header t ≡ true
 headed no_members h = refl
 headed (member k d ms) h = rw (is_no_section d h.1) refl
 
-header_is_text : (key : List ℕ) → key_text key ≡ key → IsLineText false true ([], key) std_table (table_header key)
+header_is_text : (key : List ℕ) → key_text key ≡ key → IsCommented true ([], key) std_table (table_header key)
 unfolding table_header
 header_is_text key bare = rw bare refl
 
 -- its lines are TOML's
 pub table_is_text : (key : List ℕ) (t : Option Members) → key_text key ≡ key → IsTable t →
-    IsLinesText false true (expressions_if_any key t) (lines_if_any key t)
+    AreCommented true (expressions_if_any key t) (lines_if_any key t)
 table_is_text key None bare h = refl
 table_is_text key (Some t) bare h =
-    let own : IsLinesText false true (pairs t ++ []) (scalar_lines t) = rw append-nil (lines_are_text true t h.0) in
-    rw (headed t h.0, no_sections (key ∷ []) t h.0) (table_header key, scalar_lines t, refl, header_is_text key bare, own)
+    let own : AreCommented true (pairs t ++ []) (scalar_lines t) = rw append-nil (lines_are_text true t h.0) in
+    rw (headed t h.0, no_sections (key ∷ []) t h.0) (table_header key, scalar_lines t, refl, header_is_text key bare, omega arith, own)
 
 -- among other keys
 pub pairs_past_table : (key : List ℕ) (t : Option Members) (more : Members) → pairs (with_table key t more) ≡ pairs more
@@ -49,18 +49,6 @@ pub sections_with_table : (key : List ℕ) (t : Option Members) (more : Members)
     → sections [] (with_table key t more) ≡ expressions_if_any key t ++ sections [] more
 sections_with_table key None more = refl
 sections_with_table key (Some t) more = refl
-
-one_max : (m n : ℕ) → m ≤ 1 → n ≤ 3 → max (suc m) n ≤ 3
-one_max m n h k = grind (arith, nat_tests)
-
-pub shallow_table : (key : List ℕ) (t : Option Members) (more : Members) → IsTable t → members_depth more ≤ 3 → members_depth (with_table key t more) ≤ 3
-shallow_table key None more h low_more = low_more
-shallow_table key (Some t) more h low_more = one_max (members_depth t) (members_depth more) (flat t h.0) low_more
-
-pub dated_past_table : (key : List ℕ) (t : Option Members) (more : Members) → IsTable t →
-    members_have_valid_dates (with_table key t more) ≡ members_have_valid_dates more
-dated_past_table key None more h = refl
-dated_past_table key (Some t) more h = rw (dated t h.0)
 
 pub sorted_past_table : (key : List ℕ) (t : Option Members) (more : Members) → is_before key more ≡ true → IsTable t →
     members_are_sorted (with_table key t more) ≡ members_are_sorted more

@@ -1,18 +1,16 @@
 -- Arrays of tables, as lines.
-use Rattle.std.proofs.Common.{◌≡◌, ℕ, suc, max, ◌≤◌, true, false, List, [], ◌∷◌, ◌++◌, refl, arith, append_assoc, append-nil}
-use Rattle.std.proofs.lemmas.Bool.Decides.{nat_tests}
+use Rattle.std.proofs.Common.{◌≡◌, ℕ, true, List, [], ◌∷◌, ◌++◌, refl, arith, append_assoc, append-nil}
 use Rattle.std.specs.List.{flat_map}
 use Rattle.toml_writer.specs.Text.{key_text}
 use Rattle.std.specs.Ordering.{nat_cmp, is_lt}
 use Rattle.std.specs.Cmp.Lexicographic.{slice_cmp}
-use Rattle.toml.specs.Data.{is_before, Members, items_depth, members_depth, items_have_valid_dates, members_have_valid_dates, items_are_sorted}
-use Rattle.toml.specs.Data.{members_are_sorted}
+use Rattle.toml.specs.Data.{is_before, Members, items_are_sorted, members_are_sorted}
 use Rattle.toml.specs.Tables.{array_table}
-use Rattle.toml.specs.Text.{IsLineText, IsLinesText, pairs, sections, elements, are_tables}
-use Rattle.toml.proofs.Lines.{IsLinesText-append}
+use Rattle.toml.specs.Text.{pairs, sections, elements, are_tables}
 use Rattle.job_text.specs.KeyLines.{header}
 use Rattle.job_text.specs.Documents.{elements_of, with_tables}
-use Rattle.job_text.proofs.Scalars.{AreScalars, scalar_lines, lines_are_text, no_sections, flat, dated}
+use Rattle.job_text.proofs.Comments.{IsCommented, AreCommented, commented_both}
+use Rattle.job_text.proofs.Scalars.{AreScalars, scalar_lines, lines_are_text, no_sections}
 
 -- each table has scalars alone, its keys in order
 abbrev pub AreTables : List Members → Type 0
@@ -27,38 +25,24 @@ pub all_tables : (ts : List Members) → are_tables (elements_of ts) ≡ true
 all_tables [] = refl
 all_tables (t ∷ ts) = all_tables ts
 
-low_max : (m n : ℕ) → m ≤ 1 → n ≤ 2 → max (suc m) n ≤ 2
-low_max m n h k = grind (arith, nat_tests)
-
-high_max : (m n : ℕ) → m ≤ 2 → n ≤ 3 → max (suc m) n ≤ 3
-high_max m n h k = grind (arith, nat_tests)
-
-pub low : (ts : List Members) → AreTables ts → items_depth (elements_of ts) ≤ 2
-low [] h = omega arith
-low (t ∷ ts) h = low_max (members_depth t) (items_depth (elements_of ts)) (flat t h.0) (low ts h.2)
-
-pub all_dated : (ts : List Members) → AreTables ts → items_have_valid_dates (elements_of ts) ≡ true
-all_dated [] h = refl
-all_dated (t ∷ ts) h = rw (dated t h.0) (all_dated ts h.2)
-
 pub all_sorted : (ts : List Members) → AreTables ts → items_are_sorted (elements_of ts) ≡ true
 all_sorted [] h = refl
 all_sorted (t ∷ ts) h = rw h.1 (all_sorted ts h.2)
 
-header_is_text : (key : List ℕ) → key_text key ≡ key → IsLineText false true ([], key) array_table (header key)
+header_is_text : (key : List ℕ) → key_text key ≡ key → IsCommented true ([], key) array_table (header key)
 unfolding header
 header_is_text key bare = rw bare refl
 
 -- their lines are TOML's
 pub elements_are_text : (key : List ℕ) (ts : List Members) → key_text key ≡ key → AreTables ts
-    → IsLinesText false true (elements ([], key) (elements_of ts)) (flat_map (element_lines key) ts)
+    → AreCommented true (elements ([], key) (elements_of ts)) (flat_map (element_lines key) ts)
 elements_are_text key [] bare h = refl
 elements_are_text key (t ∷ ts) bare h =
     let more = elements_are_text key ts bare h.2 in
-    let own : IsLinesText false true (pairs t ++ []) (scalar_lines t) = rw append-nil (lines_are_text true t h.0) in
-    let both = IsLinesText-append false true (pairs t ++ []) (elements ([], key) (elements_of ts)) (scalar_lines t) (flat_map (element_lines key) ts) own
-    more in
-    rw (no_sections (key ∷ []) t h.0) (header key, scalar_lines t ++ flat_map (element_lines key) ts, simp append_assoc, header_is_text key bare, both)
+    let own : AreCommented true (pairs t ++ []) (scalar_lines t) = rw append-nil (lines_are_text true t h.0) in
+    let both = commented_both true (pairs t ++ []) (elements ([], key) (elements_of ts)) (scalar_lines t) (flat_map (element_lines key) ts) own more in
+    rw (no_sections (key ∷ []) t h.0)
+    (header key, scalar_lines t ++ flat_map (element_lines key) ts, simp append_assoc, header_is_text key bare, omega arith, both)
 
 -- an array among other keys
 pub pairs_past : (key : List ℕ) (ts : List Members) (more : Members) → pairs (with_tables key ts more) ≡ pairs more
@@ -69,17 +53,6 @@ pub sections_with : (key : List ℕ) (ts : List Members) (more : Members)
     → sections [] (with_tables key ts more) ≡ elements ([], key) (elements_of ts) ++ sections [] more
 sections_with key [] more = refl
 sections_with key (t ∷ ts) more = rw (all_tables ts)
-
-pub shallow : (key : List ℕ) (ts : List Members) (more : Members) → AreTables ts → members_depth more ≤ 3 → members_depth (with_tables key ts more) ≤ 3
-shallow key [] more h low_more = low_more
-shallow key (t ∷ ts) more h low_more =
-    let here : items_depth (elements_of (t ∷ ts)) ≤ 2 = low (t ∷ ts) h in
-    high_max (items_depth (elements_of (t ∷ ts))) (members_depth more) here low_more
-
-pub dated_past : (key : List ℕ) (ts : List Members) (more : Members) → AreTables ts →
-    members_have_valid_dates (with_tables key ts more) ≡ members_have_valid_dates more
-dated_past key [] more h = refl
-dated_past key (t ∷ ts) more h = rw (all_dated (t ∷ ts) h)
 
 pub sorted_past : (key : List ℕ) (ts : List Members) (more : Members) → is_before key more ≡ true → AreTables ts
     → members_are_sorted (with_tables key ts more) ≡ members_are_sorted more

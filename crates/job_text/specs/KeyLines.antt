@@ -6,6 +6,7 @@ use Rattle.std.specs.Fmt.{signed_decimal}
 use Rattle.hex.specs.Hex.{encode_lower}
 use Rattle.toml.specs.Data.{Data, string, integer, boolean, array, Items, no_items, item, Members, member}
 use Rattle.toml_writer.specs.Text.{string_text}
+use Rattle.job_text.specs.Notes.{note_of}
 
 -- a string, a number, a truth value or an array of these on one line; no other kind of value is written
 abbrev mutual
@@ -21,9 +22,9 @@ abbrev mutual
   items_text is_first no_items = codes "]"
   items_text is_first (item d ds) = (if is_first then [] else codes ", ") ++ (value_text d ++ items_text false ds)
 
--- `KEY = VALUE` and LF
+-- `KEY = VALUE`, what stands beside it, and LF
 unfoldable pub key_line : List ℕ → Data → List ℕ
-key_line key value = key ++ (codes " = " ++ (value_text value ++ codes "\n"))
+key_line key value = key ++ (codes " = " ++ (value_text value ++ (note_of key value ++ codes "\n")))
 
 -- of a number
 abbrev pub number_line : List ℕ × ℕ → List ℕ

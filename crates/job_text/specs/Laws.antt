@@ -1,12 +1,14 @@
 -- What the laws of this crate say.
-use Rattle.std.specs.Prelude.{◌≡◌, ◌<◌, ◌^◌, ℕ, List, ◌++◌, map, All, IfSome, Option, Some, option_map}
-use Rattle.std.specs.List.{flat_map}
+use Rattle.std.specs.Prelude.{◌≡◌, ◌<◌, ◌^◌, ℕ, true, List, ◌++◌, map, All, IfSome, Option, Some, option_map}
+use Rattle.std.specs.List.{flat_map, list_all}
+use Rattle.toml.specs.Data.{Data}
 use Rattle.toml.specs.Parse.{parse_document}
 use Rattle.unit_timing.specs.declared.allowance.Allowance.{Allowance}
 use Rattle.unit_timing.specs.declared.allowance.Allowance.TheVariants.{Groups, Pace}
 use Rattle.unit_timing.specs.declared.framing.Framing.{Framing}
 use Rattle.unit_timing.specs.declared.multiplexing_buffer.MultiplexingBuffer.{MultiplexingBuffer}
 use Rattle.job_text.specs.DescriptionParts.{EventPartView, HeadingView, NetworkPartView, ProgramPartView, StreamPartView, TablePartView}
+use Rattle.job_text.specs.Notes.{is_shown, note_of}
 use Rattle.job_text.specs.Documents.{document, event_table, network_table, program_table, stream_table, table_table}
 use Rattle.job_text.specs.Texts.{event_text, heading_text, network_if_any, program_text, stream_text, table_text}
 
@@ -88,3 +90,7 @@ TextsAreRead =
     → parse_document
     (heading_text h ++ (flat_map event_text es ++ (network_if_any n ++ (flat_map program_text ps ++ (flat_map stream_text ss ++ flat_map table_text ts)))))
     ≡ Some (document h (map event_table es) (option_map network_table n) (map program_table ps) (map stream_table ss) (map table_table ts))
+
+-- what stands beside a value is printable ASCII
+abbrev pub NotesAreShown : Type 0
+NotesAreShown = (key : List ℕ) (value : Data) → list_all is_shown (note_of key value) ≡ true

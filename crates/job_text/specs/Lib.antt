@@ -1,3 +1,4 @@
+pub mod Notes
 pub mod KeyLines
 pub mod DescriptionParts
 pub mod Fields

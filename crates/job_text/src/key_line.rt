@@ -8,6 +8,8 @@ ghost use Rattle.toml.specs.Data.{string, boolean, array};
 ghost use Rattle.job_text.specs.KeyLines.{key_line, number_line, field_line, table_header, header, hex_line, list_line};
 ghost use Rattle.job_text.specs.KeyLines.{next_number, array_line, digits_of, next_digits};
 
+use crate::measure::measure_of;
+use crate::note::write_note;
 use std::alloc::{AllocError, Allocator, Global};
 use std::fmt;
 use std::fmt::Write;
@@ -37,7 +39,11 @@ pub(crate) fn write_number<A: Allocator>(
 ) -> Result<(), AllocError>
     ensures { OnOk result (string_bytes text.new ≡ string_bytes text.old ++ number_line (key.now, number)) }
 {
-    write!(text, "{key} = {number}\n")
+    text.push_str(key)?;
+    text.push_str(" = ")?;
+    write!(text, "{number}")?;
+    write_note(text, measure_of(key), number)?;
+    text.push_str("\n")
 }
 
 // A key with its number.

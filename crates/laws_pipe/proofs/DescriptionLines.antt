@@ -15,6 +15,8 @@ use Rattle.job_text.specs.DescriptionParts.{EventPartView, HeadingView, NetworkP
 use Rattle.job_text.specs.Fields.{burst_numbers, drain_numbers, first_numbers, frame_numbers, group_numbers, last_numbers, leak_numbers, limit_numbers}
 use Rattle.job_text.specs.Fields.{pace_numbers, place_numbers, program_numbers, size_numbers, table_numbers, time_numbers}
 use Rattle.job_text.specs.KeyLines.{digits_of, header, hex_line, items_of, items_text, key_line, list_line, number_line, number_lines, table_header, value_text}
+use Rattle.job_text.specs.Notes.{is_shown, note_of}
+use Rattle.job_text.proofs.NoteLines.{notes_are_shown}
 use Rattle.job_text.specs.Texts.{event_back, event_names, event_numbers, event_text, heading_text, network_if_any, program_front, program_service, program_text}
 use Rattle.job_text.specs.Texts.{stream_end, stream_front, stream_place, stream_text, stream_times, table_back, table_front, table_text}
 use Rattle.stream_programs.specs.NetworkInformation.{stream_network}
@@ -29,7 +31,7 @@ use Rattle.stream_jobs.specs.JobTables.{table_lines, table_part, tables_text}
 use Rattle.stream_jobs.specs.Texts.{description_text, events_text, heading_of, program_lines, program_part, program_with, programs_text, stream_lines}
 use Rattle.stream_jobs.specs.Texts.{stream_part, streams_text}
 use Rattle.checked_jobs.specs.Jobs.{first_plan_line}
-use Rattle.laws_pipe.proofs.PlainLines.{Passes, both_pass, flat_both, is_flat, line_passes, none_passes}
+use Rattle.laws_pipe.proofs.PlainLines.{Passes, both_pass, flat_both, flat_if, is_flat, line_passes, none_passes}
 use Rattle.laws_pipe.proofs.PlainNames.{PlainOptions, PlainPart, PlainService, begin_flat, decoded_flat, moment_flat, part_plain, service_plain}
 use Rattle.laws_pipe.proofs.PlainTexts.{decimal_flat, hex_flat, string_flat}
 
@@ -39,17 +41,25 @@ use Rattle.laws_pipe.proofs.PlainTexts.{decimal_flat, hex_flat, string_flat}
 abbrev IsOther : List ℕ → Type 0
 IsOther key = (rest : List ℕ) → starts_with nat_eq (key ++ rest) first_plan_line ≡ false
 
+-- what stands beside a value has no end of a line
+note_flat : (key : List ℕ) (value : Data) → is_flat (note_of key value) ≡ true
+note_flat key value = flat_if is_shown (note_of key value) refl (notes_are_shown key value)
+
 key_passes : (key : List ℕ) (value : Data) → IsOther key → is_flat key ≡ true → is_flat (value_text value) ≡ true → Passes (key_line key value)
 unfolding key_line
 key_passes key value other plain flat =
-    let after = codes " = " ++ value_text value in
-    let line : (key ++ (codes " = " ++ value_text value)) ++ 10 ∷ [] ≡ key ++ (codes " = " ++ (value_text value ++ codes "\n")) =
-    append_assoc key (codes " = " ++ value_text value) (10 ∷ []) ∙ ap (λ (t : List ℕ). key ++ t) (append_assoc (codes " = ") (value_text value) (10 ∷ [])) in
+    let note = note_of key value in
+    let said = value_text value ++ note in
+    let both = flat_both (value_text value) note flat (note_flat key value) in
+    let line : (key ++ (codes " = " ++ said)) ++ 10 ∷ [] ≡ key ++ (codes " = " ++ (value_text value ++ (note ++ codes "\n"))) =
+    append_assoc key (codes " = " ++ said) (10 ∷ [])
+    ∙ ap (λ (t : List ℕ). key ++ t)
+    (append_assoc (codes " = ") said (10 ∷ []) ∙ ap (λ (t : List ℕ). codes " = " ++ t) (append_assoc (value_text value) note (10 ∷ []))) in
     subst Passes line
-    (line_passes (key ++ (codes " = " ++ value_text value))
-    (flat_both key (codes " = " ++ value_text value) plain (flat_both (codes " = ") (value_text value) refl flat))
-    (λ rest. ap (λ (t : List ℕ). starts_with nat_eq t first_plan_line) (append_assoc key (codes " = " ++ value_text value) (10 ∷ rest))
-    ∙ other ((codes " = " ++ value_text value) ++ 10 ∷ rest)))
+    (line_passes (key ++ (codes " = " ++ said))
+    (flat_both key (codes " = " ++ said) plain (flat_both (codes " = ") said refl both))
+    (λ rest. ap (λ (t : List ℕ). starts_with nat_eq t first_plan_line) (append_assoc key (codes " = " ++ said) (10 ∷ rest))
+    ∙ other ((codes " = " ++ said) ++ 10 ∷ rest)))
 
 -- of a number
 number_passes : (key : List ℕ) (n : ℕ) → IsOther key → is_flat key ≡ true → Passes (number_line (key, n))

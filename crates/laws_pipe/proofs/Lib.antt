@@ -11,6 +11,5 @@ pub mod JoinedInformation
 pub mod JoinedConstants
 pub mod JoinedUnitsAgain
 pub mod JoinedRuns
-pub mod RisingUnits
 pub mod MarkedUnits
 pub mod StreamedUnits

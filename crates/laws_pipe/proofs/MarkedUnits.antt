@@ -1,13 +1,13 @@
 -- The units of a PID, of whose findings both ways of `tsjob units` ask for the same marks.
 use Rattle.std.proofs.Common.{◌≡◌, ◌∙◌, ◌&&◌, ℕ, Bool, true, false, if◌then◌else◌, Some, List, [], ◌∷◌, map, refl, sym, ap, ap₂}
-use Rattle.pes_packet.specs.AccessUnits.{AccessUnit}
 use Rattle.demux.specs.Laws.{found_of, has_pid}
 use Rattle.demux.specs.Views.{FindingView}
 use Rattle.data_times.specs.DataTimes.{is_unstamped, seen_in, timed}
 use Rattle.data_times.specs.declared.references.ClockReference.{ClockReference}
 use Rattle.data_times.proofs.OtherPids.{others_stay}
 use Rattle.packet_sync.specs.Slips.{carried}
-use Rattle.es_units.specs.CarriedUnits.{CarriedUnit, RoleView, Ignored, carried_units, role_of, wire_units}
+use Rattle.es_units.specs.ApartUnits.{apart_units, apart_wire_units}
+use Rattle.es_units.specs.CarriedUnits.{CarriedUnit, Ignored, carried_units, role_of}
 use Rattle.es_units.proofs.CarriedUnits.{same_units}
 use Rattle.es_feed.specs.EachStream.{if_start, next_starts, one_by_one, starts_next}
 use Rattle.given_marks.specs.Marking.{MarkingView, all_marked, is_aligned, type_of}
@@ -59,14 +59,15 @@ pub alone_alike : (whole streamed : MarkingView) (pid : ℕ) (fs : List FindingV
 alone_alike whole streamed pid fs alike =
     sym (own_alone pid (all_marked whole fs)) ∙ ap (one_by_one pid) (found_alike whole streamed pid fs alike) ∙ own_alone pid (all_marked streamed fs)
 
-pub carried_alike : (whole streamed : MarkingView) (pid : ℕ) (fs : List FindingView) → AreMarkedAlike whole streamed pid →
+carried_alike : (whole streamed : MarkingView) (pid : ℕ) (fs : List FindingView) → AreMarkedAlike whole streamed pid →
     carried_units pid (all_marked whole fs) ≡ carried_units pid (all_marked streamed fs)
 carried_alike whole streamed pid fs alike =
     sym (same_units pid (all_marked whole fs)) ∙ ap (carried_units pid) (found_alike whole streamed pid fs alike) ∙ same_units pid (all_marked streamed fs)
 
 pub wire_alike : (whole streamed : MarkingView) (pid : ℕ) (fs : List FindingView) → AreMarkedAlike whole streamed pid →
-    wire_units pid (all_marked whole fs) ≡ wire_units pid (all_marked streamed fs)
-wire_alike whole streamed pid fs alike = ap (λ (us : List CarriedUnit). map (λ (u : CarriedUnit). u.unit) us) (carried_alike whole streamed pid fs alike)
+    apart_wire_units pid (all_marked whole fs) ≡ apart_wire_units pid (all_marked streamed fs)
+wire_alike whole streamed pid fs alike =
+    ap (λ (us : List CarriedUnit). map (λ (u : CarriedUnit). u.unit) (apart_units us)) (carried_alike whole streamed pid fs alike)
 
 -- 3. Teletext without stamps is on other PIDs
 
@@ -79,14 +80,15 @@ pub alone_timed : (references : List ClockReference) (pid : ℕ) (fs : List Find
 alone_timed references pid fs stamped =
     sym (own_alone pid (timed references fs)) ∙ ap (one_by_one pid) (timed_alike references pid fs stamped) ∙ own_alone pid fs
 
-pub carried_timed : (references : List ClockReference) (pid : ℕ) (fs : List FindingView) → is_unstamped (seen_in fs) pid ≡ false →
+carried_timed : (references : List ClockReference) (pid : ℕ) (fs : List FindingView) → is_unstamped (seen_in fs) pid ≡ false →
     carried_units pid (timed references fs) ≡ carried_units pid fs
 carried_timed references pid fs stamped =
     sym (same_units pid (timed references fs)) ∙ ap (carried_units pid) (timed_alike references pid fs stamped) ∙ same_units pid fs
 
 pub wire_timed : (references : List ClockReference) (pid : ℕ) (fs : List FindingView) → is_unstamped (seen_in fs) pid ≡ false →
-    wire_units pid (timed references fs) ≡ wire_units pid fs
-wire_timed references pid fs stamped = ap (λ (us : List CarriedUnit). map (λ (u : CarriedUnit). u.unit) us) (carried_timed references pid fs stamped)
+    apart_wire_units pid (timed references fs) ≡ apart_wire_units pid fs
+wire_timed references pid fs stamped =
+    ap (λ (us : List CarriedUnit). map (λ (u : CarriedUnit). u.unit) (apart_units us)) (carried_timed references pid fs stamped)
 
 -- 4. No access points
 

@@ -1,6 +1,6 @@
 -- The names and the moment that a description is made of have no end of a line in them.
 use Rattle.std.proofs.Common.{◌≡◌, ℕ, ◌+◌, ◌/◌, ◌%◌, ◌++◌, decimal, ◌<◌, length, get_or, sym, ap, ◌∙◌, ◌==◌, Bool, true, false, List, [], ◌∷◌, map, refl, subst}
-use Rattle.std.proofs.Common.{arith, Option, Some, None, All, find, option_map, option_and_then, unwrap_or, codes, if◌then◌else◌}
+use Rattle.std.proofs.Common.{arith, Option, Some, None, is_some, All, find, option_map, option_and_then, unwrap_or, codes, if◌then◌else◌}
 use Rattle.std.specs.Option.{option_or}
 use Rattle.std.specs.Char.{is_control}
 use Rattle.std.specs.List.{list_all, onto_first, slice_split}
@@ -31,7 +31,8 @@ use Rattle.tsjob_cli.specs.Arguments.{aligned_in, arguments_in, arguments_of, le
 use Rattle.tsjob_cli.specs.Arguments.{without_in}
 use Rattle.tsjob_cli.specs.Options.{options}
 use Rattle.tsjob_cli.specs.Subcommands.{subcommand_of}
-use Rattle.option_lists.specs.JobValues.{base_of, declare_by_of, is_of_time, start_of}
+use Rattle.description_values.specs.Moments.{moment_of}
+use Rattle.option_lists.specs.JobValues.{base_of, declare_by_of, is_moment, is_of_time, start_of}
 use Rattle.option_lists.specs.Lists.{all_of, buffer_list, colon_parts, number_in}
 use Rattle.option_lists.specs.NameLists.{are_printable, is_printable, name_list, name_of, network_if_given, network_in, network_of as network_named}
 use Rattle.option_lists.specs.NameLists.{network_with}
@@ -159,8 +160,9 @@ start_plain : (o start : Option Text) → start_of o ≡ Some start → PlainIfA
 unfolding start_of
 start_plain None start e = subst PlainIfAny (same_value None start e) tt
 start_plain (Some text) start e =
-    let timed = if_some (list_all is_of_time text) (Some (Some text)) start e in
-    subst PlainIfAny (same_value (Some text) start timed.1) (flat_if is_of_time text refl timed.0)
+    let timed = if_some (is_moment text) (Some (Some text)) start e in
+    let written = and_parts (list_all is_of_time text) (is_some (moment_of text)) timed.0 in
+    subst PlainIfAny (same_value (Some text) start timed.1) (flat_if is_of_time text refl written.0)
 
 values_plain : (rows : List Row) (v : JobArgumentsView) → values_of rows ≡ Some v → PlainIfAny v.options.start
 unfolding values_of

@@ -15,14 +15,11 @@ use Rattle.demux.specs.Views.{FindingView}
 use Rattle.packet_sync.specs.Slips.{carried}
 use Rattle.data_times.specs.DataTimes.{is_unstamped, seen_in, timed}
 use Rattle.data_times.specs.References.{references_in}
-use Rattle.es_units.specs.ApartUnits.{apart_wire_units, has_same}
-use Rattle.es_units.specs.CarriedUnits.{CarriedUnit, carried_units, wire_units}
+use Rattle.es_units.specs.ApartUnits.{apart_wire_units}
 use Rattle.es_units.specs.Stamps.{distance, dts_at, moved, unit_at}
-use Rattle.es_feed.specs.EachStream.{AreFirst, fed_stream, have_fault, one_by_one, RiseFrom, found_of_all}
+use Rattle.es_feed.specs.EachStream.{AreFirst, fed_stream, have_fault, one_by_one}
 use Rattle.es_feed.specs.Feeding.{Fed, FedStreamView}
 use Rattle.es_feed.specs.StreamFeeding.{fed_of}
-use Rattle.es_units.proofs.ApartUnits.{apart_stay}
-use Rattle.es_feed.proofs.EachStream.{by_one_constant, each_rises}
 use Rattle.es_feed.proofs.MovedApart.{fed_apart}
 use Rattle.es_feed.specs.MovedApart.{AreWhole, after_time}
 use Rattle.es_feed.specs.FedLines.{fed_records, have_refusal}
@@ -46,9 +43,8 @@ use Rattle.job_run.specs.Outcomes.{Gives, GivesUnits}
 use Rattle.job_run.specs.Streams.{asked_findings, findings_for, findings_of, parts_by, references_by}
 use Rattle.tsjob_cli.specs.StreamedUnits.{GoesBy, earliest, feed_of, maps_of, marking_by, pids_of, streams_from}
 use Rattle.laws_pipe.specs.StreamedUnits.{AreAlike, AreLaterByOne, AreMarkedAlike, TheSameUnits}
-use Rattle.laws_pipe.proofs.MarkedUnits.{alone_timed, carried_timed, wire_timed, alone_alike, carried_alike, wire_alike}
+use Rattle.laws_pipe.proofs.MarkedUnits.{alone_timed, wire_timed, alone_alike, wire_alike}
 use Rattle.laws_pipe.proofs.PipedRuns.{GivenOf, given_by_run, taken}
-use Rattle.laws_pipe.proofs.RisingUnits.{none_same}
 
 -- 1. The streams of a description, before their first unit
 
@@ -228,9 +224,9 @@ as_found a bytes unjoined = rw unjoined refl
 
 same_wire : (a : JobArgumentsView) (w : JobOptionsView) (d : Described) (bytes : List ℕ) (input : JobInputView) (k : ℕ) (t : TimedStreamView) →
     AreAlike a w d bytes input →
-    slice_get input.streams k ≡ Some t → wire_units t.pid (findings_for a.options bytes) ≡ wire_units t.pid (streamed_findings w d bytes)
+    slice_get input.streams k ≡ Some t → apart_wire_units t.pid (findings_for a.options bytes) ≡ apart_wire_units t.pid (streamed_findings w d bytes)
 same_wire a w d bytes input k t alike at =
-    ap (λ (fs : List FindingView). wire_units t.pid fs) (as_found a bytes alike.unjoined)
+    ap (λ (fs : List FindingView). apart_wire_units t.pid fs) (as_found a bytes alike.unjoined)
     ∙ wire_timed (references_in (carried bytes)) t.pid (asked_findings a.options bytes) (stamps_of a w d bytes input k t alike at)
     ∙ wire_alike (whole_marking a bytes) (marking_by w d) t.pid (findings_of (carried bytes)) (marks_of a w d bytes input k t alike at)
 
@@ -243,71 +239,23 @@ same_alone a w d bytes input k t alike at =
     ∙ sym (ap (λ (fs : List FindingView). one_by_one t.pid fs) (as_found a bytes alike.unjoined))
     ∙ at_place (λ t. one_by_one t.pid (findings_for a.options bytes) ≡ true) input.streams k t alike.alone at
 
-same_carried : (a : JobArgumentsView) (w : JobOptionsView) (d : Described) (bytes : List ℕ) (input : JobInputView) (k : ℕ) (t : TimedStreamView) →
-    AreAlike a w d bytes input →
-    slice_get input.streams k ≡ Some t → carried_units t.pid (findings_for a.options bytes) ≡ carried_units t.pid (streamed_findings w d bytes)
-same_carried a w d bytes input k t alike at =
-    ap (λ (fs : List FindingView). carried_units t.pid fs) (as_found a bytes alike.unjoined)
-    ∙ carried_timed (references_in (carried bytes)) t.pid (asked_findings a.options bytes) (stamps_of a w d bytes input k t alike at)
-    ∙ carried_alike (whole_marking a bytes) (marking_by w d) t.pid (findings_of (carried bytes)) (marks_of a w d bytes input k t alike at)
-
 -- 5. All are moved by the constant of their clock
 
--- the units of a stream that comes are due one after another, so no two in a row are due at one moment
-stream_apart : (w : JobOptionsView) (d : Described) (bytes : List ℕ) (k : ℕ) (s : FedStreamView) → IsInRange d →
-    have_fault (fed_of (feed_of w d) bytes) ≡ false →
-    slice_get (streams_from 0 d.streams) k ≡ Some s → one_by_one s.units.pid (streamed_findings w d bytes) ≡ true →
-    has_same (carried_units s.units.pid (streamed_findings w d bytes)) ≡ false
-stream_apart w d bytes k s ranges silent at alone =
-    let streams = streams_from 0 d.streams in
-    let us = carried_units s.units.pid (streamed_findings w d bytes) in
-    let m = by_one_constant earliest (marking_by w d) (maps_of d) streams bytes (omega arith) (first_streams d ranges) silent in
-    let rise = each_rises earliest k (marking_by w d) (maps_of d) streams bytes (first_streams d ranges) (slice_get_within streams k s at) in
-    none_same m.base us (subst (λ (l : List AccessUnit). RiseFrom None l) (m.moved_by k s at alone) rise)
-
--- so none of them in the whole stream has another DTS than its own
-Stay : JobArgumentsView → List ℕ → JobInputView → Type 0
-Stay a bytes input = (k : ℕ) (t : TimedStreamView) → slice_get input.streams k ≡ Some t →
-    apart_wire_units t.pid (findings_for a.options bytes) ≡ wire_units t.pid (findings_for a.options bytes)
-
-stay : (a : JobArgumentsView) (w : JobOptionsView) (d : Described) (bytes : List ℕ) (input : JobInputView) → IsInRange d →
-    have_fault (fed_of (feed_of w d) bytes) ≡ false →
-    AreAlike a w d bytes input → Stay a bytes input
-unfolding Stay
-stay a w d bytes input ranges silent alike k t is =
-    let streamed = streamed_findings w d bytes in
-    let count : length d.streams ≡ length input.streams =
-    sym (length-map d.streams (λ s. s.pid)) ∙ ap (length {A = ℕ}) alike.pids ∙ length-map input.streams (λ t. t.pid) in
-    let below : k < length d.streams = let within = slice_get_within input.streams k t is in omega (arith, within, count) in
-    let b = both_at a w d bytes input k alike below in
-    let own : b.timed ≡ t = same_Some b.timed t (sym b.timed_is ∙ is) in
-    let pid : b.described.pid ≡ t.pid = b.pid ∙ ap (λ (x : TimedStreamView). x.pid) own in
-    let number : 0 + k ≡ k = omega arith in
-    let place : slice_get (streams_from 0 d.streams) k ≡ Some (fed_stream k b.described.pid) =
-    fed_at 0 k d.streams b.described b.described_is ∙ ap (λ (n : ℕ). Some (fed_stream n b.described.pid)) number in
-    let alone : one_by_one b.described.pid streamed ≡ true =
-    subst (λ (p : ℕ). one_by_one p streamed ≡ true) (sym pid) (same_alone a w d bytes input k t alike is) in
-    let apart : has_same (carried_units b.described.pid streamed) ≡ false = stream_apart w d bytes k (fed_stream k b.described.pid) ranges silent place alone in
-    let none : has_same (carried_units t.pid (findings_for a.options bytes)) ≡ false =
-    ap has_same (same_carried a w d bytes input k t alike is) ∙ ap (λ (p : ℕ). has_same (carried_units p streamed)) (sym pid) ∙ apart in
-    ap (λ (l : List CarriedUnit). map (λ (u : CarriedUnit). u.unit) l) (apart_stay (carried_units t.pid (findings_for a.options bytes)) none)
-
-with_own : (findings : List FindingView) (base : ℕ) (t : TimedStreamView) → apart_wire_units t.pid findings ≡ wire_units t.pid findings →
-    IsMovedBy false findings base t → AreMoved (wire_units t.pid findings) base t.units
+with_own : (findings : List FindingView) (base : ℕ) (t : TimedStreamView) → IsMovedBy false findings base t →
+    AreMoved (apart_wire_units t.pid findings) base t.units
 unfolding source_of
-with_own findings base t stays moved = subst (λ (wire : List AccessUnit). AreMoved wire base t.units) stays moved
+with_own findings base t moved = moved
 
 by_one : (a : JobArgumentsView) (w : JobOptionsView) (d : Described) (bytes : List ℕ) (input : JobInputView) (k : ℕ) (t : TimedStreamView)
     (constants : HasConstants a.options (findings_for a.options bytes) input)
-    (alike : AreAlike a w d bytes input) → Stay a bytes input → slice_get input.streams k ≡ Some t →
-    AreMoved (wire_units t.pid (findings_for a.options bytes)) (constants.constant alike.clock) t.units
-unfolding Stay
-by_one a w d bytes input k t constants alike stays is =
+    (alike : AreAlike a w d bytes input) → slice_get input.streams k ≡ Some t →
+    AreMoved (apart_wire_units t.pid (findings_for a.options bytes)) (constants.constant alike.clock) t.units
+by_one a w d bytes input k t constants alike is =
     let findings = findings_for a.options bytes in
     let one = at_place (λ t. IsMovedBy a.options.make_dts findings (constants.constant (clock_of input.programs t)) t) input.streams k t constants.streams is in
     let clock = at_place (λ t. clock_of input.programs t ≡ alike.clock) input.streams k t alike.one_clock is in
     let same = subst (λ (c : ProgramClock). IsMovedBy a.options.make_dts findings (constants.constant c) t) clock one in
-    with_own findings (constants.constant alike.clock) t (stays k t is)
+    with_own findings (constants.constant alike.clock) t
     (subst (λ (made : Bool). IsMovedBy made findings (constants.constant alike.clock) t) alike.own same)
 
 -- 6. So those that are fed are whole, and begin near one another
@@ -343,9 +291,9 @@ near_on_wire base apart u v near = near
 
 whole_streams : (a : JobArgumentsView) (w : JobOptionsView) (d : Described) (bytes : List ℕ) (input : JobInputView)
     (constants : HasConstants a.options (findings_for a.options bytes) input)
-    (alike : AreAlike a w d bytes input) → Stay a bytes input →
+    (alike : AreAlike a w d bytes input) →
     AreWhole (constants.constant alike.clock) earliest (streams_from 0 d.streams) (streamed_findings w d bytes)
-whole_streams a w d bytes input constants alike stays =
+whole_streams a w d bytes input constants alike =
     let base = constants.constant alike.clock in
     let whole = findings_for a.options bytes in
     let streamed = streamed_findings w d bytes in
@@ -356,10 +304,10 @@ whole_streams a w d bytes input constants alike stays =
       near = λ j k s t at_s at_t u v us vs here there.
           let x = job_stream a w d bytes input j s alike at_s in
           let y = job_stream a w d bytes input k t alike at_t in
-          let one = first_moved base (wire_units x.stream.pid whole) x.stream.units u us (by_one a w d bytes input j x.stream constants alike stays x.at).are
-          (same_wire a w d bytes input j x.stream alike x.at ∙ ap (λ (p : ℕ). wire_units p streamed) x.pid_is ∙ here) in
-          let other = first_moved base (wire_units y.stream.pid whole) y.stream.units v vs (by_one a w d bytes input k y.stream constants alike stays y.at).are
-          (same_wire a w d bytes input k y.stream alike y.at ∙ ap (λ (p : ℕ). wire_units p streamed) y.pid_is ∙ there) in
+          let one = first_moved base (apart_wire_units x.stream.pid whole) x.stream.units u us (by_one a w d bytes input j x.stream constants alike x.at).are
+          (same_wire a w d bytes input j x.stream alike x.at ∙ ap (λ (p : ℕ). apart_wire_units p streamed) x.pid_is ∙ here) in
+          let other = first_moved base (apart_wire_units y.stream.pid whole) y.stream.units v vs (by_one a w d bytes input k y.stream constants alike y.at).are
+          (same_wire a w d bytes input k y.stream alike y.at ∙ ap (λ (p : ℕ). apart_wire_units p streamed) y.pid_is ∙ there) in
           near_on_wire base earliest u v (alike.near j k x.stream y.stream (unit_at base None u) (unit_at base None v) x.at y.at one other);
     }
 
@@ -373,9 +321,8 @@ alike_units a w d bytes input units constants ranges silent merged alike =
     let whole = findings_for a.options bytes in
     let streamed = streamed_findings w d bytes in
     let base = constants.constant alike.clock in
-    let stays = stay a w d bytes input ranges silent alike in
     let apart = fed_apart earliest base (marking_by w d) (maps_of d) (streams_from 0 d.streams) bytes (omega arith) (first_streams d ranges) silent
-    (whole_streams a w d bytes input constants alike stays) in
+    (whole_streams a w d bytes input constants alike) in
     record {
       here = apart.here;
       there = apart.there;
@@ -385,10 +332,10 @@ alike_units a w d bytes input units constants ranges silent merged alike =
           let number : 0 + k ≡ k = omega arith in
           let place : slice_get (streams_from 0 d.streams) k ≡ Some (fed_stream k b.described.pid) =
           fed_at 0 k d.streams b.described b.described_is ∙ ap (λ (n : ℕ). Some (fed_stream n b.described.pid)) number in
-          let timed : t.units ≡ moved base None (wire_units t.pid whole) = (by_one a w d bytes input k t constants alike stays b.timed_is).are in
-          let wire : wire_units t.pid whole ≡ wire_units b.described.pid streamed =
-          same_wire a w d bytes input k t alike b.timed_is ∙ ap (λ (p : ℕ). wire_units p streamed) (sym b.pid) in
-          let same : units_of k units ≡ moved base None (wire_units b.described.pid streamed) =
+          let timed : t.units ≡ moved base None (apart_wire_units t.pid whole) = (by_one a w d bytes input k t constants alike b.timed_is).are in
+          let wire : apart_wire_units t.pid whole ≡ apart_wire_units b.described.pid streamed =
+          same_wire a w d bytes input k t alike b.timed_is ∙ ap (λ (p : ℕ). apart_wire_units p streamed) (sym b.pid) in
+          let same : units_of k units ≡ moved base None (apart_wire_units b.described.pid streamed) =
           merged.each k t.units (slice_get-map (λ t. t.units) input.streams k ∙ ap (option_map (λ t. t.units)) b.timed_is)
           ∙ timed ∙ ap (λ (us : List AccessUnit). moved base None us) wire in
           apart.are k (fed_stream k b.described.pid) place ∙ sym (ap (λ (us : List AccessUnit). map (after_time apart.there) us) same);

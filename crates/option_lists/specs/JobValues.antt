@@ -1,9 +1,10 @@
 -- Values of options of a job that are a word or a moment.
-use Rattle.std.specs.Prelude.{ℕ, ◌==◌, ◌||◌, Bool, Option, Some, None, if◌then◌else◌, codes, option_map}
+use Rattle.std.specs.Prelude.{ℕ, ◌==◌, ◌||◌, ◌&&◌, Bool, List, Option, Some, None, is_some, if◌then◌else◌, codes, option_map}
 use Rattle.std.specs.Char.{is_ascii_digit}
 use Rattle.std.specs.List.{list_all}
 use Rattle.std.specs.Str.{bytes_eq}
 use Rattle.clap.specs.Words.{Text}
+use Rattle.description_values.specs.Moments.{moment_of}
 use Rattle.given_values.specs.declared.clock_base.ClockBase.{ClockBase}
 use Rattle.given_values.specs.declared.clock_base.ClockBase.TheVariants.{Lasting, Input, At}
 use Rattle.given_values.specs.declared.declare_by.DeclareBy.{DeclareBy}
@@ -30,7 +31,11 @@ base_of (Some text) = if bytes_eq text (codes "input") then Some Input else opti
 abbrev pub is_of_time : ℕ → Bool
 is_of_time byte = is_ascii_digit byte || byte == 45 || byte == 58 || byte == 84
 
+-- a day of the calendar and a time of the day, from 1970 to 2037
+abbrev pub is_moment : List ℕ → Bool
+is_moment text = list_all is_of_time text && is_some (moment_of text)
+
 -- the moment of the first slot, if it is given
 unfoldable pub start_of : Option Text → Option (Option Text)
 start_of None = Some None
-start_of (Some text) = if list_all is_of_time text then Some (Some text) else None
+start_of (Some text) = if is_moment text then Some (Some text) else None

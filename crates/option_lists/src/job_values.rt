@@ -4,6 +4,7 @@ ghost use Rattle.std.specs.Prelude.{◌≡◌, option_map};
 ghost use Rattle.std.specs.List.{list_all};
 ghost use Rattle.option_lists.specs.JobValues as spec;
 
+use crate::moment::names_moment;
 use devices::number_in;
 use given_values::{ClockBase, DeclareBy};
 
@@ -40,13 +41,20 @@ fn is_of_time(byte: u8) -> bool
 }
 
 // Whether each byte of a text may occur in a moment.
-fn is_moment(text: &str) -> bool
+fn is_of_times(text: &str) -> bool
     ensures { result ≡ list_all spec.is_of_time text.now }
 {
     text.bytes().all(|byte| is_of_time(byte))
 }
 
-/// Returns the moment of the first slot, if it is given; none if a character can't occur in a moment.
+// Whether a text names a moment that a description can name.
+fn is_moment(text: &str) -> bool
+    ensures { result ≡ spec.is_moment text.now }
+{
+    is_of_times(text) && names_moment(text.as_bytes())
+}
+
+/// Returns the moment of the first slot, if it is given; none if a description can't name such a moment.
 #[tactic(auto, unfolding(crate::specs::JobValues::start_of))]
 pub fn start_of<'a>(text: Option<&'a str>) -> Option<Option<&'a str>>
     ensures { option_map (λ o. option_map (λ s. s.now) o) result

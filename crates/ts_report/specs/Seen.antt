@@ -151,6 +151,14 @@ judge_on s packet = judge_after (timing_of s.options.arrival) s.rules.judge pack
 abbrev pub inaccurate_on : SeenState → PacketView → ℕ
 inaccurate_on s packet = accuracy_count (timing_of s.options.arrival) s.rules.judge packet.header.pid (report_on s packet)
 
+-- the reference alone, with its errors
+abbrev pub with_reference : SeenState → PacketView → SeenState
+with_reference s packet = record s { watches = watching.taken s.watches s.packets packet; rules = with_judge s.rules (judge_on s packet) }
+
+abbrev pub reference_errors : SeenState → PacketView → List Event
+reference_errors s packet = report_events_if packet.header.pid (report_on s packet)
+    ++ accuracy_events (timing_of s.options.arrival) s.rules.judge s.packets packet.header.pid (report_on s packet)
+
 abbrev pub with_clock : SeenState → PacketView → SeenState
 with_clock s packet = record s {
   clocks = clocks_after s.clocks s.options.arrival s.packets packet;

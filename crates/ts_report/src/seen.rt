@@ -1,11 +1,12 @@
 //! The state of a stream beside its buffers.
-ghost use Rattle.std.specs.Prelude.{◌≡◌, [], ◌++◌, IfOk, OnOk, Result};
+ghost use Rattle.std.specs.Prelude.{◌≡◌, [], ◌++◌, Some, IfOk, OnOk, Result};
 ghost use Rattle.bit_fields.specs.Reading.{Gives};
 ghost use Rattle.ts_packet.specs.Packets.{null_packet};
 ghost use Rattle.ts_packet.specs.Reading.{packet_at};
 ghost use Rattle.ts_packet.specs.Views.{PacketView, packet_view};
 ghost use Rattle.ts_packet.specs.declared.packet.PacketError.{PacketError};
 ghost use Rattle.tr101290.specs.Continuity.{error_at};
+ghost use Rattle.ts_watch.specs.ClockEvents.{errors_in};
 ghost use Rattle.ts_watch.specs.RuleEvents.{accuracy_count, accuracy_events};
 ghost use Rattle.ts_report.specs.Seen as spec;
 ghost use Rattle.ts_report.specs.Seen.{timing_of};
@@ -19,7 +20,9 @@ use pid_windows::PidWindow;
 use std::alloc::{AllocError, Global};
 use std::marker::Model;
 use system_tables::SystemTables;
-use tr101290::{ContinuityError, ContinuityWatch, PcrReport, PcrTiming, PcrWatches, TableTiming};
+use tr101290::{
+    ContinuityError, ContinuityWatch, PcrReport, PcrTiming, PcrWatches, TableTiming, pcr_sample,
+};
 use ts_packet::{Packet, PacketError, has_pcr};
 use ts_tables::{NamedStreams, ServiceNames};
 use ts_watch::clock_events::{errors_in, push_clocks, push_report};
@@ -140,6 +143,21 @@ fn unclocked(arrival: &Arrival, count: usize) -> bool
     }
 }
 
+// Appends a counter that does not follow. A call of its own: few packets have one.
+#[inline(never)]
+#[tactic(auto, unfolding(crate::specs::Seen::counter_events_by))]
+fn push_counter(events: &mut Vec<Event>, error: &ContinuityError) -> Result<(), AllocError>
+    ensures { OnOk result (events.new.items ≡ events.old.items ++ spec.counter_events_by (Some error.now)) }
+{
+    events.push(Event::Continuity(CounterFault {
+        pid: error.pid,
+        packet: error.packet,
+        expected: error.expected,
+        found: error.found,
+    }))?;
+    Ok(())
+}
+
 #[tactic(auto, unfolding(crate::specs::Seen::counter_events_by))]
 fn push_counter_if(
     events: &mut Vec<Event>,
@@ -147,15 +165,10 @@ fn push_counter_if(
 ) -> Result<(), AllocError>
     ensures { OnOk result (events.new.items ≡ events.old.items ++ spec.counter_events_by error.now) }
 {
-    if let Some(error) = error {
-        events.push(Event::Continuity(CounterFault {
-            pid: error.pid,
-            packet: error.packet,
-            expected: error.expected,
-            found: error.found,
-        }))?;
+    match error {
+        None => Ok(()),
+        Some(error) => push_counter(events, error),
     }
-    Ok(())
 }
 
 impl Seen {
@@ -212,7 +225,9 @@ impl Seen {
         })
     }
 
-    /// Counts a packet that can't be read, or says that it is wrong, and appends the cause.
+    /// Counts a packet that can't be read, or says that it is wrong, and appends the cause. A call of its own: few
+    /// packets are refused.
+    #[inline(never)]
     pub fn refuse(&mut self, cause: RefusalCause, events: &mut Vec<Event>) -> Result<(), AllocError>
         ensures seen { OnOk result (self.new ≡ spec.without self.old) }
         ensures found { OnOk result (events.new.items
@@ -283,17 +298,54 @@ impl Seen {
     {
         self.clocks
             .take(&self.options.arrival, self.packets, packet)?;
-        let report = self.watches.take(self.packets, packet)?;
-        push_report(events, packet.header.pid, &report)?;
-        let inaccurate = self.take_accuracy(packet.header.pid, &report, events)?;
+        let (errors, inaccurate) = self.take_reference_if(packet, events)?;
         let index = self.packets;
         self.rules
             .take(&self.options.arrival, index, &self.named, packet, events)?;
         self.errors = self
             .errors
-            .saturating_add(errors_in(&report))
+            .saturating_add(errors)
             .saturating_add(inaccurate);
         Ok(())
+    }
+
+    // Takes the clock reference of a packet, and appends its errors. Returns their number, and that of the errors of
+    // accuracy. A call of its own: few packets have one.
+    #[inline(never)]
+    fn take_reference(
+        &mut self,
+        packet: &Packet<'_>,
+        events: &mut Vec<Event>,
+    ) -> Result<(u64, u64), AllocError>
+        ensures seen { OnOk result (self.new ≡ spec.with_reference self.old (packet_view packet.now)) }
+        ensures found { OnOk result (events.new.items
+            ≡ events.old.items ++ spec.reference_errors self.old (packet_view packet.now)) }
+        ensures errors { IfOk result (λ n. n.0 ≡ errors_in (spec.report_on self.old (packet_view packet.now))) }
+        ensures inaccurate { IfOk result (λ n. n.1 ≡ spec.inaccurate_on self.old (packet_view packet.now)) }
+    {
+        let report = self.watches.take(self.packets, packet)?;
+        push_report(events, packet.header.pid, &report)?;
+        let inaccurate = self.take_accuracy(packet.header.pid, &report, events)?;
+        Ok((errors_in(&report), inaccurate))
+    }
+
+    // The same, if the packet has a clock reference.
+    #[tactic(auto, unfolding(tr101290::specs::PidWatches::taken_if, tr101290::specs::PidWatches::report_if, ts_watch::specs::ClockEvents::report_events_if, ts_watch::specs::ClockEvents::errors_in, ts_watch::specs::RuleEvents::judge_after, ts_watch::specs::RuleEvents::accuracy_events, ts_watch::specs::RuleEvents::accuracy_count))]
+    fn take_reference_if(
+        &mut self,
+        packet: &Packet<'_>,
+        events: &mut Vec<Event>,
+    ) -> Result<(u64, u64), AllocError>
+        ensures seen { OnOk result (self.new ≡ spec.with_reference self.old (packet_view packet.now)) }
+        ensures found { OnOk result (events.new.items
+            ≡ events.old.items ++ spec.reference_errors self.old (packet_view packet.now)) }
+        ensures errors { IfOk result (λ n. n.0 ≡ errors_in (spec.report_on self.old (packet_view packet.now))) }
+        ensures inaccurate { IfOk result (λ n. n.1 ≡ spec.inaccurate_on self.old (packet_view packet.now)) }
+    {
+        match pcr_sample(self.packets, packet) {
+            None => Ok((0, 0)),
+            Some(_) => self.take_reference(packet, events),
+        }
     }
 
     // Takes the report on a reference, and appends the errors of accuracy that count now. Returns their number.

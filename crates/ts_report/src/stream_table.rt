@@ -1,5 +1,5 @@
 //! The streams whose buffers have begun.
-ghost use Rattle.std.specs.Prelude.{◌≡◌, ◌++◌, ◌≤◌, List, OnOk, false, flat_map, nat_eq, option_map};
+ghost use Rattle.std.specs.Prelude.{◌≡◌, ◌++◌, ◌≤◌, List, Some, OnOk, false, flat_map, nat_eq, option_map};
 ghost use Rattle.std.specs.List.{list_all};
 ghost use Rattle.std.specs.Map.{lookup};
 ghost use Rattle.ts_packet.specs.Views.{packet_view};
@@ -223,9 +223,29 @@ impl StreamTable {
         ensures found { (t : TableState) → IsTable self.old t → OnOk result (events.new.items
             ≡ events.old.items ++ spec.begin_events index named.now t (packet_view packet.now)) }
     {
-        let Some(stream) = self.beginning(named, packet) else {
-            return Ok(());
-        };
+        match self.beginning(named, packet) {
+            None => Ok(()),
+            Some(stream) => self.begin_stream(options, index, named, stream, packet, events),
+        }
+    }
+
+    // Begins the buffers of a stream with a packet. A call of its own: few packets begin one.
+    #[inline(never)]
+    #[tactic(auto, unfolding(crate::specs::StreamTables::begun_if, crate::specs::StreamTables::begin_events_if))]
+    fn begin_stream(
+        &mut self,
+        options: &ViewOptions,
+        index: u64,
+        named: &NamedStreams,
+        stream: &FoundStream,
+        packet: &Packet<'_>,
+        events: &mut Vec<Event>,
+    ) -> Result<(), AllocError>
+        ensures table { (t : TableState) → IsTable self.old t → OnOk result
+            (IsTable self.new (spec.begun_if options.now named.now t (packet_view packet.now) (Some stream.now))) }
+        ensures found { (t : TableState) → IsTable self.old t → OnOk result (events.new.items
+            ≡ events.old.items ++ spec.begin_events_if index t (packet_view packet.now) (Some stream.now)) }
+    {
         let coding = coding_by(stream, packet);
         let buffers = self.choice.buffers_for(packet.header.pid, coding);
         events.push(stream_event(index, stream, coding, buffers))?;

@@ -1,5 +1,5 @@
 //! Time stamps, scrambled packets, and whether the rate is constant.
-ghost use Rattle.std.specs.Prelude.{◌≡◌, ◌++◌, IfOk, OnOk};
+ghost use Rattle.std.specs.Prelude.{◌≡◌, ◌++◌, Some, IfOk, OnOk};
 ghost use Rattle.ts_packet.specs.Views.{packet_view};
 ghost use Rattle.ts_watch.specs.RuleEvents as spec;
 
@@ -43,19 +43,29 @@ fn place_at(arrival: &Arrival, index: u64) -> Option<u64>
     }
 }
 
+// Appends a PTS that comes too late. A call of its own: few packets have one.
+#[inline(never)]
+#[tactic(auto, unfolding(crate::specs::RuleEvents::pts_events))]
+fn push_pts(events: &mut Vec<Event>, error: &PtsError) -> Result<(), AllocError>
+    ensures { OnOk result (events.new.items ≡ events.old.items ++ spec.pts_events (Some error.now)) }
+{
+    events.push(Event::Rule(RuleEvent::PtsRepetition(ClockFault {
+        pid: error.pid,
+        packet: error.packet,
+        value: error.value,
+        limit: error.limit,
+    })))?;
+    Ok(())
+}
+
 #[tactic(auto, unfolding(crate::specs::RuleEvents::pts_events))]
 fn push_pts_if(events: &mut Vec<Event>, error: &Option<PtsError>) -> Result<(), AllocError>
     ensures { OnOk result (events.new.items ≡ events.old.items ++ spec.pts_events error.now) }
 {
-    if let Some(error) = error {
-        events.push(Event::Rule(RuleEvent::PtsRepetition(ClockFault {
-            pid: error.pid,
-            packet: error.packet,
-            value: error.value,
-            limit: error.limit,
-        })))?;
+    match error {
+        None => Ok(()),
+        Some(error) => push_pts(events, error),
     }
-    Ok(())
 }
 
 fn is_scrambled(packet: &Packet<'_>) -> bool
@@ -74,8 +84,10 @@ fn is_map(coding: PidName) -> bool
     }
 }
 
-// Appends a scrambled packet of a PAT or of a PMT that the tables name.
-fn push_scrambled_if(
+// Appends a scrambled packet of a PAT or of a PMT that the tables name. A call of its own: of many streams no packet is
+// scrambled.
+#[inline(never)]
+fn push_scrambled(
     events: &mut Vec<Event>,
     index: u64,
     named: &NamedStreams,
@@ -91,6 +103,21 @@ fn push_scrambled_if(
         })))?;
     }
     Ok(())
+}
+
+// Appends the same, if the packet is scrambled.
+fn push_scrambled_if(
+    events: &mut Vec<Event>,
+    index: u64,
+    named: &NamedStreams,
+    packet: &Packet<'_>,
+) -> Result<(), AllocError>
+    ensures { OnOk result (events.new.items ≡ events.old.items ++ spec.scrambled_events index named.now (packet_view packet.now)) }
+{
+    if !is_scrambled(packet) {
+        return Ok(());
+    }
+    push_scrambled(events, index, named, packet)
 }
 
 #[tactic(auto, unfolding(crate::specs::RuleEvents::first_scrambled))]

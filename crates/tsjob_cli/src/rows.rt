@@ -93,7 +93,7 @@ pub const START: OptionRow = OptionRow {
     name: "start",
     value: ValueKind::Moment,
     form: "YYYY-MM-DDThh:mm:ss",
-    unit: "",
+    unit: "the years 1970 to 2037",
     apart: "",
     help: "the moment of the first packet",
 };

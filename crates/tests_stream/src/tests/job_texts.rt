@@ -92,9 +92,9 @@ static STREAMS: [StreamPart<'static>; 2] = [
     },
 ];
 
-const TEXT: &str = "base0 = 8589934591
+const TEXT: &str = "base0 = 8589934591 # 95,443.717 s
 original_network_id = 8916
-rate = 8000000
+rate = 8000000 # 8,000,000 bits/s
 sdt = true
 start = \"2026-03-29T00:59:50\"
 tdt = false
@@ -104,54 +104,54 @@ ts_id = 65535
 descriptors = \"050443554549\"
 name = '''l'été \"2\" \t\\n'''
 number = 1
-pcr_limit = 40
+pcr_limit = 40 # ms
 pcr_pid = 8190
 pmt_pid = 4096
 provider = 'a \"b\" \\ c'
-service_type = 25
+service_type = 25 # digital television, H.264 HD
 
 [[program]]
 name = \"Grüße\"
 number = 65535
-pcr_limit = 100
+pcr_limit = 100 # ms
 pcr_pid = 257
 pmt_pid = 32
 provider = \"\"
-service_type = 2
+service_type = 2 # digital radio
 
 [[stream]]
 descriptors = \"0a04656e6700\"
-frame = 1080
-frame_size = 288
+frame = 1080 # 12 ms
+frame_size = 288 # 288 bytes
 frames = 2
 group = 1
 group_packets = 4
 id = 192
-interval = 2160
-lead = 12960
-main = 3584
+interval = 2160 # 24 ms
+lead = 12960 # 144 ms
+main = 3584 # 3,584 bytes
 pid = 256
 program = 1
-rx = 2000000
+rx = 2000000 # 2,000,000 bits/s
 shared_with = [2, 65535]
-size = 576
-type = 3
+size = 576 # 576 bytes
+type = 3 # MPEG-1 audio
 
 [[stream]]
 burst_packets = 2000
 id = 224
-interval = 3600
-lead = 45000
-main = 3766000
-mb = 16000
-pace = 3217300
+interval = 3600 # 40 ms
+lead = 45000 # 500 ms
+main = 3766000 # 3,766,000 bytes
+mb = 16000 # 16,000 bytes
+pace = 3217300 # 3,217,300 bits/s
 pid = 300
 program = 65535
-pts_limit = 900000
-rbx = 20000000
-rx = 24000000
-size = 200000
-type = 27
+pts_limit = 900000 # 10,000 ms
+rbx = 20000000 # 20,000,000 bits/s
+rx = 24000000 # 24,000,000 bits/s
+size = 200000 # 200,000 bytes
+type = 27 # H.264 video
 ";
 
 fn write_programs<A: Allocator + Clone>(text: &mut String<A>) -> Result<(), AllocError> {
@@ -209,7 +209,7 @@ fn text_of_two_programs(rt: HostRuntime) {
 const TABLE: &str = "
 [[table]]
 descriptors = \"\"
-limit = 30000
+limit = 30000 # ms
 pid = 8190
 program = 65535
 sections = [\"fc3000\", \"90b00a0005c1000101\"]

@@ -12,9 +12,9 @@ use streams::{audio, copied, input, two_programs, usual};
 static UNITS: [(u8, u64, usize); 3] = [(192, 3_600, 100), (192, 5_760, 100), (192, 7_920, 100)];
 
 // base0 is what the clock shows two seconds before the first unit; group and lead are those that stream_choice chooses.
-const TEXT: &str = "base0 = 8589758192
+const TEXT: &str = "base0 = 8589758192 # 95,441.757 s
 original_network_id = 65281
-rate = 2000000
+rate = 2000000 # 2,000,000 bits/s
 sdt = false
 start = \"2026-03-29T00:59:50\"
 tdt = false
@@ -23,24 +23,24 @@ ts_id = 1
 [[program]]
 name = \"\"
 number = 1
-pcr_limit = 40
+pcr_limit = 40 # ms
 pcr_pid = 257
 pmt_pid = 4096
 provider = \"\"
-service_type = 1
+service_type = 1 # digital television
 
 [[stream]]
 group = 1
 group_packets = 1
 id = 192
-interval = 2160
-lead = 8566
-main = 3584
+interval = 2160 # 24 ms
+lead = 8566 # 95.177 ms
+main = 3584 # 3,584 bytes
 pid = 256
 program = 1
-rx = 2000000
-size = 100
-type = 3
+rx = 2000000 # 2,000,000 bits/s
+size = 100 # 100 bytes
+type = 3 # MPEG-1 audio
 ";
 
 // The moments of its units: the first is due two seconds after the first slot.

@@ -26,14 +26,14 @@ returns-in_ok-enter_whole-in-None-clause-entry c = λ e k.
     let index = c.args.index in
     let entry = c.args.self.now in
     let unread : c.is_unread-unread.result ≡ is_unread (beginning_in e.counter packet) =
-    c.is_unread-unread.ensures ∙ ap is_unread (c.beginning_in.ensures ∙ ap (λ (n : Option ℕ). beginning_in n packet) k.counter) in
+    c.is_unread-unread.ensures ∙ ap is_unread (c.requires ∙ ap (λ (n : Option ℕ). beginning_in n packet) k.counter) in
     let none : e.framed ≡ None = no_frames entry.frames e.framed c.in-None.is k.frames in
     let n = counted_of e e.held e.tally in
     let is : AreCounted entry.seen n = whole_counted entry e k none in
     let video : HoldsVideoOf entry.seen.buffers e.video e.held = whole_video entry e k none in
-    let a = c.arriving_in-arriving.result in
+    let a = c.arriving-arriving.result in
     let same : a ≡ arriving_at options index clock e packet =
-    c.arriving_in-arriving.ensures ∙ ap₂ (λ (x : ℕ) (m : Option ℕ). arriving options index x m clock packet) is.held.rx k.counter in
+    c.arriving-arriving.ensures ∙ ap₂ (λ (x : ℕ) (m : Option ℕ). arriving options index x m clock packet) is.held.rx k.counter in
     let counted =
     subst (λ (x : Arriving). AreCounted c.enter_whole.new.self (whole_after options c.args.window (is_unread (beginning_in e.counter packet)) x n)) same
     (subst (λ (x : Bool). AreCounted c.enter_whole.new.self (whole_after options c.args.window x a n)) unread
@@ -56,9 +56,9 @@ returns-in_ok-enter_whole-in-None-clause-found c = λ e k.
     let n = counted_of e e.held e.tally in
     let is : AreCounted entry.seen n = whole_counted entry e k none in
     let video : HoldsVideoOf entry.seen.buffers e.video e.held = whole_video entry e k none in
-    let a = c.arriving_in-arriving.result in
+    let a = c.arriving-arriving.result in
     let same : a ≡ arriving_at options index clock e packet =
-    c.arriving_in-arriving.ensures ∙ ap₂ (λ (x : ℕ) (m : Option ℕ). arriving options index x m clock packet) is.held.rx k.counter in
+    c.arriving-arriving.ensures ∙ ap₂ (λ (x : ℕ) (m : Option ℕ). arriving options index x m clock packet) is.held.rx k.counter in
     let events : List Event = c.args.events.now.items in
     c.in_ok-enter_whole-in-None.ensures.found n e.video is video
     ∙ ap (λ (x : Arriving). events ++ whole_events options c.args.place.now x e.video e.held) same
@@ -74,7 +74,7 @@ returns-in_ok-enter-in-Some-clause-entry c = λ e k.
     let index = c.args.index in
     let entry = c.args.self.now in
     let unread : c.is_unread-unread.result ≡ is_unread (beginning_in e.counter packet) =
-    c.is_unread-unread.ensures ∙ ap is_unread (c.beginning_in.ensures ∙ ap (λ (n : Option ℕ). beginning_in n packet) k.counter) in
+    c.is_unread-unread.ensures ∙ ap is_unread (c.requires ∙ ap (λ (n : Option ℕ). beginning_in n packet) k.counter) in
     let h = has_frames entry.frames c.in-Some.frames e.framed c.in-Some.is k.frames in
     let f = h.state in
     let n = counted_of e f.held f.tally in

@@ -1,0 +1,220 @@
+-- What stands beside a number is a comment, and ends its line.
+use Rattle.std.proofs.Common.{◌≡◌, ℕ, zero, suc, ◌+◌, ◌/◌, ◌%◌, ◌*◌, ◌==◌, ◌≤◌, nat_le, nat_lt, Bool, true, false, List, [], ◌∷◌, ◌++◌, ◌||◌, if◌then◌else◌}
+use Rattle.std.proofs.Common.{length, map, codes, decimal}
+use Rattle.std.proofs.Common.{refl, sym, ap, ◌∙◌, subst, arith, append_assoc, pos, negsuc, Some, inl, inr, ◌⊎◌}
+use Rattle.std.proofs.lemmas.Bool.{and_parts, and_from, cond_both, le-leb, leb-true}
+use Rattle.std.proofs.lemmas.Bool.Decides.{nat_tests}
+use Rattle.std.specs.List.{list_all, list_any}
+use Rattle.std.specs.Fmt.{digit_glyph, digits, digits_onto}
+use Rattle.toml_parser.specs.Lexical.{first, skip_ws, skip_from, skip_blank, skip_turn}
+use Rattle.toml_parser.proofs.LexicalLemmas.{skip_ws_none, skip_ws_space}
+use Rattle.toml.specs.Data.{Data, string, integer, float, boolean, datetime, array, table}
+use Rattle.toml.specs.Parse.{ends_line}
+use Rattle.toml.proofs.Blanks.{skip_newline}
+use Rattle.job_text.specs.declared.measure.Measure.{Measure}
+use Rattle.job_text.specs.declared.measure.Measure.TheVariants.{Plain, Ticks, Clock, BitRate, Bytes, Milliseconds, Seconds, StreamType, ServiceType}
+use Rattle.job_text.specs.Notes.{group, grouped, is_shown, measure_of, note, note_if_any, note_of, number_note, quotient, service_type_name, stream_type_name}
+use Rattle.job_text.specs.Notes.{thousandths, two_digits}
+use Rattle.job_text.proofs.Comments.{IsTail}
+
+-- a test of the elements of a list is one of what they are mapped to
+pub any_of_mapped : {A B : Type 0} (p : B → Bool) (f : A → B) (xs : List A) → list_any p (map f xs) ≡ list_any (λ x. p (f x)) xs
+any_of_mapped p f [] = refl
+any_of_mapped p f (x ∷ xs) = ap (λ (b : Bool). p (f x) || b) (any_of_mapped p f xs)
+
+-- 1. Its bytes
+
+abbrev pub Shown : List ℕ → Type 0
+Shown xs = list_all is_shown xs ≡ true
+
+pub shown_both : (xs ys : List ℕ) → Shown xs → Shown ys → Shown (xs ++ ys)
+shown_both [] ys a b = b
+shown_both (x ∷ xs) ys a b =
+    let parts = and_parts (is_shown x) (list_all is_shown xs) a in
+    and_from (is_shown x) (list_all is_shown (xs ++ ys)) parts.0 (shown_both xs ys parts.1 b)
+
+shown_byte : (c : ℕ) → 32 ≤ c → c ≤ 126 → is_shown c ≡ true
+shown_byte c low high = and_from (nat_le 32 c) (nat_le c 126) (le-leb 32 c low) (le-leb c 126 high)
+
+digit_shown : (n : ℕ) → is_shown (digit_glyph false (n % 10)) ≡ true
+digit_shown n =
+    cond_both (nat_lt (n % 10) 10) (48 + n % 10) (87 + n % 10) (λ c. is_shown c ≡ true)
+    (λ _. shown_byte (48 + n % 10) (omega arith) (omega arith))
+    (λ _. shown_byte (87 + n % 10) (omega arith) (omega arith))
+
+digits_shown : (k n : ℕ) (acc : List ℕ) → Shown acc → Shown (digits_onto k 10 false n acc)
+digits_shown zero n acc e = e
+digits_shown (suc k) n acc e =
+    let more = and_from (is_shown (digit_glyph false (n % 10))) (list_all is_shown acc) (digit_shown n) e in
+    cond_both (n / 10 == 0) (digit_glyph false (n % 10) ∷ acc) (digits_onto k 10 false (n / 10) (digit_glyph false (n % 10) ∷ acc)) Shown
+    (λ _. more) (λ _. digits_shown k (n / 10) (digit_glyph false (n % 10) ∷ acc) more)
+
+pub decimal_shown : (n : ℕ) → Shown (decimal n)
+unfolding digits
+decimal_shown n = digits_shown 64 n [] refl
+
+three_shown : (a b c : ℕ) → Shown (decimal a ++ (decimal b ++ decimal c))
+three_shown a b c =
+    shown_both (decimal a) (decimal b ++ decimal c) (decimal_shown a) (shown_both (decimal b) (decimal c) (decimal_shown b) (decimal_shown c))
+
+group_shown : (n : ℕ) → Shown (group n)
+unfolding group
+group_shown n =
+    shown_both (codes ",") (decimal (n / 100 % 10) ++ (decimal (n / 10 % 10) ++ decimal (n % 10))) refl (three_shown (n / 100 % 10) (n / 10 % 10) (n % 10))
+
+grouped_shown : (n : ℕ) → Shown (grouped n)
+unfolding grouped
+grouped_shown n =
+    let one = group n in
+    let two = group (n / 1_000) ++ one in
+    let three = group (n / 1_000_000) ++ two in
+    let one_is = group_shown n in
+    let two_is = shown_both (group (n / 1_000)) one (group_shown (n / 1_000)) one_is in
+    let three_is = shown_both (group (n / 1_000_000)) two (group_shown (n / 1_000_000)) two_is in
+    let thousands = decimal (n / 1_000) ++ one in
+    let millions = decimal (n / 1_000_000) ++ two in
+    let billions = decimal (n / 1_000_000_000) ++ three in
+    let thousands_are = shown_both (decimal (n / 1_000)) one (decimal_shown (n / 1_000)) one_is in
+    let millions_are = shown_both (decimal (n / 1_000_000)) two (decimal_shown (n / 1_000_000)) two_is in
+    let billions_are = shown_both (decimal (n / 1_000_000_000)) three (decimal_shown (n / 1_000_000_000)) three_is in
+    let from_millions = if nat_lt n 1_000_000_000 then millions else billions in
+    let from_thousands = if nat_lt n 1_000_000 then thousands else from_millions in
+    cond_both (nat_lt n 1_000) (decimal n) from_thousands Shown (λ _. decimal_shown n) (λ _.
+    cond_both (nat_lt n 1_000_000) thousands from_millions Shown (λ _. thousands_are) (λ _.
+    cond_both (nat_lt n 1_000_000_000) millions billions Shown (λ _. millions_are) (λ _. billions_are)))
+
+thousandths_shown : (n : ℕ) → Shown (thousandths n)
+unfolding thousandths
+thousandths_shown n =
+    let digits_of = decimal (n / 100 % 10) ++ (decimal (n / 10 % 10) ++ decimal (n % 10)) in
+    cond_both (n == 0) [] (codes "." ++ digits_of) Shown (λ _. refl)
+    (λ _. shown_both (codes ".") digits_of refl (three_shown (n / 100 % 10) (n / 10 % 10) (n % 10)))
+
+quotient_shown : (whole n : ℕ) → Shown (quotient whole n)
+unfolding quotient
+quotient_shown whole n =
+    shown_both (grouped (n / whole)) (thousandths (n % whole * 1_000 / whole)) (grouped_shown (n / whole)) (thousandths_shown (n % whole * 1_000 / whole))
+
+two_shown : (n : ℕ) → Shown (two_digits n)
+unfolding two_digits
+two_shown n = shown_both (decimal (n / 10 % 10)) (decimal (n % 10)) (decimal_shown (n / 10 % 10)) (decimal_shown (n % 10))
+
+stream_name_shown : (n : ℕ) → Shown (stream_type_name n)
+unfolding stream_type_name
+stream_name_shown n =
+    cond_both (n == 1) (codes "MPEG-1 video") _ Shown (λ _. refl) (λ _.
+    cond_both (n == 2) (codes "MPEG-2 video") _ Shown (λ _. refl) (λ _.
+    cond_both (n == 3) (codes "MPEG-1 audio") _ Shown (λ _. refl) (λ _.
+    cond_both (n == 4) (codes "MPEG-2 audio") _ Shown (λ _. refl) (λ _.
+    cond_both (n == 6) (codes "private data: its descriptors say which") _ Shown (λ _. refl) (λ _.
+    cond_both (n == 15) (codes "AAC audio, ADTS") _ Shown (λ _. refl) (λ _.
+    cond_both (n == 17) (codes "AAC audio, LATM") _ Shown (λ _. refl) (λ _.
+    cond_both (n == 21) (codes "metadata") _ Shown (λ _. refl) (λ _.
+    cond_both (n == 27) (codes "H.264 video") _ Shown (λ _. refl) (λ _.
+    cond_both (n == 33) (codes "JPEG 2000 video") _ Shown (λ _. refl) (λ _.
+    cond_both (n == 36) (codes "H.265 video") _ Shown (λ _. refl) (λ _.
+    cond_both (n == 129) (codes "AC-3 audio") _ Shown (λ _. refl) (λ _.
+    cond_both (n == 135) (codes "Enhanced AC-3 audio") _ Shown (λ _. refl) (λ _. refl)))))))))))))
+
+service_name_shown : (n : ℕ) → Shown (service_type_name n)
+unfolding service_type_name
+service_name_shown n =
+    cond_both (n == 1) (codes "digital television") _ Shown (λ _. refl) (λ _.
+    cond_both (n == 2) (codes "digital radio") _ Shown (λ _. refl) (λ _.
+    cond_both (n == 3) (codes "teletext") _ Shown (λ _. refl) (λ _.
+    cond_both (n == 10) (codes "digital radio, advanced codec") _ Shown (λ _. refl) (λ _.
+    cond_both (n == 12) (codes "data broadcast") _ Shown (λ _. refl) (λ _.
+    cond_both (n == 17) (codes "digital television, MPEG-2 HD") _ Shown (λ _. refl) (λ _.
+    cond_both (n == 22) (codes "digital television, H.264 SD") _ Shown (λ _. refl) (λ _.
+    cond_both (n == 25) (codes "digital television, H.264 HD") _ Shown (λ _. refl) (λ _.
+    cond_both (n == 31) (codes "digital television, H.265") _ Shown (λ _. refl) (λ _. refl)))))))))
+
+-- 2. It is empty, or a comment
+
+abbrev pub IsNote : List ℕ → Type 0
+IsNote text = (text ≡ []) ⊎ ((words : List ℕ) × (text ≡ note words) × Shown words)
+
+is_note : (words : List ℕ) → Shown words → IsNote (note words)
+is_note words h = inr (words, refl, h)
+
+name_note : (words : List ℕ) → Shown words → IsNote (note_if_any words)
+unfolding note_if_any
+name_note words h = cond_both (length words == 0) [] (note words) IsNote (λ _. inl refl) (λ _. is_note words h)
+
+number_is : (m : Measure) (n : ℕ) → IsNote (number_note m n)
+number_is Plain n = inl refl
+number_is Ticks n = is_note (quotient 90 n ++ codes " ms") (shown_both (quotient 90 n) (codes " ms") (quotient_shown 90 n) refl)
+number_is Clock n = is_note (quotient 90_000 n ++ codes " s") (shown_both (quotient 90_000 n) (codes " s") (quotient_shown 90_000 n) refl)
+number_is BitRate n = is_note (grouped n ++ codes " bits/s") (shown_both (grouped n) (codes " bits/s") (grouped_shown n) refl)
+number_is Bytes n = is_note (grouped n ++ codes " bytes") (shown_both (grouped n) (codes " bytes") (grouped_shown n) refl)
+number_is Milliseconds n = is_note (codes "ms") refl
+number_is Seconds n =
+    let seconds = codes ":" ++ two_digits (n % 60) in
+    let minutes = codes ":" ++ (two_digits (n / 60 % 60) ++ seconds) in
+    let seconds_are = shown_both (codes ":") (two_digits (n % 60)) refl (two_shown (n % 60)) in
+    let minutes_are = shown_both (codes ":") (two_digits (n / 60 % 60) ++ seconds) refl
+    (shown_both (two_digits (n / 60 % 60)) seconds (two_shown (n / 60 % 60)) seconds_are) in
+    is_note (decimal (n / 3_600) ++ minutes) (shown_both (decimal (n / 3_600)) minutes (decimal_shown (n / 3_600)) minutes_are)
+number_is StreamType n = name_note (stream_type_name n) (stream_name_shown n)
+number_is ServiceType n = name_note (service_type_name n) (service_name_shown n)
+
+pub note_is : (key : List ℕ) (d : Data) → IsNote (note_of key d)
+note_is key (integer (pos n)) = number_is (measure_of key) n
+note_is key (integer (negsuc n)) = inl refl
+note_is key (string s) = inl refl
+note_is key (float x) = inl refl
+note_is key (boolean b) = inl refl
+note_is key (datetime x) = inl refl
+note_is key (array x) = inl refl
+note_is key (table x) = inl refl
+
+-- 3. It ends its line
+
+shown_goes_on : (c next : ℕ) → is_shown c ≡ true → skip_turn true true c next ≡ Some true
+shown_goes_on c next h =
+    let parts = and_parts (nat_le 32 c) (nat_le c 126) h in
+    let low : 32 ≤ c = leb-true 32 c parts.0 in
+    let high : c ≤ 126 = leb-true c 126 parts.1 in
+    grind (arith, nat_tests)
+
+words_skipped : (words rest : List ℕ) → Shown words → skip_from true true (words ++ 10 ∷ rest) ≡ skip_blank rest
+unfolding skip_from
+words_skipped [] rest h = refl
+words_skipped (c ∷ words) rest h =
+    let parts = and_parts (is_shown c) (list_all is_shown words) h in
+    rw (shown_goes_on c (first (words ++ 10 ∷ rest)) parts.0) (words_skipped words rest parts.1)
+
+note_skipped : (words rest : List ℕ) → Shown words → skip_blank (note words ++ 10 ∷ rest) ≡ skip_blank rest
+unfolding skip_from
+note_skipped words rest h = words_skipped words rest h
+
+newline_ends : (rest : List ℕ) → ends_line (skip_ws (10 ∷ rest)) ≡ true
+newline_ends rest = rw (skip_ws_none (10 ∷ rest) refl) (grind (arith, nat_tests))
+
+note_ends : (rest : List ℕ) → ends_line (skip_ws (32 ∷ 35 ∷ rest)) ≡ true
+note_ends rest = rw (skip_ws_space (35 ∷ rest), skip_ws_none (35 ∷ rest) refl) (grind (arith, nat_tests))
+
+newline_tail : IsTail (10 ∷ [])
+newline_tail = record { stops = λ rest. ((refl, refl), (refl, refl)); ends = newline_ends; skipped = skip_newline }
+
+words_tail : (words : List ℕ) → Shown words → IsTail (note words ++ 10 ∷ [])
+words_tail words h = record {
+  stops = λ rest. ((refl, refl), (refl, refl));
+  ends = λ rest. note_ends (32 ∷ ((words ++ 10 ∷ []) ++ rest));
+  skipped = λ rest. ap skip_blank (append_assoc (note words) (10 ∷ []) rest) ∙ note_skipped words rest h;
+}
+
+tail_of : (text : List ℕ) → IsNote text → IsTail (text ++ 10 ∷ [])
+tail_of text (inl none) = rw none newline_tail
+tail_of text (inr (words, is, h)) = rw is (words_tail words h)
+
+pub note_tail : (key : List ℕ) (d : Data) → IsTail (note_of key d ++ 10 ∷ [])
+note_tail key d = tail_of (note_of key d) (note_is key d)
+
+-- and its bytes are printable
+shown_of : (text : List ℕ) → IsNote text → Shown text
+shown_of text (inl none) = rw none refl
+shown_of text (inr (words, is, h)) = rw is (shown_both (codes " # ") words refl h)
+
+pub notes_are_shown : (key : List ℕ) (d : Data) → Shown (note_of key d)
+notes_are_shown key d = shown_of (note_of key d) (note_is key d)
