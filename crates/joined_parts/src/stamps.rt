@@ -58,7 +58,7 @@ fn begin_of(begun: Option<(u64, Kind)>, packet: u64) -> u64
 // The PID of the references of the clock of a stream's program.
 #[tactic(auto, unfolding(crate::specs::UnitStamps::clock_of))]
 fn clock_of(found: &FoundPrograms, stream: Option<&FoundStream>) -> Option<u16>
-    ensures { result ≡ spec.clock_of found.now (option_map (λ s. s.now) stream) }
+    ensures { result ≡ spec.clock_of found.now (option_map (λ s. s.now) stream.entry) }
 {
     match stream {
         None => None,
