@@ -3,5 +3,10 @@ pub mod FaultLists
 pub mod FaultGroups
 pub mod CounterFindings
 pub mod Continuity
+pub mod QuietEvents
+pub mod ViewedPackets
+pub mod ViewedRules
+pub mod ViewedClocks
+pub mod SharedRules
 pub mod Tables
 pub mod Limits
