@@ -1,6 +1,10 @@
 #!/usr/bin/env python3
-"""prio.py: each few seconds, processes of gate runs (folder /work/gate*) get a greater share of the processors than those of helpers."""
+"""prio.py: each few seconds, processes of gate runs (folders /work/gate*, copies of them) get the greatest share; of the others the MOST that began first share the rest, the later ones wait at the least share."""
 import os, time
+MOST = 4
+def stat(pid):
+    text = open(f"/proc/{pid}/stat").read().rsplit(")", 1)[1].split()
+    return int(text[19]), int(text[11]) + int(text[12])
 def each():
     for pid in os.listdir("/proc"):
         if pid.isdigit():
@@ -8,23 +12,23 @@ def each():
                 yield pid, os.readlink(f"/proc/{pid}/cwd"), open(f"/proc/{pid}/cmdline", errors="replace").read().replace("\0", " ")
             except OSError:
                 pass
+def weigh(pid, value):
+    try: open(f"/proc/{pid}/autogroup", "w").write(str(value))
+    except OSError: pass
 while True:
-    gate, other = set(), {}
+    gate, other = {}, {}
     for pid, cwd, cmd in each():
         try:
             group = (open(f"/proc/{pid}/autogroup").read().split() or ["?"])[0]
-        except OSError:
+            begun, _ = stat(pid)
+        except (OSError, IndexError):
             continue
-        if cwd.startswith(("/work/gate", "/tmp/rt-")) or "rt ci" in cmd:
-            gate.add((group, pid))
-        elif "rattle" in cmd or "clang" in cmd or "soak" in cmd or "apt" in cmd:
-            other.setdefault(group, pid)
-    groups = {g for g, _ in gate}
-    for g, pid in {g: p for g, p in gate}.items():
-        try: open(f"/proc/{pid}/autogroup", "w").write("-2")
-        except OSError: pass
-    for g, pid in other.items():
-        if g not in groups:
-            try: open(f"/proc/{pid}/autogroup", "w").write("3")
-            except OSError: pass
-    time.sleep(4)
+        if cwd.startswith(("/work/gate",)):
+            gate[group] = pid
+        elif any(it in cmd for it in ("rattle", "clang", "run-cases")):
+            if group not in other or begun < other[group][0]:
+                other[group] = (begun, pid)
+    for pid in gate.values(): weigh(pid, -13 if "/gate8" in os.readlink(f"/proc/{pid}/cwd") else -6)
+    row = sorted((v for g, v in other.items() if g not in gate))
+    for at, (_, pid) in enumerate(row): weigh(pid, 0 if at < MOST else 15)
+    time.sleep(3)
