@@ -21,6 +21,13 @@ def size_of(data):
     return next((size for size, front in SIZES.items() if in_row(data, front, size)), 188)
 
 
+def heads(data):
+    """The four bytes before each packet of 192 bytes, as a number; nothing of other packets."""
+    if size_of(data) != 192:
+        return None
+    return [int.from_bytes(data[at: at + 4], "big") for at in range(0, len(data) // 192 * 192, 192)]
+
+
 def slip_at(data, at):
     """How many bytes are left out from a place on: 0 if a packet is there."""
     after = at + 188

@@ -28,6 +28,9 @@ class Marks(int):
         return made
 
 
+WRAP = 2**33
+
+
 class Refused(Exception):
     """There is no job of the stream: the line that says why."""
 
@@ -197,6 +200,26 @@ class Stream:
             timed.append((packet, begun, kind, (value[0], False) if kind == "truncated" else value))
         self.pids[pid].found = timed
         self.fields = [(of, field) for of, field in self.fields if of != pid or field not in (ALIGNMENT, FLAGS, LONG)]
+
+    def join(self, clocks):
+        """Moves the stamps of the parts of a joined recording, so that they come one after another: a part begins where its clock falls, or goes ahead
+        by more than 10 s, and its first DTS comes 0.3 s after the greatest one before. The clocks are the PIDs of the references, by PIDs of streams."""
+        for clock in set(clocks.values()):
+            shown = [(packet, base) for packet, of, base in self.references if of == clock]
+            cuts = [(*before, *after) for before, after in zip(shown, shown[1:]) if (after[1] - before[1]) % WRAP > 900_000]
+            part = lambda begun, dts: sum(begun >= at or begun > since and (dts - base) % WRAP < (dts - before) % WRAP for since, before, at, base in cuts)
+            pids = [pid for pid, of in clocks.items() if of == clock and pid in self.pids]
+            stamps = [(part(begun, value[1]), value[1]) for pid in pids for _, begun, kind, value in self.found(pid) if kind == "pes" and value[2] is not None]
+            shifts = [0]
+            for number, (_, before, _, base) in enumerate(cuts):
+                near = lambda of, reference: [far for part, dts in stamps if part == of and (far := (dts - reference) % WRAP) <= 900_000] or [0]
+                shifts.append((shifts[-1] + before + max(near(number, before)) + 27_000 - base - min(near(number + 1, base))) % WRAP)
+            later = lambda stamp, by: None if stamp is None else (stamp + shifts[by]) % WRAP
+            moved = lambda begun, value: (value[0], *(later(stamp, part(begun, value[1])) for stamp in value[1:3]), *value[3:])
+            for pid in pids:
+                self.pids[pid].found = [(packet, begun, kind, moved(begun, value) if kind == "pes" and value[2] is not None else value)
+                                        for packet, begun, kind, value in self.found(pid)]
+            self.references = [(packet, of, later(base, sum(packet >= at for _, _, at, _ in cuts)) if of == clock else base) for packet, of, base in self.references]
 
     def sections(self, pid, table):
         """The sections of a PID with a table_id, of the long form, in force now, each with the packet in which it ends."""

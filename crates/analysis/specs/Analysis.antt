@@ -1,10 +1,17 @@
 -- A stream, packet by packet: its view, the events that each packet settles with their moments, and what they come to.
 use Rattle.std.specs.Prelude.{◌≡◌, ℕ, ◌+◌, ◌-◌, ◌*◌, ◌&&◌, nat_le, Bool, true, if◌then◌else◌, List, [], ◌∷◌, ◌++◌, map, Option, Some, None}
 use Rattle.events.specs.declared.event.Event.{Event}
-use Rattle.events.specs.declared.event.Event.TheVariants.{Window, Held, Units}
+use Rattle.events.specs.declared.event.Event.TheVariants.{Input, Window, Held, Units, Rule}
+use Rattle.events.specs.declared.input_event.InputEvent.TheVariants as inputs
 use Rattle.events.specs.declared.fault.Fault.{Fault}
+use Rattle.events.specs.declared.rule_event.RuleEvent.{RuleEvent}
+use Rattle.events.specs.declared.rule_event.RuleEvent.TheVariants as rules
 use Rattle.events.specs.declared.timed_event.TimedEvent.{TimedEvent}
 use Rattle.events.specs.Faults.{fault_of}
+use Rattle.arrival.specs.Clock.{longest_interval}
+use Rattle.arrival.specs.StampClocks.{StampState, is_new, no_stamp, step_at}
+use Rattle.arrival.specs.StampClocks as clock
+use Rattle.arrival.specs.declared.stamp_clock.StampStep.{StampStep}
 use Rattle.ts_watch.specs.declared.view_request.ViewSpan.{ViewSpan}
 use Rattle.ts_watch.specs.Choices.{RequestView}
 use Rattle.ts_report.specs.ClockedViews.{ClockedState, IsClocked, is_clocked, moment_in}
@@ -14,22 +21,34 @@ use Rattle.fault_summary.specs.Summaries.{SummaryState, nothing}
 use Rattle.fault_summary.specs.Summaries as summaries
 use Rattle.analysis.specs.declared.analyser.Analyser.{Analyser}
 
--- the view, what its events come to, the part of the stream whose faults and windows are asked for, and the length of a window in ms
+-- the view, what its events come to, the part of the stream whose faults and windows are asked for, the length of a window in ms, and the
+-- clock of the stamps by which the stream arrives, where they are asked for
 pub record AnalysisState : Type 0 where
   pub view : ClockedState
   pub summary : SummaryState
   pub span : ViewSpan
   pub window : ℕ
+  pub stamps : Option StampState
 
 pub record IsAnalysed (analyser : Analyser) (s : AnalysisState) : Type 0 where
   pub view : IsClocked analyser.view s.view
   pub summary : analyser.summary ≡ s.summary
   pub span : analyser.span ≡ s.span
   pub window : analyser.window ≡ s.window
+  pub stamps : analyser.stamps ≡ s.stamps
 
 -- before the first packet
+abbrev pub first_stamps : Bool → Option StampState
+first_stamps asked = if asked then Some no_stamp else None
+
 abbrev pub start : RequestView → AnalysisState
-start request = record { view = views.start request; summary = nothing; span = request.span; window = request.options.window }
+start request = record {
+  view = views.start request;
+  summary = nothing;
+  span = request.span;
+  window = request.options.window;
+  stamps = first_stamps request.stamps;
+}
 
 -- 1. An event, with the moment of the packet of its fault, as packets arrive when it is found
 
@@ -63,10 +82,15 @@ fault_in span None = true
 fault_in span (Some fault) = lasts_in span fault.from fault.to
 
 -- the number of the window that an event is about
+unfoldable pub rule_window : RuleEvent → Option ℕ
+rule_window (rules.ClockWindow c) = Some c.number
+rule_window _ = None
+
 unfoldable pub window_of : Event → Option ℕ
 window_of (Window w) = Some w.number
 window_of (Held h) = Some h.number
 window_of (Units u) = Some u.number
+window_of (Rule e) = rule_window e
 window_of _ = None
 
 -- a window of so many ms is there from its first tick to its last one
@@ -116,16 +140,50 @@ unfoldable pub events_all : AnalysisState → List (List ℕ) → List TimedEven
 events_all s [] = []
 events_all s (bytes ∷ packets) = events_at s bytes ++ events_all (after_packet s bytes) packets
 
--- 3. At the end: the last events, and then what all events come to
+-- 3. The same of a packet before which four bytes come: by the stamp in them, where stamps are asked for
+
+-- stamps that do not go on are an event
+unfoldable pub jump_events : ℕ → Option ℕ → List Event
+jump_events packet None = []
+jump_events packet (Some ticks) = Input (inputs.StampJump (record { packet = packet; value = ticks; limit = longest_interval })) ∷ []
+
+abbrev pub viewed_by : AnalysisState → StampState → StampStep → List ℕ → AnalysisState
+viewed_by s stamps step bytes = record s { view = views.after_sampled s.view step.sample bytes; stamps = Some stamps }
+
+abbrev pub found_by : AnalysisState → StampStep → List ℕ → List Event
+found_by s step bytes = views.sampled_events s.view step.sample bytes ++ jump_events step.packet step.jump
+
+unfoldable pub stamped_in : Option StampState → AnalysisState → ℕ → List ℕ → AnalysisState
+stamped_in None s head bytes = after_packet s bytes
+stamped_in (Some c) s head bytes = with_events (viewed_by s (clock.after c head) (step_at c head) bytes) (found_by s (step_at c head) bytes)
+
+unfoldable pub stamped_events_in : Option StampState → AnalysisState → ℕ → List ℕ → List TimedEvent
+stamped_events_in None s head bytes = events_at s bytes
+stamped_events_in (Some c) s head bytes = all_timed (viewed_by s (clock.after c head) (step_at c head) bytes) (found_by s (step_at c head) bytes)
+
+abbrev pub after_stamped : AnalysisState → ℕ → List ℕ → AnalysisState
+after_stamped s head bytes = stamped_in s.stamps s head bytes
+
+abbrev pub stamped_events : AnalysisState → ℕ → List ℕ → List TimedEvent
+stamped_events s head bytes = stamped_events_in s.stamps s head bytes
+
+-- 4. At the end: that no packet has the stamps that are asked for, the last events, and then what all events come to
+
+unfoldable pub missing_events : Option StampState → List Event
+missing_events None = []
+missing_events (Some c) = if is_new c then Input inputs.NoStamps ∷ [] else []
+
+abbrev pub last_found : AnalysisState → ℕ → List Event
+last_found s left = missing_events s.stamps ++ views.end_events s.view left
 
 abbrev pub view_ended : AnalysisState → AnalysisState
 view_ended s = record s { view = views.ended s.view }
 
 abbrev pub last_events : AnalysisState → ℕ → List TimedEvent
-last_events s left = all_timed (view_ended s) (views.end_events s.view left)
+last_events s left = all_timed (view_ended s) (last_found s left)
 
 abbrev pub ended : AnalysisState → ℕ → AnalysisState
-ended s left = with_events (view_ended s) (views.end_events s.view left)
+ended s left = with_events (view_ended s) (last_found s left)
 
 abbrev pub is_faultless : AnalysisState → Bool
 is_faultless s = summaries.is_good s.summary

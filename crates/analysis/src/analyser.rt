@@ -1,11 +1,13 @@
 //! A view of a stream, whose events get their times, and are counted by the checks that they fail.
-ghost use Rattle.std.specs.Prelude.{◌≡◌, ◌++◌, ◌∷◌, ◌&&◌, [], IfOk, OnOk, false};
+ghost use Rattle.std.specs.Prelude.{◌≡◌, ◌++◌, ◌∷◌, ◌&&◌, [], IfOk, IfSome, OnOk, false};
+ghost use Rattle.arrival.specs.Clock.{IsInRange};
 ghost use Rattle.ts_report.specs.ClockedViews.{ClockedState, IsClocked};
 ghost use Rattle.ts_report.specs.ClockedViews as views;
 ghost use Rattle.analysis.specs.Analysis as spec;
 ghost use Rattle.analysis.specs.Analysis.{AnalysisState, IsAnalysed};
 
-use events::{Event, Fault, TimedEvent, fault_of};
+use arrival::{LONGEST_INTERVAL, StampClock, StampStep};
+use events::{Event, Fault, InputEvent, RuleEvent, StampJump, TimedEvent, fault_of};
 use fault_summary::Summary;
 use std::alloc::{AllocError, Global};
 use ts_report::{ClockedView, ViewRequest, ViewSpan};
@@ -21,6 +23,8 @@ pub struct Analyser {
     /// The part of the stream whose faults and windows are asked for, and the length of a window in ms.
     pub span: ViewSpan,
     pub window: u32,
+    /// The clock of the stamps by which the stream arrives, if they are asked for.
+    pub stamps: Option<StampClock>,
 }
 
 /// A millisecond in ticks of 27 MHz.
@@ -68,6 +72,17 @@ fn fault_in(span: ViewSpan, fault: &Option<Fault>) -> bool
     }
 }
 
+// The number of the window that an event of a check is about.
+#[tactic(auto, unfolding(crate::specs::Analysis::rule_window))]
+fn rule_window(event: &RuleEvent) -> Option<u64>
+    ensures { result ≡ spec.rule_window event.now }
+{
+    match event {
+        RuleEvent::ClockWindow(clock) => Some(clock.number),
+        _ => None,
+    }
+}
+
 // The number of the window that an event is about.
 #[tactic(auto, unfolding(crate::specs::Analysis::window_of))]
 fn window_of(event: &Event) -> Option<u64>
@@ -77,6 +92,7 @@ fn window_of(event: &Event) -> Option<u64>
         Event::Window(window) => Some(window.number),
         Event::Held(held) => Some(held.number),
         Event::Units(units) => Some(units.number),
+        Event::Rule(event) => rule_window(event),
         _ => None,
     }
 }
@@ -107,6 +123,46 @@ fn at_of(view: &ClockedView, fault: &Option<Fault>) -> Option<u128>
     }
 }
 
+#[tactic(auto, unfolding(crate::specs::Analysis::jump_events))]
+fn push_jump(step: &StampStep, events: &mut Vec<Event>) -> Result<(), AllocError>
+    ensures { OnOk result (events.new.items ≡ events.old.items ++ spec.jump_events step.now.packet step.now.jump) }
+{
+    match step.jump {
+        None => Ok(()),
+        Some(value) => {
+            events.push(Event::Input(InputEvent::StampJump(StampJump {
+                packet: step.packet,
+                value,
+                limit: LONGEST_INTERVAL,
+            })))?;
+            Ok(())
+        }
+    }
+}
+
+// Appends that no packet has the stamps that are asked for.
+#[tactic(auto, unfolding(crate::specs::Analysis::missing_events))]
+fn push_missing(stamps: &Option<StampClock>, events: &mut Vec<Event>) -> Result<(), AllocError>
+    ensures { OnOk result (events.new.items ≡ events.old.items ++ spec.missing_events stamps.now) }
+{
+    match stamps {
+        None => Ok(()),
+        Some(clock) => {
+            if clock.is_new() {
+                events.push(Event::Input(InputEvent::NoStamps))?;
+            }
+            Ok(())
+        }
+    }
+}
+
+// The clock of stamps before the first packet, if they are asked for.
+fn first_stamps(asked: bool) -> Option<StampClock>
+    ensures { result ≡ spec.first_stamps asked }
+{
+    if asked { Some(StampClock::new()) } else { None }
+}
+
 impl Analyser {
     /// Returns the state before the first packet.
     pub fn new(alloc: Global, request: ViewRequest) -> Analyser
@@ -115,12 +171,14 @@ impl Analyser {
     {
         let span = request.span;
         let window = request.options.window;
+        let stamps = first_stamps(request.stamps);
         Analyser {
             alloc,
             view: ClockedView::new(alloc, request),
             summary: Summary::new(alloc),
             span,
             window,
+            stamps,
         }
     }
 
@@ -187,6 +245,51 @@ impl Analyser {
         self.take_events(found, events)
     }
 
+    // Takes the next packet by a stamp.
+    fn take_by(
+        &mut self,
+        clock: StampClock,
+        step: &StampStep,
+        bytes: &[u8; 188],
+        events: &mut Vec<TimedEvent>,
+    ) -> Result<(), AllocError>
+        requires { IfSome step.now.sample IsInRange }
+        ensures analysed { (s : AnalysisState) → IsAnalysed self.old s → OnOk result (IsAnalysed self.new
+            (spec.with_events (spec.viewed_by s clock step.now bytes.now) (spec.found_by s step.now bytes.now))) }
+        ensures found { (s : AnalysisState) → IsAnalysed self.old s → OnOk result (events.new.items ≡ events.old.items
+            ++ spec.all_timed (spec.viewed_by s clock step.now bytes.now) (spec.found_by s step.now bytes.now)) }
+    {
+        let mut found = Vec::new(self.alloc);
+        self.view.take_sampled(step.sample, bytes, &mut found)?;
+        push_jump(step, &mut found)?;
+        self.stamps = Some(clock);
+        self.take_events(found, events)
+    }
+
+    /// Takes the next packet, before which four bytes come, as a number: by the stamp in them, if stamps are asked for.
+    /// Appends the events that the packet settles.
+    #[tactic(auto, unfolding(crate::specs::Analysis::stamped_in, crate::specs::Analysis::stamped_events_in))]
+    pub fn take_stamped(
+        &mut self,
+        head: u32,
+        bytes: &[u8; 188],
+        events: &mut Vec<TimedEvent>,
+    ) -> Result<(), AllocError>
+        ensures analysed { (s : AnalysisState) → IsAnalysed self.old s →
+            OnOk result (IsAnalysed self.new (spec.after_stamped s head bytes.now)) }
+        ensures found { (s : AnalysisState) → IsAnalysed self.old s →
+            OnOk result (events.new.items ≡ events.old.items ++ spec.stamped_events s head bytes.now) }
+    {
+        match self.stamps {
+            None => self.take(bytes, events),
+            Some(stamps) => {
+                let mut clock = stamps;
+                let step = clock.take(head);
+                self.take_by(clock, &step, bytes, events)
+            }
+        }
+    }
+
     /// Takes the next packets, and appends the events that they settle.
     #[tactic(auto, unfolding(crate::specs::Analysis::after_all, crate::specs::Analysis::events_all))]
     pub fn take_all(
@@ -221,6 +324,7 @@ impl Analyser {
         ensures good { (s : AnalysisState) → IsAnalysed self.old s → IfOk result (λ good. good ≡ spec.is_good s left) }
     {
         let mut found = Vec::new(self.alloc);
+        push_missing(&self.stamps, &mut found)?;
         let good = self.view.end(left, &mut found)?;
         self.take_events(found, events)?;
         Ok(good)

@@ -4,3 +4,4 @@ pub mod Clocks
 pub mod Examples
 pub mod HeldBytes
 pub mod Steps
+pub mod Stamps

@@ -1,5 +1,5 @@
 -- Laws of arrivals, over the definitions alone.
-use Rattle.std.specs.Prelude.{◌≡◌, ℕ, ◌+◌, ◌*◌, ◌/◌, ◌%◌, ◌^◌, ◌<◌, ◌≤◌, List, ◌∷◌, ◌++◌, map, IfSome, All}
+use Rattle.std.specs.Prelude.{◌≡◌, ℕ, ◌+◌, ◌*◌, ◌/◌, ◌%◌, ◌^◌, ◌<◌, ◌≤◌, List, ◌∷◌, ◌++◌, map, true, IfSome, All, None, Some}
 use Rattle.std.specs.Option.{option_or}
 use Rattle.clock27.specs.Arrival.{bytes_from}
 use Rattle.clock27.specs.Units.{byte_ticks_at_1bps}
@@ -7,7 +7,9 @@ use Rattle.arrival.specs.Rows.{times_in_row}
 use Rattle.arrival.specs.Lines.{Reaches, constant_line, parts_at, arrival_at, arrivals_on}
 use Rattle.arrival.specs.declared.clock.PcrSample.{PcrSample}
 use Rattle.arrival.specs.declared.line.Line.{Line}
-use Rattle.arrival.specs.Clock.{IsClockLine, IsInRange, last_of, pcr_period, state_of}
+use Rattle.arrival.specs.Clock.{IsClockLine, IsInRange, elapsed, goes_on, last_of, pcr_period, state_of}
+use Rattle.arrival.specs.StampClocks.{jump_by, sample_of, ticks_between, ticks_since, value_after}
+use Rattle.arrival.specs.declared.stamp_clock.StampValue.{StampValue}
 use Rattle.arrival.specs.ByteLines.{line_to, first_after, line_of, LiesAfter, AreLater}
 
 -- at a constant rate a byte arrives at its time in whole ticks
@@ -63,3 +65,14 @@ HeldLaw = (later earlier : List PcrSample) (before sample : PcrSample) (i : ℕ)
 -- and the clock's state is that of its references
 abbrev pub StateLaw : Type 0
 StateLaw = (samples : List PcrSample) → (state_of samples).last ≡ last_of samples
+
+-- from one stamp to the next the clock's ticks go on by those between both stamps
+abbrev pub StampLaw : Type 0
+StampLaw = (before : StampValue) (stamp : ℕ) → before.ticks < pcr_period →
+    elapsed before.ticks (value_after (Some before) stamp).ticks ≡ ticks_between before.stamp stamp
+
+-- so a sample with another stamp is on a line with the one before, unless it is a jump
+abbrev pub StampJumpLaw : Type 0
+StampJumpLaw = (before : StampValue) (stamp index : ℕ) → before.ticks < pcr_period → 0 < ticks_between before.stamp stamp →
+    jump_by (ticks_since (Some before) stamp) ≡ None →
+    goes_on (sample_of index before) (sample_of (index + 1) (value_after (Some before) stamp)) ≡ true

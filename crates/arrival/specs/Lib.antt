@@ -5,3 +5,4 @@ pub mod ByteLines
 pub mod Laws
 pub mod Arrivals
 pub mod ArrivalClocks
+pub mod StampClocks

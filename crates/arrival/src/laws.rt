@@ -2,7 +2,7 @@
 //! alone, and a caller may cite it.
 ghost use Rattle.arrival.specs.Laws.{ConstantMoments, ConstantRow, ConstantScale};
 ghost use Rattle.arrival.specs.Laws.{LineBegins, LineEnds, LinesMeet, LineRises, Rounded, ReachLaw};
-ghost use Rattle.arrival.specs.Laws.{MomentLaw, HeldLaw, StateLaw};
+ghost use Rattle.arrival.specs.Laws.{MomentLaw, HeldLaw, StateLaw, StampLaw, StampJumpLaw};
 
 /// States for a stream of constant rate that its line gives the moments of `clock27`, and its rows the arrivals.
 pub fn constant_rate()
@@ -31,4 +31,11 @@ pub fn moments()
 pub fn held()
     ensures line { HeldLaw }
     ensures state { StateLaw }
+{}
+
+/// States that the ticks from one stamp's sample to the next are those between both stamps, so that the clock goes on
+/// from one packet to the next unless the stamp jumps.
+pub fn stamps()
+    ensures ticks { StampLaw }
+    ensures goes { StampJumpLaw }
 {}

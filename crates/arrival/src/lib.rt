@@ -7,6 +7,8 @@
 //! - [`Arrival`]: how the bytes of a stream arrive, and their rows at a buffer; [`ClockLine`] is a single line, [`ClockLines`] two in
 //!   a row, also across a clock that restarts.
 //! - [`ArrivalClock`]: takes clock references, and gives the line of the bytes between two of them.
+//! - [`StampClock`]: takes the arrival time stamps before packets of 192 bytes, and gives a sample of their clock for
+//!   each that differs from the one before; an [`ArrivalClock`] takes these in place of clock references.
 //! - [`laws`]: the arrivals of a constant rate, and facts about each line.
 //!
 //! A moment is a number of ticks of 27 MHz. At a buffer that is drained at `r` bits a second times are counted in units
@@ -21,6 +23,7 @@ mod clock_line;
 pub mod laws;
 mod line;
 mod row;
+mod stamp_clock;
 
 pub use arrival::{Arrival, ClockLines};
 pub use arrival_clock::ArrivalClock;
@@ -30,3 +33,4 @@ pub use clock::{
 pub use clock_line::ClockLine;
 pub use line::Line;
 pub use row::{Row, multiples_below};
+pub use stamp_clock::{STAMP_PERIOD, StampClock, StampStep, StampValue};

@@ -9,7 +9,7 @@ use Rattle.packet_sync.specs.declared.packet_sizes.OtherPackets.{OtherPackets}
 use Rattle.packet_sync.specs.declared.packet_sizes.OtherPackets.TheVariants.{Timed, Corrected}
 use Rattle.packet_sync.proofs.Stretches.{slip_later, slip_some}
 use Rattle.capture.specs.Captures.{Capture, IsPacket, NextPart, Part, after_packets, after_slip, capture_from, capture_in, capture_then, least_size, next_of}
-use Rattle.capture.specs.Captures.{next_part, no_parts, packet_in, plain_next, size_of, slip_at, with_parts}
+use Rattle.capture.specs.Captures.{next_part, no_parts, part_in, plain_next, size_of, slip_at, with_parts}
 use Rattle.capture.specs.declared.place.Place.{Place}
 
 -- 1. However many steps there may be
@@ -110,7 +110,7 @@ unfolding plain_next
 slip_first form p bs size long e = one_part form None p bs (plain_next (Some size) p bs) (omega (arith, long)) (plain_long p bs (Some size) long e)
 
 pub other_first : (form : FileForm) (other : OtherPackets) (p : Place) (bs : List ℕ) → size_of other ≤ length bs →
-    capture_from form (Some other) p bs ≡ with_parts (IsPacket (packet_in other bs) ∷ []) (capture_from form (Some other) p (drop (size_of other) bs))
+    capture_from form (Some other) p bs ≡ with_parts (part_in other bs ∷ []) (capture_from form (Some other) p (drop (size_of other) bs))
 unfolding next_of least_size
 other_first form other p bs long =
     one_part form (Some other) p bs (next_of (Some other) p bs) (omega (arith, long, size_some other)) (long_some (Some other) p bs long)

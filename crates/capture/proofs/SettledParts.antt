@@ -2,6 +2,7 @@
 use Rattle.std.proofs.Common.{◌≡◌, ◌≤◌, ◌<◌, ◌⊎◌, inl, inr, ℕ, zero, suc, ◌+◌, ◌*◌, ◌-◌, ◌/◌, ◌%◌, ◌==◌, min, nat_lt, Bool, true, false, if◌then◌else◌, refl}
 use Rattle.std.proofs.Common.{sym, ap, ap₂, subst, arith, ◌∙◌, List, [], ◌∷◌, ◌++◌, length, length-append, length-drop, length-take-le, map, take, drop}
 use Rattle.std.proofs.Common.{slice_range, Option, None, Some, Result, Ok, Err, append_assoc, append-nil, drop-drop, take-add}
+use Rattle.std.proofs.Math.Seq.{take-length}
 use Rattle.std.proofs.lemmas.List.{drop_at, drop-append-le, take_all, take-append-drop, take-append-le}
 use Rattle.std.specs.Prelude.{IfOk, OnOk}
 use Rattle.events.specs.declared.input_event.FileForm.{FileForm}
@@ -15,8 +16,8 @@ use Rattle.packet_sync.proofs.FrontBytes.{other_front}
 use Rattle.packet_sync.proofs.Stretches.{Steady, slip_later}
 use Rattle.ts_packet.specs.PidList.{cut_packets}
 use Rattle.ts_packet.proofs.Listing.{first_cut}
-use Rattle.capture.specs.Captures.{Capture, IsPacket, Part, after_packets, after_slip, capture_at, capture_from, front_of, no_parts, packet_in, size_of}
-use Rattle.capture.specs.Captures.{size_parts, slip_at, with_parts}
+use Rattle.capture.specs.Captures.{Capture, IsPacket, Part, after_packets, after_slip, capture_at, capture_from, front_of, head_in, no_parts, number_of}
+use Rattle.capture.specs.Captures.{packet_in, packet_with, part_in, size_of, size_parts, slip_at, with_parts}
 use Rattle.capture.specs.FrontForms.{form_in, form_of}
 use Rattle.capture.specs.Reading.{IsLast, ReaderView, Settles, SettlesFrom, Takes, TakesLast, after_stretch, capture_after, capture_by, capture_left, decisive}
 use Rattle.capture.specs.Reading.{front_in, known_form, place_if, slip_parts, stretch_parts, stretch_size, whole_size, with_front}
@@ -205,10 +206,21 @@ stretch_rest form p bytes more at ended s within stepped whole fits =
     (drop-drop (stretch_size s) at bytes)
 
 -- a packet of another size
+size_four : (other : OtherPackets) → 4 ≤ size_of other
+unfolding size_of
+size_four Timed = omega arith
+size_four Corrected = omega arith
+
 front_within : (other : OtherPackets) → front_of other + 188 ≤ size_of other
 unfolding front_of size_of
 front_within Timed = omega arith
 front_within Corrected = omega arith
+
+head_front : (bs more : List ℕ) → 4 ≤ length bs → head_in (bs ++ more) ≡ head_in bs
+head_front bs more long = ap number_of (take-append-le 4 bs more long)
+
+pub take_whole : (bs : List ℕ) → length bs ≡ 188 → take 188 bs ≡ bs
+take_whole bs size = ap (λ (n : ℕ). take n bs) (sym size) ∙ take-length bs
 
 packet_front : (other : OtherPackets) (bs more : List ℕ) → size_of other ≤ length bs → packet_in other (bs ++ more) ≡ packet_in other bs
 packet_front other bs more long =
@@ -219,14 +231,16 @@ packet_front other bs more long =
     ap (take (f + 188 - f)) (drop-append-le f bs more front) ∙ take-append-le (f + 188 - f) (drop f bs) more rest
 
 pub other_rest : (form : FileForm) (other : OtherPackets) (p : Place) (bytes more : List ℕ) (at : ℕ) → at + size_of other ≤ length bytes →
-    capture_from form (Some other) p (drop at bytes ++ more) ≡ with_parts (IsPacket (packet_in other (drop at bytes)) ∷ [])
+    capture_from form (Some other) p (drop at bytes ++ more) ≡ with_parts (part_in other (drop at bytes) ∷ [])
     (capture_from form (Some other) p (drop (at + size_of other) bytes ++ more))
 other_rest form other p bytes more at within =
     let rest = drop at bytes in
     let long : size_of other ≤ length rest = omega (arith, within, length-drop at bytes) in
     let all : size_of other ≤ length (rest ++ more) = omega (arith, long, length-append rest more) in
     other_first form other p (rest ++ more) all
-    ∙ ap₂ (λ (x y : List ℕ). with_parts (IsPacket x ∷ []) (capture_from form (Some other) p y)) (packet_front other rest more long)
+    ∙ ap (λ (n : ℕ). with_parts (packet_with other n (packet_in other (rest ++ more)) ∷ []) (capture_from form (Some other) p
+    (drop (size_of other) (rest ++ more)))) (head_front rest more (omega (arith, long, size_four other)))
+    ∙ ap₂ (λ (x y : List ℕ). with_parts (packet_with other (head_in rest) x ∷ []) (capture_from form (Some other) p y)) (packet_front other rest more long)
     (drop-append-le (size_of other) rest more long ∙ ap (λ (r : List ℕ). r ++ more) (drop-drop (size_of other) at bytes))
 
 -- the bytes of a packet from a place on

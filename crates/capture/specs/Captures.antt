@@ -1,5 +1,6 @@
 -- What a capture holds: packets, and bytes between them that are in no packet (packet_sync/specs/Slips and OtherPackets).
-use Rattle.std.specs.Prelude.{ℕ, zero, suc, ◌+◌, ◌/◌, nat_lt, if◌then◌else◌, List, [], ◌∷◌, ◌++◌, length, take, drop, slice_range, Option, None, Some}
+use Rattle.std.specs.Prelude.{ℕ, zero, suc, ◌+◌, ◌*◌, ◌/◌, nat_lt, if◌then◌else◌, List, [], ◌∷◌, ◌++◌, length, take, drop, slice_index, slice_range, Option}
+use Rattle.std.specs.Prelude.{None, Some}
 use Rattle.events.specs.declared.input_event.FileForm.{FileForm}
 use Rattle.packet_sync.specs.OtherPackets.{other_packets}
 use Rattle.packet_sync.specs.Slips.{slip_size}
@@ -11,9 +12,10 @@ use Rattle.capture.specs.declared.place.Place.{Place}
 
 -- 1. A part
 
--- a packet; bytes that are in none; or that the packets are not of 188 bytes
+-- a packet, without or with a number before it; bytes that are in none; or that the packets are not of 188 bytes
 pub data Part : Type 0 where
   IsPacket : List ℕ → Part
+  IsStamped : ℕ → List ℕ → Part
   IsSlip : Slip → Part
   IsSize : OtherPackets → Part
 
@@ -57,9 +59,23 @@ front_of Corrected = 0
 abbrev pub packet_in : OtherPackets → List ℕ → List ℕ
 packet_in other bs = slice_range bs (front_of other) (front_of other + 188)
 
+-- the four bytes before those, as a number
+abbrev pub number_of : List ℕ → ℕ
+number_of bs = slice_index bs 0 * 16777216 + slice_index bs 1 * 65536 + slice_index bs 2 * 256 + slice_index bs 3
+
+abbrev pub head_in : List ℕ → ℕ
+head_in bs = number_of (take 4 bs)
+
+unfoldable pub packet_with : OtherPackets → ℕ → List ℕ → Part
+packet_with Timed head bytes = IsStamped head bytes
+packet_with Corrected head bytes = IsPacket bytes
+
+abbrev pub part_in : OtherPackets → List ℕ → Part
+part_in other bs = packet_with other (head_in bs) (packet_in other bs)
+
 unfoldable pub next_of : Option OtherPackets → Place → List ℕ → NextPart
 next_of None p bs = plain_next (slip_size bs 0) p bs
-next_of (Some other) p bs = record { part = IsPacket (packet_in other bs); place = p; size = size_of other }
+next_of (Some other) p bs = record { part = part_in other bs; place = p; size = size_of other }
 
 unfoldable pub least_size : Option OtherPackets → ℕ
 least_size None = 188

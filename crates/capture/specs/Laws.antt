@@ -5,7 +5,7 @@ use Rattle.packet_sync.specs.Laws.{IsInStep}
 use Rattle.packet_sync.specs.OtherPackets.{other_packets}
 use Rattle.packet_sync.specs.Slips.{carried, slips}
 use Rattle.packet_sync.specs.declared.slip.Slip.{Slip}
-use Rattle.capture.specs.Captures.{Capture, IsPacket, IsSize, IsSlip, Part, capture_of}
+use Rattle.capture.specs.Captures.{Capture, IsPacket, IsSize, IsSlip, IsStamped, Part, capture_of}
 
 -- a stream in step from its first byte on is read as it is
 pub record IsReadAsItIs (bs : List ℕ) : Type 0 where
@@ -19,12 +19,14 @@ InStepAsItIs = (bs : List ℕ) → IsInStep bs → IsReadAsItIs bs
 unfoldable pub packet_bytes : List Part → List ℕ
 packet_bytes [] = []
 packet_bytes (IsPacket bytes ∷ parts) = bytes ++ packet_bytes parts
+packet_bytes (IsStamped head bytes ∷ parts) = bytes ++ packet_bytes parts
 packet_bytes (IsSlip s ∷ parts) = packet_bytes parts
 packet_bytes (IsSize other ∷ parts) = packet_bytes parts
 
 unfoldable pub slips_among : List Part → List Slip
 slips_among [] = []
 slips_among (IsPacket bytes ∷ parts) = slips_among parts
+slips_among (IsStamped head bytes ∷ parts) = slips_among parts
 slips_among (IsSlip s ∷ parts) = s ∷ slips_among parts
 slips_among (IsSize other ∷ parts) = slips_among parts
 

@@ -1,6 +1,6 @@
 //! What takes the parts of a capture.
 ghost use Rattle.std.specs.Prelude.{◌≡◌, ◌++◌, ◌∷◌, List, [], OnOk, map};
-ghost use Rattle.capture.specs.Captures.{IsPacket, IsSize, IsSlip, Part};
+ghost use Rattle.capture.specs.Captures.{IsPacket, IsSize, IsSlip, IsStamped, Part};
 
 use packet_sync::{OtherPackets, Slip};
 use std::alloc::AllocError;
@@ -19,6 +19,11 @@ pub trait PartTaker {
     fn take_packets(&mut self, packets: &[[u8; 188]]) -> Result<(), AllocError>
         ensures { (first : Self) (parts : List Part) → has_taken first parts self.old →
             OnOk result (has_taken first (parts ++ map IsPacket packets.now) self.new) };
+
+    /// Takes the next packet, before which four bytes come: these as a number.
+    fn take_stamped(&mut self, head: u32, packet: &[u8; 188]) -> Result<(), AllocError>
+        ensures { (first : Self) (parts : List Part) → has_taken first parts self.old →
+            OnOk result (has_taken first (parts ++ IsStamped head packet.now ∷ []) self.new) };
 
     /// Takes bytes that are in no packet.
     fn take_slip(&mut self, slip: Slip) -> Result<(), AllocError>

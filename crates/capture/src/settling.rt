@@ -1,9 +1,9 @@
 //! The parts that bytes settle.
-ghost use Rattle.std.specs.Prelude.{◌≡◌, ◌≤◌, ◌<◌, ◌+◌, ◌-◌, ◌%◌, ◌*◌, ◌++◌, ◌∷◌, ℕ, List, [], Bool, IfOk, OnOk, Some, None, if◌then◌else◌, true, false, drop, length, map, slice_range};
+ghost use Rattle.std.specs.Prelude.{◌≡◌, ◌≤◌, ◌<◌, ◌+◌, ◌-◌, ◌%◌, ◌*◌, ◌++◌, ◌∷◌, ℕ, List, [], Bool, IfOk, OnOk, Some, None, if◌then◌else◌, true, false, drop, length, map, slice_range, take};
 ghost use Rattle.ts_packet.specs.PidList.{cut_packets};
 ghost use Rattle.packet_sync.specs.OtherPackets.{other_packets};
 ghost use Rattle.capture.specs.Captures as spec;
-ghost use Rattle.capture.specs.Captures.{IsPacket, Part};
+ghost use Rattle.capture.specs.Captures.{IsPacket, IsStamped, Part};
 ghost use Rattle.capture.specs.Reading as reading;
 
 use crate::front_form::form_of;
@@ -111,6 +111,57 @@ fn take_stretch<T: PartTaker>(
     Ok(size + stretch.slipped)
 }
 
+// Returns four bytes as a number.
+fn number_of(bytes: &[u8]) -> u32
+    requires { length bytes.now ≡ 4 }
+    ensures { result ≡ spec.number_of bytes.now }
+{
+    u32::from(bytes[0]) * 16_777_216
+        + u32::from(bytes[1]) * 65_536
+        + u32::from(bytes[2]) * 256
+        + u32::from(bytes[3])
+}
+
+// Takes a packet of 188 bytes.
+fn take_plain<T: PartTaker>(bytes: &[u8], taker: &mut T) -> Result<(), AllocError>
+    requires { length bytes.now ≡ 188 }
+    ensures { (first : T) (parts : List Part) → T.has_taken first parts taker.old →
+        OnOk result (T.has_taken first (parts ++ IsPacket bytes.now ∷ []) taker.new) }
+{
+    let (packets, _) = bytes.as_chunks::<188>();
+    taker.take_packets(packets)
+}
+
+// Takes a packet of 188 bytes, before which these four bytes come.
+fn take_stamped<T: PartTaker>(head: u32, bytes: &[u8], taker: &mut T) -> Result<(), AllocError>
+    requires { length bytes.now ≡ 188 }
+    ensures { (first : T) (parts : List Part) → T.has_taken first parts taker.old →
+        OnOk result (T.has_taken first (parts ++ IsStamped head (take 188 bytes.now) ∷ []) taker.new) }
+{
+    let Some(packet) = bytes.first_chunk::<188>() else {
+        unreachable!()
+    };
+    taker.take_stamped(head, packet)
+}
+
+// Takes the 188 bytes of a packet of another size, with the four bytes before it, if it has any.
+#[tactic(auto, unfolding(crate::specs::Captures::packet_with))]
+fn take_with<T: PartTaker>(
+    other: OtherPackets,
+    head: u32,
+    bytes: &[u8],
+    taker: &mut T,
+) -> Result<(), AllocError>
+    requires { length bytes.now ≡ 188 }
+    ensures { (first : T) (parts : List Part) → T.has_taken first parts taker.old →
+        OnOk result (T.has_taken first (parts ++ spec.packet_with other head (take 188 bytes.now) ∷ []) taker.new) }
+{
+    match other {
+        OtherPackets::Timed => take_stamped(head, bytes, taker),
+        OtherPackets::Corrected => take_plain(&bytes[..188], taker),
+    }
+}
+
 // Takes the packet of another size at a place of the bytes.
 fn take_other<T: PartTaker>(
     other: OtherPackets,
@@ -120,11 +171,15 @@ fn take_other<T: PartTaker>(
 ) -> Result<(), AllocError>
     requires { at + spec.size_of other ≤ length bytes.now }
     ensures { (first : T) (parts : List Part) → T.has_taken first parts taker.old →
-        OnOk result (T.has_taken first (parts ++ IsPacket (spec.packet_in other (drop at bytes.now)) ∷ []) taker.new) }
+        OnOk result (T.has_taken first (parts ++ spec.part_in other (drop at bytes.now) ∷ []) taker.new) }
 {
     let front = at + front_of(other);
-    let (packets, _) = bytes[front..front + PACKET_SIZE].as_chunks::<188>();
-    taker.take_packets(packets)
+    take_with(
+        other,
+        number_of(&bytes[at..at + 4]),
+        &bytes[front..front + PACKET_SIZE],
+        taker,
+    )
 }
 
 // Takes the parts of packets of 188 bytes that the bytes settle, and returns how many bytes these are.

@@ -10,10 +10,11 @@ use crate::job_fault::{JobFault, JobReadError};
 use crate::job_parts::parts_of;
 use description::Description;
 use description_keys::{DescError, DescFault};
-use plan_checker::{CheckedPlan, CheckedSwitch, Refusal, check, check_switch};
+use plan_checker::{CheckedPlan, Refusal, check};
 use slot_plan::{Plan, PlanTextError};
 use std::alloc::Global;
 use std::str;
+use switch_checker::{CheckedSwitch, check_switch};
 
 /// The plans of a job.
 #[derive(Drop)]

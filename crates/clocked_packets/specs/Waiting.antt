@@ -137,3 +137,17 @@ with_held q held = record q { held = held }
 -- at the end the last line goes on
 abbrev pub last_arrival : QueueState → Arrival
 last_arrival q = arrival_by q.before q.clock.line
+
+-- 5. The same of a stream that arrives by samples of another clock, which are given beside its packets: by the references of no PID
+
+abbrev pub no_pid : ℕ
+no_pid = 8191
+
+abbrev pub given_sample : Option PcrSample → Option (ℕ × PcrSample)
+given_sample sample = option_map (λ s. (no_pid, s)) sample
+
+abbrev pub released_with : QueueState → Option PcrSample → Option Arrival
+released_with q sample = released_by q (given_sample sample)
+
+abbrev pub stepped_with : QueueState → Option PcrSample → QueueState
+stepped_with q sample = stepped_by q (given_sample sample)

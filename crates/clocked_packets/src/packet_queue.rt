@@ -16,6 +16,9 @@ use ts_tables::NamedStreams;
 /// The most packets that wait.
 pub const MOST_WAITING: usize = 65_536;
 
+/// The PID of null packets, which has no clock references.
+const NO_PID: u16 = 8191;
+
 /// The PID of the clock references that time a stream's arrival.
 #[derive(Clone, Copy)]
 pub enum ClockPid {
@@ -96,6 +99,16 @@ fn program_pid(number: u16, named: &NamedStreams) -> ClockPid
         None => ClockPid::OfProgram(number),
         Some(_) => ClockPid::Known(named.clock_pid(number)),
     }
+}
+
+// The sample of a clock beside a packet, as a reference of no PID.
+fn given_sample(sample: Option<PcrSample>) -> Option<(u16, PcrSample)>
+    requires { IfSome sample IsInRange }
+    ensures value { result ≡ spec.given_sample sample }
+    ensures range { IfSome result (λ r. IsInRange r.1) }
+{
+    let sample = sample?;
+    Some((NO_PID, sample))
 }
 
 // How bytes arrive on these lines.
@@ -197,6 +210,16 @@ impl PacketQueue {
         let arrival = self.step(&reference);
         self.name(bytes)?;
         Ok(arrival)
+    }
+
+    /// Takes the sample of a clock beside the next packet, if there is one, in place of clock references, and returns
+    /// how the waiting packets arrive, if that is known now. The caller then takes them, and lets the packet wait.
+    pub fn take_sample(&mut self, sample: Option<PcrSample>) -> Option<Arrival>
+        requires { IfSome sample IsInRange }
+        ensures arrival { result ≡ spec.released_with self.old sample }
+        ensures queue { self.new ≡ spec.stepped_with self.old sample }
+    {
+        self.step(&given_sample(sample))
     }
 
     /// Forgets the waiting packets.

@@ -4,7 +4,7 @@ use Rattle.std.specs.Map.{lookup}
 use Rattle.std.proofs.lemmas.Bool.{le-leb, lt-leb}
 use Rattle.std.proofs.lemmas.List.{append_assoc, append-nil, drop_all, drop_more}
 use Rattle.demux.specs.Views.{FindingView}
-use Rattle.data_times.specs.declared.references.ClockReference.{ClockReference}
+use Rattle.packet_pcr.specs.declared.pcr_reading.FoundPcr.{FoundPcr}
 use Rattle.data_times.specs.DataTimes.{Clocks, LineView, SeenStamps, TimesView, data_pts, first_shown, moment_on, passed, passed_by, seen_after, seen_by}
 use Rattle.data_times.specs.DataTimes.{shown_if, timed_finding, timed_from, with_shown}
 
@@ -33,28 +33,28 @@ seen_all {X = X} view seen whole xs i all is =
 
 -- 2. Clocks
 
-pub shown_more : (clocks next : Clocks) (r : ClockReference) (rs all : List ClockReference) → all ≡ r ∷ rs →
+pub shown_more : (clocks next : Clocks) (r : FoundPcr) (rs all : List FoundPcr) → all ≡ r ∷ rs →
     next ≡ shown_if (lookup (nat_eq r.pid) clocks) clocks r → first_shown clocks all ≡ first_shown next rs
 unfolding first_shown
 shown_more clocks next r rs all first made = rw (first, made) refl
 
-pub shown_end : (clocks : Clocks) (rs : List ClockReference) → length rs ≡ 0 → first_shown clocks rs ≡ clocks
+pub shown_end : (clocks : Clocks) (rs : List FoundPcr) → length rs ≡ 0 → first_shown clocks rs ≡ clocks
 unfolding first_shown
 shown_end clocks [] none = refl
 shown_end clocks (r ∷ rs) none = absurd cc
 
-pub pass_more : (packet : ℕ) (clocks next : Clocks) (r : ClockReference) (rs all : List ClockReference) → all ≡ r ∷ rs → r.packet ≤ packet →
+pub pass_more : (packet : ℕ) (clocks next : Clocks) (r : FoundPcr) (rs all : List FoundPcr) → all ≡ r ∷ rs → r.packet ≤ packet →
     next ≡ with_shown clocks r →
     passed_by packet clocks all ≡ passed_by packet next rs
 unfolding passed_by
 pass_more packet clocks next r rs all first before made = rw (first, le-leb r.packet packet before, made) refl
 
-pub pass_stop : (packet : ℕ) (clocks : Clocks) (r : ClockReference) (rs all : List ClockReference) → all ≡ r ∷ rs → packet < r.packet →
+pub pass_stop : (packet : ℕ) (clocks : Clocks) (r : FoundPcr) (rs all : List FoundPcr) → all ≡ r ∷ rs → packet < r.packet →
     passed_by packet clocks all ≡ record { clocks = clocks; later = all }
 unfolding passed_by
 pass_stop packet clocks r rs all first after = rw (first, lt-leb r.packet packet after) refl
 
-pub pass_end : (packet : ℕ) (clocks : Clocks) (rs : List ClockReference) → length rs ≡ 0 → passed_by packet clocks rs ≡ record { clocks = clocks; later = rs }
+pub pass_end : (packet : ℕ) (clocks : Clocks) (rs : List FoundPcr) → length rs ≡ 0 → passed_by packet clocks rs ≡ record { clocks = clocks; later = rs }
 unfolding passed_by
 pass_end packet clocks [] none = refl
 pass_end packet clocks (r ∷ rs) none = absurd cc

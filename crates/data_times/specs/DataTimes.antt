@@ -15,7 +15,7 @@ use Rattle.stream_programs.specs.Association.{AssociationView, association}
 use Rattle.descriptor_loops.specs.Descriptors.{has_tag}
 use Rattle.stream_programs.specs.Programs.{FoundProgramView, FoundProgramsView, programs_of}
 use Rattle.stream_programs.specs.Streams.{FoundStreamView}
-use Rattle.data_times.specs.declared.references.ClockReference.{ClockReference}
+use Rattle.packet_pcr.specs.declared.pcr_reading.FoundPcr.{FoundPcr}
 
 -- 1. Which PIDs have such packets without stamps
 
@@ -52,25 +52,25 @@ is_unstamped seen pid = not (unwrap_or (lookup (nat_eq pid) seen) true)
 abbrev pub Clocks : Type 0
 Clocks = List (ℕ × ℕ)
 
-abbrev pub with_shown : Clocks → ClockReference → Clocks
+abbrev pub with_shown : Clocks → FoundPcr → Clocks
 with_shown clocks r = insert_entry nat_eq clocks r.pid r.base
 
 -- before the first reference of a clock it shows that one
-unfoldable pub shown_if : Option ℕ → Clocks → ClockReference → Clocks
+unfoldable pub shown_if : Option ℕ → Clocks → FoundPcr → Clocks
 shown_if None clocks r = with_shown clocks r
 shown_if (Some base) clocks r = clocks
 
-unfoldable pub first_shown : Clocks → List ClockReference → Clocks
+unfoldable pub first_shown : Clocks → List FoundPcr → Clocks
 first_shown clocks [] = clocks
 first_shown clocks (r ∷ rs) = first_shown (shown_if (lookup (nat_eq r.pid) clocks) clocks r) rs
 
 -- what they show, and the references of later packets
 pub record LineView : Type 0 where
   pub clocks : Clocks
-  pub later : List ClockReference
+  pub later : List FoundPcr
 
 -- when a packet comes
-unfoldable pub passed_by : ℕ → Clocks → List ClockReference → LineView
+unfoldable pub passed_by : ℕ → Clocks → List FoundPcr → LineView
 passed_by packet clocks [] = record { clocks = clocks; later = [] }
 passed_by packet clocks (r ∷ rs) = if nat_le r.packet packet then passed_by packet (with_shown clocks r) rs else record { clocks = clocks; later = r ∷ rs }
 
@@ -105,7 +105,7 @@ unfoldable pub programs_by : Option AssociationView → List FindingView → Fou
 programs_by None findings = programs_of [] findings
 programs_by (Some a) findings = programs_of a.programs findings
 
-abbrev pub times_of : List ClockReference → List FindingView → TimesView
+abbrev pub times_of : List FoundPcr → List FindingView → TimesView
 times_of references findings = record {
   programs = programs_by (association findings) findings;
   seen = seen_in findings;
@@ -158,9 +158,9 @@ unfoldable pub timed_from : TimesView → LineView → List FindingView → List
 timed_from t line [] = []
 timed_from t line (f ∷ fs) = timed_finding (moment_on t (passed f.packet line).clocks f.pid) f ∷ timed_from t (passed f.packet line) fs
 
-abbrev pub timed_by : TimesView → List ClockReference → List FindingView → List FindingView
+abbrev pub timed_by : TimesView → List FoundPcr → List FindingView → List FindingView
 timed_by t references findings = timed_from t (record { clocks = first_shown [] references; later = references }) findings
 
 -- the findings of a stream with these references
-abbrev pub timed : List ClockReference → List FindingView → List FindingView
+abbrev pub timed : List FoundPcr → List FindingView → List FindingView
 timed references findings = timed_by (times_of references findings) references findings

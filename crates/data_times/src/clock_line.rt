@@ -4,7 +4,7 @@ ghost use Rattle.std.specs.Prelude.{◌≡◌, [], IfOk, OnOk, nat_eq};
 ghost use Rattle.std.specs.Map.{lookup};
 ghost use Rattle.data_times.specs.DataTimes as spec;
 
-use crate::references::ClockReference;
+use packet_pcr::FoundPcr;
 use pid_map::PidMap;
 use std::alloc::{AllocError, Global};
 use std::marker::Model;
@@ -42,7 +42,7 @@ impl ShownClocks {
     }
 
     // A clock shows a reference.
-    fn show(&mut self, reference: ClockReference) -> Result<(), AllocError>
+    fn show(&mut self, reference: FoundPcr) -> Result<(), AllocError>
         ensures { OnOk result (self.new ≡ spec.with_shown self.old reference) }
     {
         self.shown.insert(reference.pid, reference.base)?;
@@ -51,7 +51,7 @@ impl ShownClocks {
 
     // A clock shows a reference, if it shows nothing yet.
     #[tactic(auto, unfolding(crate::specs::DataTimes::shown_if))]
-    fn show_if_none(&mut self, reference: ClockReference) -> Result<(), AllocError>
+    fn show_if_none(&mut self, reference: FoundPcr) -> Result<(), AllocError>
         ensures { OnOk result (self.new
             ≡ spec.shown_if (lookup (nat_eq reference.pid) self.old) self.old reference) }
     {
@@ -63,7 +63,7 @@ impl ShownClocks {
 
     /// Lets each clock show the first of these references that it has, if it shows nothing yet.
     #[tactic(auto, using(crate::proofs::PassedFindings::shown_more, crate::proofs::PassedFindings::shown_end))]
-    pub(crate) fn show_first(&mut self, references: &[ClockReference]) -> Result<(), AllocError>
+    pub(crate) fn show_first(&mut self, references: &[FoundPcr]) -> Result<(), AllocError>
         ensures { OnOk result (self.new ≡ spec.first_shown self.old references.now) }
     {
         let mut later = references;
@@ -80,8 +80,8 @@ impl ShownClocks {
 fn pass_all<'r>(
     packet: u64,
     clocks: &mut ShownClocks,
-    references: &'r [ClockReference],
-) -> Result<&'r [ClockReference], AllocError>
+    references: &'r [FoundPcr],
+) -> Result<&'r [FoundPcr], AllocError>
     ensures clocks { OnOk result (clocks.new ≡ (spec.passed_by packet clocks.old references.now).clocks) }
     ensures later { IfOk result (λ later. later.now ≡ (spec.passed_by packet clocks.old references.now).later) }
 {
@@ -100,7 +100,7 @@ fn pass_all<'r>(
 #[derive(Drop)]
 pub(crate) struct ClockLine<'r> {
     pub clocks: ShownClocks,
-    pub later: &'r [ClockReference],
+    pub later: &'r [FoundPcr],
 }
 
 // A contract sees the references as a list.

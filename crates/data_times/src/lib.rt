@@ -6,6 +6,7 @@
 //! - [`ReferenceLog`]: the clock references in bytes that come (`specs/References`).
 //! - [`text_times`], [`TextTimes`]: which PIDs have such teletext, and the findings of a stream, each PES packet of it with its
 //!   moment as PTS (`specs/DataTimes`).
+//! - [`programs_in`], [`stream_on`], [`pcr_of`]: the programs of a stream, and their clocks.
 //! - [`others_stay`]: what is found of other PIDs stays as it is.
 #![tactic(auto)]
 
@@ -16,5 +17,5 @@ mod seen_stamps;
 mod timing;
 
 pub use laws::others_stay;
-pub use references::{ClockReference, ReferenceLog};
-pub use timing::{TextTimes, text_times};
+pub use references::ReferenceLog;
+pub use timing::{TextTimes, pcr_of, programs_in, stream_on, text_times};

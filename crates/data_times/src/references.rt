@@ -1,80 +1,12 @@
 //! The clock references of packets (ISO/IEC 13818-1, 2.4.3.4 and 2.4.3.5), while bytes come.
 
-ghost use Rattle.std.specs.Prelude.{◌≡◌, ◌≤◌, ◌<◌, ◌+◌, ◌++◌, ◌∷◌, [], IfOk, OnOk, Result, length, option_map, take};
-ghost use Rattle.bit_fields.specs.Reading.{Gives};
-ghost use Rattle.ts_packet.specs.Views.{PacketView, adaptation_view, field_view, packet_view};
-ghost use Rattle.ts_packet.specs.declared.packet.PacketError.{PacketError};
+ghost use Rattle.std.specs.Prelude.{◌≡◌, ◌≤◌, ◌<◌, ◌+◌, ◌++◌, ◌∷◌, [], IfOk, OnOk, length, take};
 ghost use Rattle.data_times.specs.References as spec;
 
 use arrayvec::ArrayVec;
+use packet_pcr::{FoundPcr, pcr_at};
 use std::alloc::{AllocError, Global};
 use std::marker::Model;
-use ts_packet::{Adaptation, AdaptationField, Packet, PacketError, read_packet};
-
-/// A clock reference.
-#[derive(Clone, Copy)]
-pub struct ClockReference {
-    /// The packet's index in the stream.
-    pub packet: u64,
-    /// Its PID.
-    pub pid: u16,
-    /// program_clock_reference_base, in units of 90 kHz.
-    pub base: u64,
-}
-
-// The clock reference of an adaptation field.
-#[tactic(auto, unfolding(crate::specs::References::reference_with))]
-fn reference_in_field(packet: u64, pid: u16, parts: &AdaptationField<'_>) -> Option<ClockReference>
-    ensures { result ≡ spec.reference_in_field packet pid (field_view parts.now) }
-{
-    let pcr = parts.pcr?;
-    Some(ClockReference {
-        packet,
-        pid,
-        base: pcr.base,
-    })
-}
-
-// The clock reference that may be in an adaptation field.
-#[tactic(auto, unfolding(crate::specs::References::reference_in))]
-fn reference_in(
-    packet: u64,
-    pid: u16,
-    adaptation: &Option<Adaptation<'_>>,
-) -> Option<ClockReference>
-    ensures { result ≡ spec.reference_in packet pid (option_map adaptation_view adaptation.now) }
-{
-    match adaptation {
-        None => None,
-        Some(Adaptation::Empty) => None,
-        Some(Adaptation::Flagged(parts)) => reference_in_field(packet, pid, parts),
-    }
-}
-
-// The clock reference of a packet, as it was read.
-#[tactic(auto, unfolding(crate::specs::References::reference_read))]
-fn reference_read(index: u64, read: &Result<Packet<'_>, PacketError>) -> Option<ClockReference>
-    ensures { (packet : Result PacketView PacketError) → Gives packet_view read.now packet →
-        result ≡ spec.reference_read index packet }
-{
-    match read {
-        Err(_) => None,
-        Ok(packet) => {
-            if packet.header.transport_error_indicator {
-                return None;
-            }
-            reference_in(index, packet.header.pid, &packet.adaptation)
-        }
-    }
-}
-
-// That of the bytes of a packet.
-fn reference_at(index: u64, bytes: &[u8; 188]) -> Option<ClockReference>
-    ensures { result ≡ spec.reference_at index bytes.now }
-{
-    let read = read_packet(bytes);
-    reference_read(index, &read)
-}
 
 // Held bytes and the last one, which make a packet whole.
 fn joined(held: &[u8], last: u8) -> [u8; 188]
@@ -99,7 +31,7 @@ fn joined(held: &[u8], last: u8) -> [u8; 188]
 pub struct ReferenceLog {
     packets: u64,
     held: ArrayVec<u8, 187>,
-    found: Vec<ClockReference>,
+    found: Vec<FoundPcr>,
 }
 
 // A contract sees its parts as lists.
@@ -124,7 +56,7 @@ impl ReferenceLog {
     }
 
     /// Returns the references, in the order of their packets.
-    pub fn into_references(self) -> Vec<ClockReference>
+    pub fn into_references(self) -> Vec<FoundPcr>
         ensures { result.items ≡ self.found }
     {
         self.found
@@ -134,7 +66,7 @@ impl ReferenceLog {
     fn take_packet(&mut self, bytes: &[u8; 188]) -> Result<(), AllocError>
         ensures { OnOk result (self.new ≡ spec.with_packet self.old bytes.now) }
     {
-        if let Some(reference) = reference_at(self.packets, bytes) {
+        if let Some(reference) = pcr_at(self.packets, bytes) {
             self.found.push(reference)?;
         }
         self.packets = self.packets.saturating_add(1);

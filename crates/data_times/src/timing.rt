@@ -6,10 +6,10 @@ ghost use Rattle.stream_programs.specs.Association.{association};
 ghost use Rattle.data_times.specs.DataTimes as spec;
 
 use crate::clock_line::{ClockLine, ShownClocks};
-use crate::references::ClockReference;
 use crate::seen_stamps::{PRIVATE_STREAM, SeenStamps, seen_in};
 use demux::{Finding, Kind, What};
 use descriptor_loops::has_tag;
+use packet_pcr::FoundPcr;
 use pes_packet::{PesHeader, Stamps};
 use std::alloc::{AllocError, Global};
 use std::collections::VecDeque;
@@ -26,16 +26,16 @@ fn program_of(programs: &[FoundProgram], number: u16) -> Option<&FoundProgram>
     programs.iter().find(|program| program.number == number)
 }
 
-// The first of some streams that has a PID.
-fn stream_on(streams: &[FoundStream], pid: u16) -> Option<&FoundStream>
+/// Returns the first of some streams that has a PID.
+pub fn stream_on(streams: &[FoundStream], pid: u16) -> Option<&FoundStream>
     ensures { option_map (λ s. s.now) result ≡ find (λ s. s.pid == pid) streams.now }
 {
     streams.iter().find(|stream| stream.pid == pid)
 }
 
-// The PID of the references of a program's clock.
+/// Returns the PID of the references of a program's clock (ISO/IEC 13818-1, 2.4.4.9).
 #[tactic(auto, unfolding(crate::specs::DataTimes::pcr_if))]
-fn pcr_of(programs: &[FoundProgram], number: u16) -> Option<u16>
+pub fn pcr_of(programs: &[FoundProgram], number: u16) -> Option<u16>
     ensures { result ≡ spec.pcr_if (find (λ p. p.number == number) programs.now) }
 {
     match program_of(programs, number) {
@@ -140,9 +140,9 @@ fn timed_finding<'a>(moment: Option<u64>, finding: Finding<'a>) -> Finding<'a>
     }
 }
 
-// The programs that the tables name.
+/// Returns the programs that the tables in findings name.
 #[tactic(auto, unfolding(crate::specs::DataTimes::programs_by))]
-fn programs_in(alloc: Global, findings: &[Finding<'_>]) -> Result<FoundPrograms, AllocError>
+pub fn programs_in(alloc: Global, findings: &[Finding<'_>]) -> Result<FoundPrograms, AllocError>
     ensures { IfOk result (λ found. found
         ≡ spec.programs_by (association (map finding_view findings.now)) (map finding_view findings.now)) }
 {
@@ -153,7 +153,7 @@ fn programs_in(alloc: Global, findings: &[Finding<'_>]) -> Result<FoundPrograms,
 }
 
 // What clocks with these references show first.
-fn first_shown(alloc: Global, references: &[ClockReference]) -> Result<ShownClocks, AllocError>
+fn first_shown(alloc: Global, references: &[FoundPcr]) -> Result<ShownClocks, AllocError>
     ensures { IfOk result (λ clocks. clocks ≡ spec.first_shown [] references.now) }
 {
     let mut clocks = ShownClocks::new(alloc);
@@ -181,7 +181,7 @@ impl Model for TextTimes {
 /// Returns that of the findings of a stream with these clock references.
 pub fn text_times(
     alloc: Global,
-    references: &[ClockReference],
+    references: &[FoundPcr],
     findings: &[Finding<'_>],
 ) -> Result<TextTimes, AllocError>
     ensures { IfOk result (λ t. t ≡ spec.times_of references.now (map finding_view findings.now)) }
@@ -254,7 +254,7 @@ impl TextTimes {
     pub fn time_all(
         &self,
         alloc: Global,
-        references: &[ClockReference],
+        references: &[FoundPcr],
         findings: Vec<Finding<'static>>,
     ) -> Result<Vec<Finding<'static>>, AllocError>
         ensures { IfOk result (λ timed. map finding_view timed.items

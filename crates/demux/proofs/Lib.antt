@@ -21,3 +21,5 @@ pub mod StreamBodies
 pub mod LeftOut
 pub mod LeftOutStates
 pub mod HeaderSteps
+pub mod KeptBodies
+pub mod KeptStates

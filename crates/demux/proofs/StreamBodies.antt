@@ -113,7 +113,7 @@ findings_same index bytes states (Ok packet) =
 
 -- 2. A stream
 
-what_again : (w : WhatView) → without_body (without_body w) ≡ without_body w
+pub what_again : (w : WhatView) → without_body (without_body w) ≡ without_body w
 what_again (IsPes header unended body) = ap (IsPes header unended) (zeros_again body)
 what_again (IsTruncated bytes) = ap IsTruncated (zeros_again bytes)
 what_again IsDuplicate = refl

@@ -11,3 +11,4 @@ pub mod Stream
 pub mod Laws
 pub mod FoundSoFar
 pub mod Bodies
+pub mod KeptBodies

@@ -7,6 +7,7 @@ ghost use Rattle.ts_packet.specs.Reading.{packet_at};
 ghost use Rattle.ts_packet.specs.Views.{packet_view};
 ghost use Rattle.demux.specs.GoingOn.{plain_view};
 ghost use Rattle.demux.specs.Bodies.{bodies_left_out};
+ghost use Rattle.demux.specs.KeptBodies.{bodies_left_out_but};
 ghost use Rattle.demux.specs.Findings.{ended};
 ghost use Rattle.demux.specs.Machine.{PidState};
 ghost use Rattle.demux.specs.Stream as stream;
@@ -310,6 +311,14 @@ impl<A: Allocator + Copy> Demux<A> {
         ensures { self.new ≡ bodies_left_out self.old }
     {
         self.states.leave_out_bodies();
+    }
+
+    /// Leaves out the bodies of the open PES packets as `leave_out_bodies` does, but those of these PIDs. What is found
+    /// of these is then the same as before (`others_decide_nothing`).
+    pub fn leave_out_other_bodies(&mut self, kept: &[u16])
+        ensures { self.new ≡ bodies_left_out_but kept.now self.old }
+    {
+        self.states.leave_out_other_bodies(kept);
     }
 
     /// Returns the number of PIDs of the stream so far, without the null packets' PID.

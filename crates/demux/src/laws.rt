@@ -1,6 +1,7 @@
 //! Laws of the definitions. Each function does nothing: its contract is the law.
 
 ghost use Rattle.demux.specs.Bodies.{BodiesDecideNothing, FewAreKept, HeadersAlone, HeadersAreFound, NoHeadersAtFirst};
+ghost use Rattle.demux.specs.KeptBodies.{OthersDecideNothing};
 ghost use Rattle.demux.specs.Laws.{EachPidAlone, PacketsDecide, PiecesJoin, TakenAsPushed};
 ghost use Rattle.demux.specs.Machine.{RunFindsAll};
 ghost use Rattle.demux.specs.FoundSoFar.{AllAreFound, NothingAtFirst, PacketAdds, PacketsAdd, PidFoundSoFar, PieceAdds};
@@ -57,4 +58,10 @@ pub fn headers_alone()
     ensures at_first { NoHeadersAtFirst }
     ensures found { HeadersAreFound }
     ensures few { FewAreKept }
+{}
+
+/// States that the bodies of open PES packets of all PIDs but some may be left out at any time: later findings and
+/// states are the same besides bodies of other PIDs.
+pub fn others_decide_nothing()
+    ensures { OthersDecideNothing }
 {}

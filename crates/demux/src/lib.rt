@@ -32,7 +32,7 @@ pub use going_on::pid_in;
 pub use headers::HeaderDemux;
 pub use last::Last;
 pub use laws::{
-    each_pid_alone, each_pid_so_far, headers_alone, nothing_is_lost, packet_by_packet,
-    packets_decide, pieces_join, taken_as_pushed,
+    each_pid_alone, each_pid_so_far, headers_alone, nothing_is_lost, others_decide_nothing,
+    packet_by_packet, packets_decide, pieces_join, taken_as_pushed,
 };
 pub use marks::{Mark, keep, mark_of};

@@ -2,6 +2,7 @@
 ghost use Rattle.std.specs.Prelude.{◌≡◌, ◌<◌, ◌++◌, [], ℕ, Some, None, OnOk, OnErr, map, false, true, length, slice_get, nat_eq};
 ghost use Rattle.indexmap.specs.IndexMap.{index_map_len, get, values, set_value_at};
 ghost use Rattle.demux.specs.Bodies.{state_without_body, states_without_bodies};
+ghost use Rattle.demux.specs.KeptBodies.{is_kept, state_if, states_but};
 ghost use Rattle.demux.specs.Machine as machine;
 ghost use Rattle.demux.specs.Stream.{ended_found, state_of, with_state};
 ghost use Rattle.demux.specs.Shown.{Finds, KeepsFindings, entry_with, finding_view, KeepsJoined, IsPayloadOf};
@@ -128,6 +129,41 @@ fn leave_out_each<A: Allocator + Copy>(states: &mut PidMap<PidState<A>, A>)
     }
 }
 
+// Returns whether the PID of an entry is among these.
+fn is_kept_at<A: Allocator>(states: &PidEntries<PidState<A>, A>, index: usize, kept: &[u16]) -> bool
+    ensures { (entry : ℕ × machine.PidState) → slice_get states.now.entries index ≡ Some entry →
+        result ≡ is_kept kept.now entry.0 }
+{
+    match states.get_index(index) {
+        None => false,
+        Some((pid, _)) => kept.contains(pid),
+    }
+}
+
+// Leaves out the body of the open PES packet of an entry, if its PID is not among these.
+fn leave_out_unless<A: Allocator + Copy>(
+    states: &mut PidMap<PidState<A>, A>,
+    index: usize,
+    kept: &[u16],
+)
+    requires there { index < index_map_len states.old }
+    ensures states { (entry : ℕ × machine.PidState) → slice_get states.old.entries index ≡ Some entry →
+        states.new.entries ≡ set_value_at states.old.entries index (state_if (is_kept kept.now entry.0) entry.1) }
+{
+    if !is_kept_at(states.entries(), index, kept) {
+        leave_out_at(states, index);
+    }
+}
+
+// Leaves out the bodies of the open PES packets of all PIDs but these.
+fn leave_out_others<A: Allocator + Copy>(states: &mut PidMap<PidState<A>, A>, kept: &[u16])
+    ensures { states.new.entries ≡ states_but kept.now states.old.entries }
+{
+    for i in 0..states.entries().len() {
+        leave_out_unless(states, i, kept);
+    }
+}
+
 // What the end of the stream decides of a PID.
 fn end_at<'a, A: Allocator + Copy>(
     states: &PidEntries<PidState<A>, A>,
@@ -240,6 +276,13 @@ impl<A: Allocator + Copy> States<A> {
         ensures { self.new ≡ states_without_bodies self.old }
     {
         leave_out_each(&mut self.by_pid);
+    }
+
+    /// Leaves out the bodies of the open PES packets of all PIDs but these.
+    pub fn leave_out_other_bodies(&mut self, kept: &[u16])
+        ensures { self.new ≡ states_but kept.now self.old }
+    {
+        leave_out_others(&mut self.by_pid, kept);
     }
 
     /// Returns the number of PIDs.

@@ -94,8 +94,9 @@ fn text_seconds(text: &[u8]) -> Option<i64>
     )
 }
 
-// The moment that a text names.
-fn moment_of(text: &[u8]) -> Option<u64>
+/// Returns the moment that a text names, in seconds since 1970: YYYY-MM-DDThh:mm:ss, a day of the calendar and a time
+/// of the day to 2037; `None` if the text names none.
+pub fn moment_of(text: &[u8]) -> Option<u64>
     ensures { result ≡ moment_of text.now }
 {
     if !has_time_shape(text) {

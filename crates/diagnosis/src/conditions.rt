@@ -29,8 +29,8 @@ fn write_spread(
     write_claim("spread", refusal.right, refusal.left, text)
 }
 
-// Appends the line of a condition on two plans.
-fn write_switch(refusal: Refusal, text: &mut String) -> Result<(), AllocError>
+/// Appends the line of a condition on two plans.
+pub fn write_switch(refusal: Refusal, text: &mut String) -> Result<(), AllocError>
     ensures { OnOk result (string_bytes text.new ≡ string_bytes text.old ++ spec.switch_line (entry_of refusal)) }
 {
     let Refusal {

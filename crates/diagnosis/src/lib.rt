@@ -31,7 +31,7 @@ mod stream_numbers;
 mod toml_note;
 mod unknown_words;
 
-pub use conditions::write_conditions;
+pub use conditions::{write_conditions, write_switch};
 pub use explaining::explain;
 pub use fault_lines::write_fault;
 pub use reasons::write_reasons;

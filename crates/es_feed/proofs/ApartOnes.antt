@@ -4,14 +4,15 @@ use Rattle.std.specs.Option.{option_to_list}
 use Rattle.std.proofs.lemmas.Bool.Decides.{nat_tests}
 use Rattle.demux.specs.Views.{FindingView}
 use Rattle.es_units.specs.ApartSteps.{is_same_after, set_apart}
-use Rattle.es_units.specs.ApartUnits.{has_same, is_same_next}
-use Rattle.es_units.specs.CarriedUnits.{CarriedUnit, RoleView, Ignored, Start, Continuation, Interruption, end_of, is_cut, role_of, with_more}
+use Rattle.es_moments.specs.ApartUnits.{has_same, is_same_next}
+use Rattle.es_units.specs.CarriedUnits.{RoleView, Ignored, Start, Continuation, Interruption, end_of, is_cut, role_of, with_more}
 use Rattle.es_units.specs.UnitSteps.{after_finding, ended_unit, goes_on_as, has_id, lengthened, made_whole}
 use Rattle.es_units.proofs.ApartSteps.{set_own}
 use Rattle.es_feed.specs.EachStream.{next_starts}
-use Rattle.es_feed.specs.Feeding.{FedStreamView, made_by, same_by, unit_after, whole_by}
+use Rattle.fed_streams.specs.Feeding.{FedStreamView, made_by, same_by, unit_after, whole_by}
 use Rattle.es_feed.proofs.OwnUnits.{AreAlone, follows, more_as, next_uncut, so_far, to_come, to_come_last}
-use Rattle.es_feed.proofs.UncutUnits.{past_cut, past_here, under_cut}
+use Rattle.fed_streams.proofs.UncutUnits.{past_cut, past_here, under_cut}
+use Rattle.es_moments.specs.WireUnits.{CarriedUnit}
 
 -- 1. The unit under way is the first that comes, where it has bytes and is not cut
 

@@ -11,24 +11,24 @@ use Rattle.demux.specs.FoundSoFar.{FoundSoFar, found_in_all, taken_all}
 use Rattle.demux.specs.Views.{FindingView}
 use Rattle.demux.proofs.FoundSoFar.{all_are_found, nothing_at_first, packets_add}
 use Rattle.packet_sync.specs.Slips.{carried}
-use Rattle.es_units.specs.ApartUnits.{apart_from, apart_units}
-use Rattle.es_units.specs.CarriedUnits.{CarriedUnit}
-use Rattle.es_units.specs.Stamps.{moved}
+use Rattle.es_moments.specs.ApartUnits.{apart_from, apart_units}
+use Rattle.es_moments.specs.Stamps.{moved}
 use Rattle.es_units.specs.UnitSteps.{none_so_far}
-use Rattle.es_feed.specs.Clocks.{pcr_at}
+use Rattle.packet_pcr.specs.PacketPcr.{pcr_at}
 use Rattle.es_feed.specs.EachStream.{AreFirst, BeginsAt, EachRises, FedByOneConstant, ReleasesRise, RiseFrom, fed_stream, found_of_all, have_fault, units_fed}
-use Rattle.es_feed.specs.Feeding.{Fed, FedStreamView, FeedView, after_all, after_one, fed_all, fed_one, fed_to_end, feed_first}
+use Rattle.fed_streams.specs.Feeding.{Fed, FedStreamView, FeedView, after_all, after_one, fed_all, fed_one, fed_to_end, feed_first}
 use Rattle.es_feed.specs.StreamFeeding.{after_cut, fed_of, is_packet}
-use Rattle.es_feed.specs.Ticks.{after_packets, after_pcr, fed_packets, fed_pcr}
-use Rattle.es_feed.specs.Maps.{MapView}
-use Rattle.es_feed.specs.declared.found_pcr.FoundPcr.{FoundPcr}
+use Rattle.fed_streams.specs.Ticks.{after_packets, after_pcr, fed_packets, fed_pcr}
+use Rattle.fed_streams.specs.Maps.{MapView}
+use Rattle.packet_pcr.specs.declared.pcr_reading.FoundPcr.{FoundPcr}
 use Rattle.es_feed.proofs.FedEach.{Event, Finds, Shows, after_event, coming, fed_event, fed_events, finds, found_by}
 use Rattle.es_feed.proofs.FedFirst.{AreUnfed, AreWaiting, MovedByFirst, first_moved}
 use Rattle.es_feed.proofs.FedPackets.{marked_both, packet_marking, packets_marking}
 use Rattle.es_feed.proofs.FedRises.{rise_on}
-use Rattle.es_feed.proofs.ListedStreams.{AreKeys, Key, key, keys}
+use Rattle.fed_streams.proofs.ListedStreams.{AreKeys, Key, key, keys}
 use Rattle.es_feed.proofs.OwnUnits.{AreAlone, alone_first, come_carried, to_come}
 use Rattle.given_marks.specs.Marking.{MarkingView, all_marked}
+use Rattle.es_moments.specs.WireUnits.{CarriedUnit}
 
 -- 1. Packets as findings and clock references
 

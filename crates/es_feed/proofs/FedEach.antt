@@ -6,23 +6,24 @@ use Rattle.std.proofs.lemmas.Bool.Decides.{eqb_tells}
 use Rattle.demux.specs.Laws.{has_pid}
 use Rattle.demux.specs.Views.{FindingView}
 use Rattle.es_units.specs.ApartSteps.{place_past, set_apart}
-use Rattle.es_units.specs.ApartUnits.{apart_from, is_same_next}
-use Rattle.es_units.specs.CarriedUnits.{CarriedUnit, role_of}
-use Rattle.es_units.specs.Stamps.{dts_after, moved}
+use Rattle.es_moments.specs.ApartUnits.{apart_from, is_same_next}
+use Rattle.es_units.specs.CarriedUnits.{role_of}
+use Rattle.es_moments.specs.Stamps.{dts_after, moved}
 use Rattle.es_units.specs.UnitSteps.{UnitsSoFar, after_finding, ended_unit, goes_on_as, made_whole}
 use Rattle.es_units.proofs.ApartSteps.{Soon, dts_past, given_first, set_own}
 use Rattle.es_feed.specs.EachStream.{have_fault, units_fed}
-use Rattle.es_feed.specs.Feeding.{Fed, FedStreamView, FeedView, after_found, after_one, before_with, fed_ends, fed_one, fed_with}
-use Rattle.es_feed.specs.Feeding.{made_by, place_from, same_by, stream_with, whole_by}
-use Rattle.es_feed.specs.Ticks.{after_own, fed_own, without_unit}
-use Rattle.es_feed.specs.declared.found_pcr.FoundPcr.{FoundPcr}
+use Rattle.fed_streams.specs.Feeding.{Fed, FedStreamView, FeedView, after_found, after_one, before_with, fed_ends, fed_one, fed_with}
+use Rattle.fed_streams.specs.Feeding.{made_by, place_from, same_by, stream_with, whole_by}
+use Rattle.fed_streams.specs.Ticks.{after_own, fed_own, without_unit}
+use Rattle.packet_pcr.specs.declared.pcr_reading.FoundPcr.{FoundPcr}
 use Rattle.es_feed.proofs.ApartOnes.{same_alone}
 use Rattle.es_feed.proofs.GivenSoon.{given_soon}
 use Rattle.es_feed.proofs.OneStream.{fixed, other_role}
 use Rattle.es_feed.proofs.FedSteps.{Gives, HasBase, Out, Rests, clock_out, finding_gives, finding_rests, fixes_fixed, given_before, given_others}
 use Rattle.es_feed.proofs.FedSteps.{given_units, units_in}
-use Rattle.es_feed.proofs.ListedStreams.{AreKeys, Key, get_set_other, get_set_same, key, key_at, keys, not_placed, placed, set_keys}
+use Rattle.fed_streams.proofs.ListedStreams.{AreKeys, Key, get_set_other, get_set_same, key, key_at, keys, not_placed, placed, set_keys}
 use Rattle.es_feed.proofs.OwnUnits.{AreAlone, alone_after, alone_without, to_come, to_come_early, to_come_more}
+use Rattle.es_moments.specs.WireUnits.{CarriedUnit}
 
 -- 1. Findings and clock references
 

@@ -4,17 +4,17 @@ use Rattle.std.specs.Option.{option_to_list}
 use Rattle.std.proofs.lemmas.Grind.{flat_map-append}
 use Rattle.std.proofs.lemmas.List.{append-nil}
 use Rattle.pes_packet.specs.AccessUnits.{AccessUnit}
-use Rattle.es_units.specs.CarriedUnits.{CarriedUnit}
-use Rattle.es_units.specs.Stamps.{moved}
+use Rattle.es_moments.specs.Stamps.{moved}
 use Rattle.es_units.specs.UnitSteps.{ended_unit}
 use Rattle.es_units.proofs.ApartSteps.{Soon}
 use Rattle.es_feed.specs.EachStream.{fed_if, have_fault, units_fed}
-use Rattle.es_feed.specs.Feeding.{FedStreamView, fed_by, fed_last, origin_after}
-use Rattle.es_feed.specs.declared.due.Due.{Due}
-use Rattle.es_feed.specs.declared.origin.Origin.{Origin}
+use Rattle.fed_streams.specs.Feeding.{FedStreamView, fed_by, fed_last, origin_after}
+use Rattle.fed_streams.specs.declared.due.Due.{Due}
+use Rattle.fed_streams.specs.declared.origin.Origin.{Origin}
 use Rattle.es_feed.proofs.GivenSoon.{given_soon}
 use Rattle.es_feed.proofs.OneStream.{fixed}
 use Rattle.es_feed.proofs.FedSteps.{fault_split, fixes_fixed, given_others, given_units, units_in}
+use Rattle.es_moments.specs.WireUnits.{CarriedUnit}
 
 -- the last unit of each stream, in the order of the streams
 

@@ -5,24 +5,24 @@ use Rattle.std.specs.Option.{option_to_list}
 use Rattle.std.proofs.lemmas.Bool.Decides.{eqb_tells}
 use Rattle.std.proofs.lemmas.Option.{slice_get_within}
 use Rattle.pes_packet.specs.AccessUnits.{AccessUnit}
-use Rattle.es_units.specs.CarriedUnits.{CarriedUnit}
-use Rattle.es_units.specs.Stamps.{distance, dts_at, moved, unit_at}
+use Rattle.es_moments.specs.Stamps.{distance, dts_at, moved, unit_at}
 use Rattle.es_units.specs.UnitSteps.{ended_unit}
 use Rattle.es_units.proofs.ApartSteps.{Soon}
 use Rattle.es_feed.specs.EachStream.{BeginsAt, have_fault, units_fed}
-use Rattle.es_feed.specs.Feeding.{Fed, FedStreamView, FeedView, at_moment, before_with, base_of, due_of, fed_ends, fed_last, fed_with, origin_after}
-use Rattle.es_feed.specs.Feeding.{stream_with}
-use Rattle.es_feed.specs.Origins.{no_origin}
-use Rattle.es_feed.specs.declared.due.Due.{Due}
-use Rattle.es_feed.specs.declared.origin.Origin.{Origin}
+use Rattle.fed_streams.specs.Feeding.{Fed, FedStreamView, FeedView, at_moment, before_with, base_of, due_of, fed_ends, fed_last, fed_with, origin_after}
+use Rattle.fed_streams.specs.Feeding.{stream_with}
+use Rattle.fed_streams.specs.Origins.{no_origin}
+use Rattle.fed_streams.specs.declared.due.Due.{Due}
+use Rattle.fed_streams.specs.declared.origin.Origin.{Origin}
 use Rattle.es_feed.proofs.OneStream.{fixed}
 use Rattle.es_feed.proofs.FedSteps.{Fixes, HasBase, fault_split, fixes_first, fixes_fixed, given_ok, units_in}
 use Rattle.es_feed.proofs.FedEach.{Event, Step, StepGives, StepRests, after_event, fed_event, fed_events, finds, gives_by, rests_on, step}
 use Rattle.es_feed.proofs.FedEach.{step_advances, step_fixed, step_keys}
 use Rattle.es_feed.proofs.FedEnds.{AreFrom, last_moved, last_soon, units_of_all}
 use Rattle.es_feed.proofs.FedMoved.{IsMoved, advance_moved, coming_last}
-use Rattle.es_feed.proofs.ListedStreams.{AreKeys, Key, get_set_other, get_set_same, key, key_at, keys}
+use Rattle.fed_streams.proofs.ListedStreams.{AreKeys, Key, get_set_other, get_set_same, key, key_at, keys}
 use Rattle.es_feed.proofs.OwnUnits.{AreAlone}
+use Rattle.es_moments.specs.WireUnits.{CarriedUnit}
 
 -- 1. Once it is fixed
 

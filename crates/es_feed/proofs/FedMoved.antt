@@ -4,18 +4,18 @@ use Rattle.std.specs.Option.{option_to_list}
 use Rattle.std.proofs.lemmas.Grind.{flat_map-append}
 use Rattle.std.proofs.lemmas.List.{map-append}
 use Rattle.pes_packet.specs.AccessUnits.{AccessUnit}
-use Rattle.es_units.specs.ApartUnits.{apart_from}
-use Rattle.es_units.specs.CarriedUnits.{CarriedUnit}
-use Rattle.es_units.specs.Stamps.{dts_after, moved}
+use Rattle.es_moments.specs.ApartUnits.{apart_from}
+use Rattle.es_moments.specs.Stamps.{dts_after, moved}
 use Rattle.es_units.specs.UnitSteps.{ended_unit}
 use Rattle.es_units.proofs.ApartSteps.{Soon, apart_last}
 use Rattle.es_units.proofs.MovedUnits.{moved_in_turn}
 use Rattle.es_feed.specs.EachStream.{fed_if, units_fed}
-use Rattle.es_feed.specs.Feeding.{Fed, FedStreamView, FeedView}
+use Rattle.fed_streams.specs.Feeding.{Fed, FedStreamView, FeedView}
 use Rattle.es_feed.proofs.FedEach.{Advances, Event, after_event, coming, fed_event, fed_events, finds}
 use Rattle.es_feed.proofs.FedEnds.{units_of_all}
 use Rattle.es_feed.proofs.FedSteps.{units_in}
 use Rattle.es_feed.proofs.OwnUnits.{to_come_last}
+use Rattle.es_moments.specs.WireUnits.{CarriedUnit}
 
 units_more : (base k : ℕ) (before after : Option ℕ) (given : Option CarriedUnit) (all later : List CarriedUnit) (fed more : List Fed) →
     units_fed k fed ≡ moved base before (units_in given) →

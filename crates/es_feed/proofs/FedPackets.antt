@@ -11,18 +11,21 @@ use Rattle.ts_packet.specs.PidList.{cut_packets}
 use Rattle.ts_packet.proofs.Listing.{first_cut}
 use Rattle.demux.specs.Stream.{StreamState, finished, found_in, pushed, taken}
 use Rattle.demux.specs.FoundSoFar.{found_in_all, taken_all}
+use Rattle.demux.specs.KeptBodies.{bodies_left_out_but}
 use Rattle.demux.specs.Views.{FindingView}
-use Rattle.es_feed.specs.Clocks.{is_on, pcr_at}
-use Rattle.es_feed.specs.Maps.{MapView}
-use Rattle.es_feed.specs.declared.found_pcr.FoundPcr.{FoundPcr}
-use Rattle.es_feed.specs.Feeding.{Fed, FedStreamView, FeedView, after_at, after_all, after_one, after_place, fed_all, fed_ends, fed_to_end, greatest_of}
-use Rattle.es_feed.specs.Feeding.{place_from, watched}
+use Rattle.packet_pcr.specs.PacketPcr.{is_on, pcr_at}
+use Rattle.fed_streams.specs.Maps.{MapView}
+use Rattle.packet_pcr.specs.declared.pcr_reading.FoundPcr.{FoundPcr}
+use Rattle.fed_streams.specs.Feeding.{Fed, FedStreamView, FeedView, after_at, after_all, after_one, after_place, fed_all, fed_ends, fed_to_end, greatest_of}
+use Rattle.fed_streams.specs.Feeding.{place_from, watched}
 use Rattle.es_feed.specs.Laws.{FedWithoutClock}
-use Rattle.es_feed.specs.Maps.{clock_pid, map_from, set_place}
-use Rattle.es_feed.specs.StreamFeeding.{PacketFeedView, TakesPackets, fed_rest, is_packet}
-use Rattle.es_feed.specs.Ticks.{after_end_at, after_late, after_own, after_packet, after_packets, after_passed, after_pcr, after_shown, after_tick, fed_packet}
-use Rattle.es_feed.specs.Ticks.{fed_packets, fed_pcr, is_tick, late_in, passed_from, with_shown, with_tick}
-use Rattle.es_feed.proofs.FedUnits.{in_turn}
+use Rattle.fed_streams.specs.Maps.{clock_pid, map_from, set_place}
+use Rattle.es_feed.specs.StreamFeeding.{AreAlike, PacketFeedView, TakesPackets, fed_rest, is_packet, stream_pids}
+use Rattle.es_feed.proofs.AlikeStreams.{after_alike, alike_as, fed_alike, packets_pids, taken_alike}
+use Rattle.fed_streams.specs.Ticks.{after_end_at, after_late, after_own, after_packet, after_packets, after_passed, after_pcr, after_shown, after_tick}
+use Rattle.fed_streams.specs.Ticks.{fed_packet}
+use Rattle.fed_streams.specs.Ticks.{fed_packets, fed_pcr, is_tick, late_in, passed_from, with_shown, with_tick}
+use Rattle.fed_streams.proofs.FedUnits.{in_turn}
 use Rattle.given_marks.specs.Marking.{MarkingView, all_marked, marked}
 
 -- 1. Packets after others
@@ -67,7 +70,7 @@ pub record TakenSoFar (old new : PacketFeedView) (bytes : List ℕ) (at : ℕ) (
   pub sizes : All is_packet packets
   pub are : concat packets ≡ take at bytes
   pub within : at ≤ length bytes
-  pub demux_is : new.demux ≡ taken_all old.demux packets
+  pub demux_is : AreAlike old.feed new.demux (taken_all old.demux packets)
   pub feed_is : new.feed ≡ after_packets old.demux old.feed packets
   pub fed_is : after ≡ before ++ fed_packets old.demux old.feed packets
 
@@ -90,26 +93,30 @@ one_fed s feed p = append-nil (fed_packet feed (found_in s p) (pcr_at s.packets 
 
 pub one_more : (old mid new : PacketFeedView) (bytes rest packet : List ℕ) (at : ℕ) (before middle after : List Fed) →
     TakenSoFar old mid bytes at before middle → rest ≡ drop at bytes → at + 188 ≤ length bytes → packet ≡ take 188 rest → length packet ≡ 188 →
-    new.demux ≡ taken mid.demux packet →
+    AreAlike mid.feed new.demux (taken mid.demux packet) →
     new.feed ≡ after_packet mid.feed (found_in mid.demux packet) (pcr_at mid.demux.packets packet) →
     after ≡ middle ++ fed_packet mid.feed (found_in mid.demux packet) (pcr_at mid.demux.packets packet) →
     TakenSoFar old new bytes (at + 188) before after
 one_more old mid new bytes rest packet at before middle after so is long front size takes feeds grows =
     let ps = so.packets in
-    let d : mid.demux ≡ taken_all old.demux ps = so.demux_is in
+    let kept = stream_pids old.feed in
     let f : mid.feed ≡ after_packets old.demux old.feed ps = so.feed_is in
+    let pids : stream_pids mid.feed ≡ kept = ap stream_pids f ∙ packets_pids old.demux old.feed ps in
+    let d : AreAlike mid.feed mid.demux (taken_all old.demux ps) = alike_as old.feed mid.feed mid.demux (taken_all old.demux ps) pids so.demux_is in
+    let more : taken (taken_all old.demux ps) packet ≡ taken_all old.demux (ps ++ packet ∷ []) =
+    sym (one_taken (taken_all old.demux ps) mid.feed packet) ∙ sym (taken_more old.demux ps (packet ∷ [])) in
     record {
       packets = ps ++ packet ∷ [];
       sizes = All-both ps (packet ∷ []) so.sizes (All-cons is_packet packet [] size (All-nil is_packet));
       are = concat-append ps (packet ∷ []) ∙ ap (λ (xs : List ℕ). concat ps ++ xs) (append-nil packet ∙ front ∙ ap (λ (r : List ℕ). take 188 r) is)
           ∙ ap (λ (xs : List ℕ). xs ++ take 188 (drop at bytes)) so.are ∙ sym (take-add at 188 bytes);
       within = long;
-      demux_is = takes ∙ ap (λ (s : StreamState). taken s packet) d ∙ sym (one_taken (taken_all old.demux ps) mid.feed packet)
-          ∙ sym (taken_more old.demux ps (packet ∷ []));
-      feed_is = feeds ∙ sym (one_after mid.demux mid.feed packet) ∙ ap (λ (s : StreamState). after_packets s mid.feed (packet ∷ [])) d
+      demux_is = alike_as mid.feed old.feed new.demux (taken mid.demux packet) (sym pids) takes
+          ∙ taken_alike old.feed mid.demux (taken_all old.demux ps) packet so.demux_is ∙ ap (λ (s : StreamState). bodies_left_out_but kept s) more;
+      feed_is = feeds ∙ sym (one_after mid.demux mid.feed packet) ∙ after_alike mid.feed mid.demux (taken_all old.demux ps) (packet ∷ []) d
           ∙ ap (λ (t : FeedView). after_packets (taken_all old.demux ps) t (packet ∷ [])) f ∙ sym (after_more old.demux old.feed ps (packet ∷ []));
       fed_is = grows ∙ ap (λ (xs : List Fed). middle ++ xs) (sym (one_fed mid.demux mid.feed packet))
-          ∙ ap (λ (s : StreamState). middle ++ fed_packets s mid.feed (packet ∷ [])) d
+          ∙ ap (λ (xs : List Fed). middle ++ xs) (fed_alike mid.feed mid.demux (taken_all old.demux ps) (packet ∷ []) d)
           ∙ ap (λ (t : FeedView). middle ++ fed_packets (taken_all old.demux ps) t (packet ∷ [])) f
           ∙ ap (λ (xs : List Fed). xs ++ fed_packets (taken_all old.demux ps) (after_packets old.demux old.feed ps) (packet ∷ [])) so.fed_is
           ∙ append_assoc before (fed_packets old.demux old.feed ps) (fed_packets (taken_all old.demux ps) (after_packets old.demux old.feed ps) (packet ∷ []))
@@ -159,7 +166,7 @@ rest_fed demux feed next rest shown before middle after is goes one last =
 
 -- 4. Without a clock
 
-findings_more : (feed : FeedView) (fs more : List FindingView) → after_all feed (fs ++ more) ≡ after_all (after_all feed fs) more
+pub findings_more : (feed : FeedView) (fs more : List FindingView) → after_all feed (fs ++ more) ≡ after_all (after_all feed fs) more
 unfolding after_all
 findings_more feed [] more = refl
 findings_more feed (f ∷ fs) more = findings_more (after_one feed f) fs more

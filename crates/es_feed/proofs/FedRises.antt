@@ -8,35 +8,37 @@ use Rattle.std.proofs.lemmas.Grind.{flat_map-append}
 use Rattle.std.proofs.lemmas.List.{append_assoc, append-nil}
 use Rattle.pes_packet.specs.AccessUnits.{AccessUnit}
 use Rattle.demux.specs.Views.{FindingView}
-use Rattle.es_units.specs.CarriedUnits.{CarriedUnit}
-use Rattle.es_units.specs.Stamps.{distance, dts_at, dts_not_increasing, dts_too_far, or_fault, pts_out_of_range, unit_at, unit_fault}
+use Rattle.es_moments.specs.Stamps.{distance, dts_at, dts_not_increasing, dts_too_far, or_fault, pts_out_of_range, unit_at, unit_fault}
 use Rattle.es_units.specs.UnitSteps.{ended_unit}
-use Rattle.es_units.specs.declared.stamps.StampFault.{StampFault}
-use Rattle.es_units.specs.declared.stamps.StampFault.TheVariants.{DtsNotIncreasing}
-use Rattle.es_units.proofs.StampFaults.{or_none}
-use Rattle.es_feed.specs.Clocks.{is_on, jump_of}
+use Rattle.es_moments.specs.declared.stamps.StampFault.{StampFault}
+use Rattle.es_moments.specs.declared.stamps.StampFault.TheVariants.{DtsNotIncreasing}
+use Rattle.es_moments.proofs.StampFaults.{or_none}
+use Rattle.packet_pcr.specs.PacketPcr.{is_on}
+use Rattle.fed_streams.specs.Clocks.{jump_of}
 use Rattle.es_feed.specs.EachStream.{RiseFrom, fed_if, units_fed}
-use Rattle.es_feed.specs.Feeding.{Fed, FedStreamView, FeedView, after_at, after_found, after_one, after_place, ahead_of, at_moment, base_of, before_with}
-use Rattle.es_feed.specs.Feeding.{due_of, fed_at, fed_by, fed_ends, fed_last, fed_one, fed_place, fed_with, greatest_of, last_dts, after_unit, fed_unit}
-use Rattle.es_feed.specs.Feeding.{map_fed, origin_after, other_fed, packet_fault, packet_fed, place_from, restart_fed, restart_in, seen_in, seen_place}
-use Rattle.es_feed.specs.Feeding.{stream_with, told_by, told_fed, told_first, told_of, unless_ahead, unless_fault, watched, whole_by, greatest_pts_limit}
-use Rattle.es_feed.specs.Maps.{clock_pid, new_map, other_stream}
-use Rattle.es_feed.specs.Ticks.{after_end, after_end_at, after_late, after_passed, after_shown, after_tick, fed_end, fed_end_at, fed_late, fed_passed}
-use Rattle.es_feed.specs.Ticks.{fed_shown, fed_tick, is_silence, is_tick, jump_fed, last_unit, late_in, passed_from, silence, tick, with_shown, without_unit}
-use Rattle.es_feed.specs.declared.due.Due.{Due}
-use Rattle.es_feed.specs.declared.feed_fault.ClockJump.{ClockJump}
-use Rattle.es_feed.specs.declared.feed_fault.FeedFault.{FeedFault}
-use Rattle.es_feed.specs.declared.feed_fault.FeedFault.TheVariants.{Silent}
-use Rattle.es_feed.specs.declared.feed_fault.NewMap.{NewMap}
-use Rattle.es_feed.specs.declared.feed_fault.OtherStream.{OtherStream}
-use Rattle.es_feed.specs.declared.feed_fault.PacketFault.{PacketFault}
-use Rattle.es_feed.specs.declared.found_pcr.FoundPcr.{FoundPcr}
-use Rattle.es_feed.specs.declared.origin.Origin.{Origin}
+use Rattle.fed_streams.specs.Feeding.{Fed, FedStreamView, FeedView, after_at, after_found, after_one, after_place, ahead_of, at_moment, base_of, before_with}
+use Rattle.fed_streams.specs.Feeding.{due_of, fed_at, fed_by, fed_ends, fed_last, fed_one, fed_place, fed_with, greatest_of, last_dts, after_unit, fed_unit}
+use Rattle.fed_streams.specs.Feeding.{map_fed, origin_after, other_fed, packet_fault, packet_fed, place_from, restart_fed, restart_in, seen_in, seen_place}
+use Rattle.fed_streams.specs.Feeding.{stream_with, told_by, told_fed, told_first, told_of, unless_ahead, unless_fault, watched, whole_by, greatest_pts_limit}
+use Rattle.fed_streams.specs.Maps.{clock_pid, new_map, other_stream}
+use Rattle.fed_streams.specs.Ticks.{after_end, after_end_at, after_late, after_passed, after_shown, after_tick, fed_end, fed_end_at, fed_late, fed_passed}
+use Rattle.fed_streams.specs.Ticks.{fed_shown, fed_tick, is_silence, is_tick, jump_fed, last_unit, late_in, passed_from, silence, tick, with_shown}
+use Rattle.fed_streams.specs.Ticks.{without_unit}
+use Rattle.fed_streams.specs.declared.due.Due.{Due}
+use Rattle.fed_streams.specs.declared.feed_fault.ClockJump.{ClockJump}
+use Rattle.fed_streams.specs.declared.feed_fault.FeedFault.{FeedFault}
+use Rattle.fed_streams.specs.declared.feed_fault.FeedFault.TheVariants.{Silent}
+use Rattle.fed_streams.specs.declared.feed_fault.NewMap.{NewMap}
+use Rattle.fed_streams.specs.declared.feed_fault.OtherStream.{OtherStream}
+use Rattle.fed_streams.specs.declared.feed_fault.PacketFault.{PacketFault}
+use Rattle.packet_pcr.specs.declared.pcr_reading.FoundPcr.{FoundPcr}
+use Rattle.fed_streams.specs.declared.origin.Origin.{Origin}
 use Rattle.es_feed.proofs.FedEach.{Event, Finds, Shows, after_event, fed_event, fed_events}
 use Rattle.es_feed.proofs.FedSteps.{given_others, own_unit}
 use Rattle.es_feed.proofs.Restarts.{told_restart}
-use Rattle.es_feed.specs.Restarts.{restart_of}
-use Rattle.es_feed.proofs.ListedStreams.{AreKeys, Key, get_set_other, get_set_same, key, key_at, keys, passed, placed, set_keys}
+use Rattle.fed_streams.specs.Restarts.{restart_of}
+use Rattle.fed_streams.proofs.ListedStreams.{AreKeys, Key, get_set_other, get_set_same, key, key_at, keys, passed, placed, set_keys}
+use Rattle.es_moments.specs.WireUnits.{CarriedUnit}
 
 -- 1. The unit that is given
 

@@ -8,36 +8,38 @@ use Rattle.std.proofs.lemmas.Grind.{flat_map-append}
 use Rattle.std.proofs.lemmas.List.{append-nil}
 use Rattle.pes_packet.specs.AccessUnits.{AccessUnit}
 use Rattle.demux.specs.Views.{FindingView}
-use Rattle.es_units.specs.CarriedUnits.{CarriedUnit}
-use Rattle.es_units.specs.Stamps.{distance, dts_after, moved, unit_at, unit_fault}
+use Rattle.es_moments.specs.Stamps.{distance, dts_after, moved, unit_at, unit_fault}
 use Rattle.es_units.specs.UnitSteps.{ended_unit}
-use Rattle.es_units.specs.declared.stamps.StampFault.{StampFault}
-use Rattle.es_feed.specs.Clocks.{is_on, jump_of, jumps}
+use Rattle.es_moments.specs.declared.stamps.StampFault.{StampFault}
+use Rattle.packet_pcr.specs.PacketPcr.{is_on}
+use Rattle.fed_streams.specs.Clocks.{jump_of, jumps}
 use Rattle.es_feed.specs.EachStream.{fed_if, has_fault, have_fault, units_fed}
-use Rattle.es_feed.specs.Feeding.{Fed, FedStreamView, FeedView, after_at, after_found, after_one, after_place, ahead_of, at_moment, base_by, after_unit}
-use Rattle.es_feed.specs.Feeding.{base_of, before_with, due_of, fed_at, fed_by, fed_one, fed_place, fed_unit, fed_with, feed_with, greatest_of, last_dts}
-use Rattle.es_feed.specs.Feeding.{map_fed, origin_after, other_fed, packet_fault, packet_fed, place_from, restart_fed, restart_in, seen_in, seen_place}
-use Rattle.es_feed.specs.Feeding.{stream_with, told_by, told_fed, told_first, told_of, unless_ahead, unless_fault, watched, whole_by, greatest_pts_limit}
-use Rattle.es_feed.specs.Maps.{clock_pid, new_map, other_stream}
-use Rattle.es_feed.specs.Origins.{no_origin, origin_with}
-use Rattle.es_feed.specs.Restarts.{fallen_after, origin_by, restart_of}
-use Rattle.es_feed.specs.declared.feed_fault.OtherStream.{OtherStream}
-use Rattle.es_feed.specs.declared.feed_fault.PacketFault.{PacketFault}
-use Rattle.es_feed.specs.declared.feed_fault.Restart.{Restart}
-use Rattle.es_feed.specs.Ticks.{after_end, after_end_at, after_late, after_own, after_passed, after_shown, after_tick, fed_end, fed_end_at, fed_late, fed_own}
-use Rattle.es_feed.specs.Ticks.{fed_passed, fed_shown, fed_tick, is_silence, is_tick, jump_fed, last_unit, late_in, late_of, passed_from, silence, tick}
-use Rattle.es_feed.specs.Ticks.{with_shown, without_unit}
-use Rattle.es_feed.specs.declared.due.Due.{Due}
-use Rattle.es_feed.specs.declared.feed_fault.ClockJump.{ClockJump}
-use Rattle.es_feed.specs.declared.feed_fault.FeedFault.{FeedFault}
-use Rattle.es_feed.specs.declared.feed_fault.FeedFault.TheVariants.{Silent}
-use Rattle.es_feed.specs.declared.feed_fault.NewMap.{NewMap}
-use Rattle.es_feed.specs.declared.found_pcr.FoundPcr.{FoundPcr}
-use Rattle.es_feed.specs.declared.origin.Origin.{Origin}
+use Rattle.fed_streams.specs.Feeding.{Fed, FedStreamView, FeedView, after_at, after_found, after_one, after_place, ahead_of, at_moment, base_by, after_unit}
+use Rattle.fed_streams.specs.Feeding.{base_of, before_with, due_of, fed_at, fed_by, fed_one, fed_place, fed_unit, fed_with, feed_with, greatest_of, last_dts}
+use Rattle.fed_streams.specs.Feeding.{map_fed, origin_after, other_fed, packet_fault, packet_fed, place_from, restart_fed, restart_in, seen_in, seen_place}
+use Rattle.fed_streams.specs.Feeding.{stream_with, told_by, told_fed, told_first, told_of, unless_ahead, unless_fault, watched, whole_by, greatest_pts_limit}
+use Rattle.fed_streams.specs.Maps.{clock_pid, new_map, other_stream}
+use Rattle.fed_streams.specs.Origins.{no_origin, origin_with}
+use Rattle.fed_streams.specs.Restarts.{fallen_after, origin_by, restart_of}
+use Rattle.fed_streams.specs.declared.feed_fault.OtherStream.{OtherStream}
+use Rattle.fed_streams.specs.declared.feed_fault.PacketFault.{PacketFault}
+use Rattle.fed_streams.specs.declared.feed_fault.Restart.{Restart}
+use Rattle.fed_streams.specs.Ticks.{after_end, after_end_at, after_late, after_own, after_passed, after_shown, after_tick, fed_end, fed_end_at, fed_late}
+use Rattle.fed_streams.specs.Ticks.{fed_own}
+use Rattle.fed_streams.specs.Ticks.{fed_passed, fed_shown, fed_tick, is_silence, is_tick, jump_fed, last_unit, late_in, late_of, passed_from, silence, tick}
+use Rattle.fed_streams.specs.Ticks.{with_shown, without_unit}
+use Rattle.fed_streams.specs.declared.due.Due.{Due}
+use Rattle.fed_streams.specs.declared.feed_fault.ClockJump.{ClockJump}
+use Rattle.fed_streams.specs.declared.feed_fault.FeedFault.{FeedFault}
+use Rattle.fed_streams.specs.declared.feed_fault.FeedFault.TheVariants.{Silent}
+use Rattle.fed_streams.specs.declared.feed_fault.NewMap.{NewMap}
+use Rattle.packet_pcr.specs.declared.pcr_reading.FoundPcr.{FoundPcr}
+use Rattle.fed_streams.specs.declared.origin.Origin.{Origin}
 use Rattle.es_feed.proofs.OneStream.{base_first, base_fixed, fixed, origin_fixed, origin_first}
-use Rattle.es_feed.proofs.ListedStreams.{passed}
+use Rattle.fed_streams.proofs.ListedStreams.{passed}
 pub use Rattle.es_feed.proofs.Restarts.{fault_split}
 use Rattle.es_feed.proofs.Restarts.{not_restarted}
+use Rattle.es_moments.specs.WireUnits.{CarriedUnit}
 
 -- 1. What a step does: nothing to a stream, or it gives a unit of one of them
 

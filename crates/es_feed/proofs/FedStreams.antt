@@ -7,25 +7,33 @@ use Rattle.std.proofs.lemmas.List.Folds.{concat-append}
 use Rattle.ts_packet.specs.PidList.{cut_packets}
 use Rattle.demux.specs.Stream.{StreamState, start}
 use Rattle.demux.specs.FoundSoFar.{taken_all}
+use Rattle.demux.specs.KeptBodies.{bodies_left_out_but}
 use Rattle.packet_sync.specs.Slips.{carried}
 use Rattle.packet_sync.specs.Stretches.{IsOfPackets, IsStretch}
 use Rattle.packet_sync.specs.declared.stretch.Stretch.{Stretch}
 use Rattle.packet_sync.proofs.Stretches.{carried_few}
-use Rattle.es_feed.specs.Feeding.{Fed, FeedView}
-use Rattle.es_feed.specs.StreamFeeding.{PacketFeedView, StreamFeedView, TakesPackets, IsFedBy, fed_in, fed_of, fed_rest, after_cut, FedIsBeginning}
-use Rattle.es_feed.specs.Ticks.{after_packets, fed_packets}
+use Rattle.fed_streams.specs.Feeding.{Fed, FeedView}
+use Rattle.es_feed.specs.StreamFeeding.{AreAlike, PacketFeedView, StreamFeedView, TakesPackets, IsFedBy, fed_in, fed_of, fed_rest, after_cut, FedIsBeginning}
+use Rattle.es_feed.specs.StreamFeeding.{stream_pids}
+use Rattle.fed_streams.specs.Ticks.{after_packets, fed_packets}
+use Rattle.es_feed.proofs.AlikeStreams.{after_alike, alike_as, all_alike, fed_alike, packets_pids, rest_alike}
 use Rattle.es_feed.proofs.FedPackets.{All-both, after_more, cut_all, cut_these, fed_more, left_these, packets_length, taken_more}
 
 -- 1. Packets more
 
+-- what is kept of the packets before is kept for the streams as they are
+alike_now : (first : FeedView) (ps : List (List ℕ)) (old : PacketFeedView) → AreAlike first old.demux (taken_all start ps) →
+    old.feed ≡ after_packets start first ps → AreAlike old.feed old.demux (taken_all start ps)
+alike_now first ps old d f = alike_as first old.feed old.demux (taken_all start ps) (ap stream_pids f ∙ packets_pids start first ps) d
+
 -- what is fed of them comes after what was fed before
 fed_after : (first : FeedView) (ps qs : List (List ℕ)) (old : PacketFeedView) (gone before after : List Fed) →
-    old.demux ≡ taken_all start ps → old.feed ≡ after_packets start first ps → gone ++ before ≡ fed_packets start first ps →
+    AreAlike first old.demux (taken_all start ps) → old.feed ≡ after_packets start first ps → gone ++ before ≡ fed_packets start first ps →
     after ≡ before ++ fed_packets old.demux old.feed qs → gone ++ after ≡ fed_packets start first (ps ++ qs)
 fed_after first ps qs old gone before after d f so grown =
     ap (λ (xs : List Fed). gone ++ xs) grown ∙ sym (append_assoc gone before (fed_packets old.demux old.feed qs))
     ∙ ap (λ (xs : List Fed). xs ++ fed_packets old.demux old.feed qs) so
-    ∙ ap (λ (s : StreamState). fed_packets start first ps ++ fed_packets s old.feed qs) d
+    ∙ ap (λ (xs : List Fed). fed_packets start first ps ++ xs) (fed_alike old.feed old.demux (taken_all start ps) qs (alike_now first ps old d f))
     ∙ ap (λ (t : FeedView). fed_packets start first ps ++ fed_packets (taken_all start ps) t qs) f
     ∙ sym (fed_more start first ps qs)
 
@@ -37,6 +45,7 @@ packets_fed : (first : FeedView) (stream held later taking : List ℕ) (ended : 
 packets_fed first stream held later taking ended n old new gone before after so t carry =
     let ps = so.packets in
     let qs = t.packets in
+    let pids : stream_pids old.feed ≡ stream_pids first = ap stream_pids so.feed_is ∙ packets_pids start first ps in
     record {
       packets = ps ++ qs;
       sizes = All-both ps qs so.sizes t.sizes;
@@ -45,8 +54,10 @@ packets_fed first stream held later taking ended n old new gone before after so 
           ∙ ap (λ (r : List ℕ). concat ps ++ (r ++ carried (later ++ more))) (sym t.are)
           ∙ sym (append_assoc (concat ps) (concat qs) (carried (later ++ more)))
           ∙ ap (λ (r : List ℕ). r ++ carried (later ++ more)) (sym (concat-append ps qs));
-      demux_is = t.demux_is ∙ ap (λ (s : StreamState). taken_all s qs) so.demux_is ∙ sym (taken_more start ps qs);
-      feed_is = t.feed_is ∙ ap (λ (s : StreamState). after_packets s old.feed qs) so.demux_is
+      demux_is = alike_as old.feed first new.demux (taken_all old.demux qs) (sym pids) t.demux_is
+          ∙ all_alike first old.demux (taken_all start ps) qs so.demux_is
+          ∙ ap (λ (s : StreamState). bodies_left_out_but (stream_pids first) s) (sym (taken_more start ps qs));
+      feed_is = t.feed_is ∙ after_alike old.feed old.demux (taken_all start ps) qs (alike_now first ps old so.demux_is so.feed_is)
           ∙ ap (λ (f : FeedView). after_packets (taken_all start ps) f qs) so.feed_is ∙ sym (after_more start first ps qs);
       fed_is = fed_after first ps qs old gone before after so.demux_is so.feed_is so.fed_is t.fed_is;
     }
@@ -181,7 +192,8 @@ ended_fed first stream rest packets gone before after few grows so =
     ap (λ (xs : List Fed). gone ++ xs) grows
     ∙ sym (append_assoc gone before (fed_rest packets.demux packets.feed rest))
     ∙ ap (λ (xs : List Fed). xs ++ fed_rest packets.demux packets.feed rest) so.fed_is
-    ∙ ap (λ (s : StreamState). fed_packets start first ps ++ fed_rest s packets.feed rest) so.demux_is
+    ∙ ap (λ (xs : List Fed). fed_packets start first ps ++ xs)
+    (rest_alike packets.feed packets.demux (taken_all start ps) rest (alike_now first ps packets so.demux_is so.feed_is))
     ∙ ap (λ (f : FeedView). fed_packets start first ps ++ fed_rest (taken_all start ps) f rest) so.feed_is
     ∙ ap (λ (r : List ℕ). fed_in first ps r) (sym left)
     ∙ ap (λ (qs : List (List ℕ)). fed_in first qs (after_cut (carried stream))) (sym cut)

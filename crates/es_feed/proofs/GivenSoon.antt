@@ -2,16 +2,16 @@
 use Rattle.std.proofs.Common.{◌≡◌, ◌∙◌, ℕ, false, Option, Some, None, [], refl, sym, ap}
 use Rattle.std.specs.Option.{option_to_list}
 use Rattle.pes_packet.specs.AccessUnits.{AccessUnit}
-use Rattle.es_units.specs.CarriedUnits.{CarriedUnit}
-use Rattle.es_units.specs.Stamps.{dts_at, dts_not_increasing, dts_too_far, or_fault, pts_out_of_range, unit_at, unit_fault}
-use Rattle.es_units.specs.declared.stamps.StampFault.{StampFault}
+use Rattle.es_moments.specs.Stamps.{dts_at, dts_not_increasing, dts_too_far, or_fault, pts_out_of_range, unit_at, unit_fault}
+use Rattle.es_moments.specs.declared.stamps.StampFault.{StampFault}
 use Rattle.es_units.proofs.ApartSteps.{Soon}
-use Rattle.es_units.proofs.StampFaults.{or_none}
+use Rattle.es_moments.proofs.StampFaults.{or_none}
 use Rattle.es_feed.specs.EachStream.{has_fault, have_fault}
-use Rattle.es_feed.specs.Feeding.{at_moment, base_of, fed_with, greatest_pts_limit, unless_fault}
-use Rattle.es_feed.specs.declared.due.Due.{Due}
-use Rattle.es_feed.specs.declared.origin.Origin.{Origin}
+use Rattle.fed_streams.specs.Feeding.{at_moment, base_of, fed_with, greatest_pts_limit, unless_fault}
+use Rattle.fed_streams.specs.declared.due.Due.{Due}
+use Rattle.fed_streams.specs.declared.origin.Origin.{Origin}
 use Rattle.es_feed.proofs.FedSteps.{HasBase, if_first}
+use Rattle.es_moments.specs.WireUnits.{CarriedUnit}
 
 fault_none : (n : ℕ) (greatest : Option ℕ) (fault : Option StampFault) (u : AccessUnit) → has_fault (n, unless_fault greatest fault u) ≡ false → fault ≡ None
 unfolding unless_fault has_fault

@@ -1,10 +1,7 @@
-pub mod UncutUnits
 pub mod OwnUnits
 pub mod ApartOnes
 pub mod OneStream
 pub mod Restarts
-pub mod FedUnits
-pub mod ListedStreams
 pub mod FedSteps
 pub mod GivenSoon
 pub mod FedEach
@@ -14,12 +11,10 @@ pub mod FedFirst
 pub mod FedRises
 pub mod EachStream
 pub mod MovedApart
-pub mod FedMaps
+pub mod OtherPids
+pub mod AlikeStreams
 pub mod FedPackets
+pub mod PidEnds
 pub mod PlainPackets
 pub mod FedStreams
 pub mod WatchedStreams
-pub mod FedTicks
-pub mod PendingOutput
-pub mod ToldLines
-pub mod PassedStreams

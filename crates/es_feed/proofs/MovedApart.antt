@@ -4,15 +4,15 @@ use Rattle.std.proofs.Common.{ap₂, arith}
 use Rattle.pes_packet.specs.AccessUnits.{AccessUnit}
 use Rattle.pes_packet.specs.declared.marks.Marks.{Marks}
 use Rattle.demux.specs.Views.{FindingView}
-use Rattle.es_units.specs.ApartUnits.{apart_wire_units}
-use Rattle.es_units.specs.Stamps.{distance, dts_at, moved, unit_at}
+use Rattle.es_moments.specs.Stamps.{distance, dts_at, moved, unit_at}
 use Rattle.es_feed.specs.EachStream.{BeginsAt, fed_if, found_of_all, has_fault, have_fault, units_fed}
-use Rattle.es_feed.specs.Feeding.{Fed, FedStreamView, feed_first}
+use Rattle.fed_streams.specs.Feeding.{Fed, FedStreamView, feed_first}
 use Rattle.es_feed.specs.MovedApart.{AreApart, AreWhole, BeginNear, FedApart, after_time}
 use Rattle.es_feed.specs.StreamFeeding.{fed_of}
 use Rattle.es_feed.proofs.EachStream.{by_one_constant, first_stream}
 use Rattle.given_marks.specs.Marking.{all_marked}
 use Rattle.es_feed.proofs.FedSteps.{own_unit}
+use Rattle.es_units.specs.CarriedUnits.{apart_wire_units}
 
 -- 1. One list of units by two constants
 

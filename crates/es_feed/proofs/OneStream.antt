@@ -10,37 +10,38 @@ use Rattle.pes_packet.specs.AccessUnits.{AccessUnit}
 use Rattle.demux.specs.Views.{FindingView}
 use Rattle.demux.specs.Laws.{has_pid}
 use Rattle.es_units.specs.ApartSteps.{place_past, set_apart}
-use Rattle.es_units.specs.ApartUnits.{has_same}
-use Rattle.es_units.specs.CarriedUnits.{CarriedUnit, Ignored, role_of, carried_units}
-use Rattle.es_units.specs.Stamps.{distance, dts_at, unit_at, moved, unit_fault, fault_or, first_fault}
+use Rattle.es_moments.specs.ApartUnits.{has_same}
+use Rattle.es_units.specs.CarriedUnits.{Ignored, role_of, carried_units}
+use Rattle.es_moments.specs.Stamps.{distance, dts_at, unit_at, moved, unit_fault, fault_or, first_fault}
 use Rattle.es_units.specs.UnitSteps.{UnitsSoFar, after_finding, after_findings, ended_unit, given, goes_on_as, has_cut, is_start_cut, made_whole, none_so_far}
 use Rattle.es_units.specs.UnitSteps.{start_of}
-use Rattle.es_units.specs.declared.stamps.StampFault.{StampFault}
-use Rattle.es_feed.specs.declared.feed_fault.FeedFault.{FeedFault}
-use Rattle.es_feed.specs.declared.feed_fault.Loss.{Loss}
-use Rattle.es_feed.specs.Maps.{change_place, map_from, other_place, set_place}
-use Rattle.es_feed.specs.Origins.{base_for, no_origin, origin_with}
-use Rattle.es_feed.specs.declared.due.Due.{Due}
-use Rattle.es_feed.specs.declared.origin.Origin.{Origin}
-use Rattle.es_feed.specs.Feeding.{FedStreamView, Fed, FeedView, ahead_of, unless_ahead, unless_fault, at_moment, last_dts, base_by, base_of, origin_after}
-use Rattle.es_feed.specs.Feeding.{before_with, fed_with, stream_with, fed_by, whole_by, after_found, lost_by, told_by, told_of, fault_by, unit_after}
-use Rattle.es_feed.specs.Feeding.{follow_after, made_by, place_by, same_by, greatest_if, place_from, after_at, fed_at, after_place, fed_place, after_unit}
-use Rattle.es_feed.specs.Feeding.{fed_unit, map_fed, after_one}
-use Rattle.es_feed.specs.Feeding.{fed_one, after_all, fed_all, fed_last, fed_ends, fed_to_end, greatest_of, is_fallen, other_fed, packet_fault, packet_fed}
-use Rattle.es_feed.specs.Feeding.{restart_fed, restart_in, restarted, seen_by, seen_in, seen_of, seen_place, watched, greatest_pts_limit}
+use Rattle.es_moments.specs.declared.stamps.StampFault.{StampFault}
+use Rattle.fed_streams.specs.declared.feed_fault.FeedFault.{FeedFault}
+use Rattle.fed_streams.specs.declared.feed_fault.Loss.{Loss}
+use Rattle.fed_streams.specs.Maps.{change_place, map_from, other_place, set_place}
+use Rattle.fed_streams.specs.Origins.{base_for, no_origin, origin_with}
+use Rattle.fed_streams.specs.declared.due.Due.{Due}
+use Rattle.fed_streams.specs.declared.origin.Origin.{Origin}
+use Rattle.fed_streams.specs.Feeding.{FedStreamView, Fed, FeedView, ahead_of, unless_ahead, unless_fault, at_moment, last_dts, base_by, base_of, origin_after}
+use Rattle.fed_streams.specs.Feeding.{before_with, fed_with, stream_with, fed_by, whole_by, after_found, lost_by, told_by, told_of, fault_by, unit_after}
+use Rattle.fed_streams.specs.Feeding.{follow_after, made_by, place_by, same_by, greatest_if, place_from, after_at, fed_at, after_place, fed_place, after_unit}
+use Rattle.fed_streams.specs.Feeding.{fed_unit, map_fed, after_one}
+use Rattle.fed_streams.specs.Feeding.{fed_one, after_all, fed_all, fed_last, fed_ends, fed_to_end, greatest_of, is_fallen, other_fed, packet_fault, packet_fed}
+use Rattle.fed_streams.specs.Feeding.{restart_fed, restart_in, restarted, seen_by, seen_in, seen_of, seen_place, watched, greatest_pts_limit}
 use Rattle.es_feed.specs.EachStream.{has_fault, have_fault}
-use Rattle.es_feed.specs.Restarts.{fallen_after, origin_by, restart_of}
-use Rattle.es_feed.specs.declared.feed_fault.PacketFault.{PacketFault}
-use Rattle.es_feed.specs.declared.feed_fault.Restart.{Restart}
-use Rattle.es_feed.specs.declared.restart.Seen.{Seen}
-use Rattle.es_units.proofs.ApartUnits.{none_same}
+use Rattle.fed_streams.specs.Restarts.{fallen_after, origin_by, restart_of}
+use Rattle.fed_streams.specs.declared.feed_fault.PacketFault.{PacketFault}
+use Rattle.fed_streams.specs.declared.feed_fault.Restart.{Restart}
+use Rattle.fed_streams.specs.declared.restart.Seen.{Seen}
+use Rattle.es_moments.proofs.ApartUnits.{none_same}
 use Rattle.es_units.proofs.UnitSteps.{uncut_carried}
 use Rattle.es_feed.specs.Laws.{FedAsCarried, beside_packets, has_loss, is_loss, is_of_packet, unless_packet}
 use Rattle.es_feed.proofs.ApartOnes.{not_apart}
 use Rattle.es_feed.proofs.OwnUnits.{to_come, to_come_more}
 use Rattle.es_feed.proofs.Restarts.{fault_split, no_fall, no_restart}
 use Rattle.given_marks.specs.Marking.{no_marking}
-use Rattle.es_feed.proofs.UncutUnits.{Uncut, no_unit, past_here, uncut_step, under_cut}
+use Rattle.fed_streams.proofs.UncutUnits.{Uncut, no_unit, past_here, uncut_step, under_cut}
+use Rattle.es_moments.specs.WireUnits.{CarriedUnit}
 
 -- 1. Units one after another
 

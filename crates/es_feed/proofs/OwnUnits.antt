@@ -4,11 +4,12 @@ use Rattle.std.specs.Option.{option_to_list}
 use Rattle.std.specs.Prelude.{unwrap_or}
 use Rattle.std.proofs.lemmas.List.{append_assoc, append-nil}
 use Rattle.demux.specs.Views.{FindingView}
-use Rattle.es_units.specs.CarriedUnits.{CarriedUnit, RoleView, Ignored, Start, Continuation, Interruption, end_of, is_cut, role_of, carried_units}
+use Rattle.es_units.specs.CarriedUnits.{RoleView, Ignored, Start, Continuation, Interruption, end_of, is_cut, role_of, carried_units}
 use Rattle.es_units.specs.UnitSteps.{UnitsSoFar, after_finding, after_findings, ended_unit, given, goes_on_as, has_cut, is_start_cut, lengthened, made_whole}
 use Rattle.es_units.specs.UnitSteps.{none_so_far}
 use Rattle.es_units.proofs.UnitSteps.{uncut_carried}
 use Rattle.es_feed.specs.EachStream.{if_start, next_starts, one_by_one, starts_next}
+use Rattle.es_moments.specs.WireUnits.{CarriedUnit}
 
 -- 1. To come
 

@@ -3,9 +3,9 @@ use Rattle.std.proofs.Common.{◌≡◌, ℕ, None, List, [], Ok, refl}
 use Rattle.ts_packet.specs.Reading.{packet_at}
 use Rattle.demux.specs.GoingOn.{plain_view}
 use Rattle.demux.specs.Stream.{StreamState, found_in}
-use Rattle.es_feed.specs.Clocks.{pcr_at, pcr_in, pcr_read}
-use Rattle.es_feed.specs.Feeding.{FeedView, after_all, fed_all}
-use Rattle.es_feed.specs.Ticks.{after_packet, after_pcr, fed_packet, fed_pcr}
+use Rattle.packet_pcr.specs.PacketPcr.{pcr_at, pcr_in, pcr_read}
+use Rattle.fed_streams.specs.Feeding.{FeedView, after_all, fed_all}
+use Rattle.fed_streams.specs.Ticks.{after_packet, after_pcr, fed_packet, fed_pcr}
 
 plain_pcr : (index : ℕ) (bytes : List ℕ) → packet_at bytes ≡ Ok (plain_view bytes) → pcr_at index bytes ≡ None
 unfolding pcr_read pcr_in

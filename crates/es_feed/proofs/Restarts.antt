@@ -2,9 +2,9 @@
 use Rattle.std.proofs.Common.{◌≡◌, ℕ, ◌++◌, ◌||◌, Bool, true, false, Option, Some, None, Ok, Err, List, [], ◌∷◌, refl}
 use Rattle.std.specs.Option.{option_to_list}
 use Rattle.es_feed.specs.EachStream.{has_fault, have_fault, units_fed, fed_if}
-use Rattle.es_feed.specs.Feeding.{Fed, falls, is_fallen, restart_fed, seen_of}
-use Rattle.es_feed.specs.Restarts.{restart_of}
-use Rattle.es_feed.specs.declared.feed_fault.Restart.{Restart}
+use Rattle.fed_streams.specs.Feeding.{Fed, falls, is_fallen, restart_fed, seen_of}
+use Rattle.fed_streams.specs.Restarts.{restart_of}
+use Rattle.fed_streams.specs.declared.feed_fault.Restart.{Restart}
 
 -- 1. Nothing is told
 

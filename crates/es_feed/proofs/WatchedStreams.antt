@@ -12,7 +12,7 @@ use Rattle.packet_sync.specs.declared.stretch.Stretch.{Stretch}
 use Rattle.packet_sync.proofs.Noted.{all_noted, stretch_noted}
 use Rattle.es_feed.specs.EachStream.{has_fault, have_fault}
 use Rattle.es_feed.specs.FedLines.{have_refusal, is_refusal}
-use Rattle.es_feed.specs.Feeding.{Fed, FeedView}
+use Rattle.fed_streams.specs.Feeding.{Fed, FeedView}
 use Rattle.es_feed.specs.StreamFeeding.{fed_of}
 use Rattle.es_feed.specs.Watching.{AreRounds, AreSlips, IsWatchedOf, Round, all_of, notes_at, place_with, slips_fed, slips_with}
 use Rattle.es_feed.specs.declared.slip_watch.StreamPlace.{StreamPlace}

@@ -7,14 +7,13 @@ use Rattle.pes_packet.specs.AccessUnits.{AccessUnit}
 use Rattle.demux.specs.Stream.{start, pushed, finished}
 use Rattle.demux.specs.Views.{FindingView}
 use Rattle.packet_sync.specs.Slips.{carried}
-use Rattle.es_units.specs.ApartUnits.{apart_wire_units}
-use Rattle.es_units.specs.CarriedUnits.{RoleView, Ignored, Start, Continuation, Interruption, role_of}
-use Rattle.es_units.specs.Stamps.{moved}
+use Rattle.es_units.specs.CarriedUnits.{RoleView, Ignored, Start, Continuation, Interruption, role_of, apart_wire_units}
+use Rattle.es_moments.specs.Stamps.{moved}
 use Rattle.es_units.specs.UnitSteps.{none_so_far}
-use Rattle.es_feed.specs.Feeding.{Fed, FedStreamView, feed_first}
+use Rattle.fed_streams.specs.Feeding.{Fed, FedStreamView, feed_first}
 use Rattle.given_marks.specs.Marking.{MarkingView, all_marked}
 use Rattle.es_feed.specs.StreamFeeding.{fed_of}
-use Rattle.es_feed.specs.Maps.{MapView}
+use Rattle.fed_streams.specs.Maps.{MapView}
 
 -- 1. Among what is fed
 

@@ -3,23 +3,23 @@
 use Rattle.std.specs.Prelude.{ℕ, Bool, true, false, List, [], ◌∷◌, Ok, Err, codes, slice_get, unwrap_or}
 use Rattle.std.specs.List.{flat_map, list_any}
 use Rattle.unit_records.specs.Records.{record_bytes}
-use Rattle.es_units.specs.declared.stamps.StampFault.{StampFault}
-use Rattle.es_units.specs.declared.stamps.StampFault.TheVariants.{DtsNotIncreasing, PtsOutOfRange, DtsTooFar}
+use Rattle.es_moments.specs.declared.stamps.StampFault.{StampFault}
+use Rattle.es_moments.specs.declared.stamps.StampFault.TheVariants.{DtsNotIncreasing, PtsOutOfRange, DtsTooFar}
 pub use Rattle.es_feed.specs.EachStream.{has_fault, have_fault}
-use Rattle.es_feed.specs.Feeding.{Fed}
-use Rattle.es_feed.specs.declared.feed_fault.FeedFault.{FeedFault}
-use Rattle.es_feed.specs.declared.feed_fault.ClockJump.{ClockJump}
-use Rattle.es_feed.specs.declared.feed_fault.FeedFault.TheVariants.{Stamp, Ahead, Lost, Cut, Map, Clock, Other, Packet, Restarted, Silent, Slipped}
-use Rattle.es_feed.specs.declared.feed_fault.CutCause.{CutCause}
-use Rattle.es_feed.specs.declared.feed_fault.CutCause.TheVariants.{Scrambled, Truncated, Section, BadPes, NoPts}
-use Rattle.es_feed.specs.declared.feed_fault.CutUnits.{CutUnits}
-use Rattle.es_feed.specs.declared.feed_fault.Loss.{Loss}
-use Rattle.es_feed.specs.declared.feed_fault.NewMap.{NewMap}
-use Rattle.es_feed.specs.declared.feed_fault.OtherStream.{OtherStream}
-use Rattle.es_feed.specs.declared.feed_fault.PacketFault.{PacketFault}
-use Rattle.es_feed.specs.declared.feed_fault.PacketFault.TheVariants.{Bad, Errored, Rest}
-use Rattle.es_feed.specs.declared.feed_fault.Restart.{Restart}
-use Rattle.es_feed.specs.declared.feed_fault.SlippedBytes.{SlippedBytes}
+use Rattle.fed_streams.specs.Feeding.{Fed}
+use Rattle.fed_streams.specs.declared.feed_fault.FeedFault.{FeedFault}
+use Rattle.fed_streams.specs.declared.feed_fault.ClockJump.{ClockJump}
+use Rattle.fed_streams.specs.declared.feed_fault.FeedFault.TheVariants.{Stamp, Ahead, Lost, Cut, Map, Clock, Other, Packet, Restarted, Silent, Slipped}
+use Rattle.fed_streams.specs.declared.feed_fault.CutCause.{CutCause}
+use Rattle.fed_streams.specs.declared.feed_fault.CutCause.TheVariants.{Scrambled, Truncated, Section, BadPes, NoPts}
+use Rattle.fed_streams.specs.declared.feed_fault.CutUnits.{CutUnits}
+use Rattle.fed_streams.specs.declared.feed_fault.Loss.{Loss}
+use Rattle.fed_streams.specs.declared.feed_fault.NewMap.{NewMap}
+use Rattle.fed_streams.specs.declared.feed_fault.OtherStream.{OtherStream}
+use Rattle.fed_streams.specs.declared.feed_fault.PacketFault.{PacketFault}
+use Rattle.fed_streams.specs.declared.feed_fault.PacketFault.TheVariants.{Bad, Errored, Rest}
+use Rattle.fed_streams.specs.declared.feed_fault.Restart.{Restart}
+use Rattle.fed_streams.specs.declared.feed_fault.SlippedBytes.{SlippedBytes}
 use Rattle.devices.specs.Lines.{line_text}
 
 -- the record of a unit with the number of its stream

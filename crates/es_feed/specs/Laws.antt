@@ -1,24 +1,20 @@
 -- What the laws of this crate say.
-use Rattle.std.specs.Prelude.{◌≡◌, ℕ, ◌++◌, ◌&&◌, Bool, true, false, if◌then◌else◌, Option, None, Some, Ok, Err, List, [], ◌∷◌, map}
+use Rattle.std.specs.Prelude.{◌≡◌, ℕ, ◌&&◌, Bool, true, false, if◌then◌else◌, Option, None, Some, Ok, Err, List, [], ◌∷◌, map}
 use Rattle.std.specs.List.{flat_map, list_any}
 use Rattle.pes_packet.specs.AccessUnits.{AccessUnit}
 use Rattle.demux.specs.Laws.{has_pid}
 use Rattle.demux.specs.Views.{FindingView}
 use Rattle.es_units.specs.CarriedUnits.{carried_units}
-use Rattle.es_units.specs.Stamps.{distance, first_fault, moved}
+use Rattle.es_moments.specs.Stamps.{distance, first_fault, moved}
 use Rattle.es_units.specs.UnitSteps.{has_cut, none_so_far}
 use Rattle.demux.specs.FoundSoFar.{found_in_all}
 use Rattle.demux.specs.Stream.{StreamState}
-use Rattle.es_feed.specs.Feeding.{Fed, FeedView, after_all, fed_all, fed_to_end, feed_first, lost_by, greatest_pts_limit}
-use Rattle.es_feed.specs.Ticks.{after_packets, fed_packets}
-use Rattle.es_feed.specs.declared.feed_fault.FeedFault.{FeedFault}
-use Rattle.es_feed.specs.declared.feed_fault.FeedFault.TheVariants.{Packet}
-use Rattle.es_feed.specs.declared.feed_fault.Loss.{Loss}
+use Rattle.fed_streams.specs.Feeding.{Fed, FeedView, after_all, fed_all, fed_to_end, feed_first, lost_by, greatest_pts_limit}
+use Rattle.fed_streams.specs.Ticks.{after_packets, fed_packets}
+use Rattle.fed_streams.specs.declared.feed_fault.FeedFault.{FeedFault}
+use Rattle.fed_streams.specs.declared.feed_fault.FeedFault.TheVariants.{Packet}
+use Rattle.fed_streams.specs.declared.feed_fault.Loss.{Loss}
 use Rattle.given_marks.specs.Marking.{all_marked, no_marking}
-
--- what later findings feed comes after what the earlier ones have fed
-abbrev pub FedInTurn : Type 0
-FedInTurn = (feed : FeedView) (fs more : List FindingView) → fed_all feed (fs ++ more) ≡ fed_all feed fs ++ fed_all (after_all feed fs) more
 
 -- one stream of a PID and no map, before its first unit
 abbrev pub one_stream : ℕ → ℕ → ℕ → FeedView

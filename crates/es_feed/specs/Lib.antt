@@ -1,14 +1,6 @@
-pub mod Clocks
 pub mod EachStream
-pub mod Feeding
 pub mod Laws
-pub mod Maps
 pub mod MovedApart
-pub mod Origins
-pub mod Restarts
 pub mod StreamFeeding
 pub mod Watching
-pub mod Ticks
-pub mod Records
 pub mod FedLines
-pub mod Passing

@@ -2,13 +2,13 @@
 use Rattle.std.specs.Prelude.{◌≡◌, ◌≤◌, ◌<◌, ℕ, ◌+◌, ◌^◌, true, false, None, Some, List, ◌∷◌, map, slice_get}
 use Rattle.pes_packet.specs.AccessUnits.{AccessUnit}
 use Rattle.demux.specs.Views.{FindingView}
-use Rattle.es_units.specs.ApartUnits.{apart_wire_units}
-use Rattle.es_units.specs.Stamps.{distance, moved}
+use Rattle.es_moments.specs.Stamps.{distance, moved}
 use Rattle.es_feed.specs.EachStream.{AreFirst, found_of_all, have_fault, one_by_one, units_fed}
-use Rattle.es_feed.specs.Feeding.{Fed, FedStreamView, feed_first}
+use Rattle.fed_streams.specs.Feeding.{Fed, FedStreamView, feed_first}
 use Rattle.es_feed.specs.StreamFeeding.{fed_of}
-use Rattle.es_feed.specs.Maps.{MapView}
+use Rattle.fed_streams.specs.Maps.{MapView}
 use Rattle.given_marks.specs.Marking.{MarkingView, all_marked}
+use Rattle.es_units.specs.CarriedUnits.{apart_wire_units}
 
 -- a unit that is due so much later
 abbrev pub after_time : ℕ → AccessUnit → AccessUnit

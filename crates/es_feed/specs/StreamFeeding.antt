@@ -1,14 +1,16 @@
 -- The units of a description's streams from the bytes of a stream, in pieces of any size.
-use Rattle.std.specs.Prelude.{◌≡◌, ◌<◌, ◌≤◌, ℕ, ◌+◌, ◌*◌, ◌++◌, Bool, true, false, List, [], All, drop, length, take}
+use Rattle.std.specs.Prelude.{◌≡◌, ◌<◌, ◌≤◌, ℕ, ◌+◌, ◌*◌, ◌++◌, Bool, true, false, List, [], All, drop, length, map, take}
 use Rattle.std.specs.List.{concat}
 use Rattle.ts_packet.specs.PidList.{cut_packets}
 use Rattle.demux.specs.Stream.{StreamState, start, pushed, finished, found_in, taken}
 use Rattle.demux.specs.FoundSoFar.{taken_all}
+use Rattle.demux.specs.KeptBodies.{bodies_left_out_but}
 use Rattle.packet_sync.specs.Slips.{carried}
-use Rattle.es_feed.specs.Feeding.{Fed, FeedView, fed_to_end}
+use Rattle.demux.specs.Views.{FindingView}
+use Rattle.fed_streams.specs.Feeding.{Fed, FedStreamView, FeedView, after_all, fed_all, fed_to_end}
 use Rattle.given_marks.specs.Marking.{all_marked}
-use Rattle.es_feed.specs.Clocks.{pcr_at}
-use Rattle.es_feed.specs.Ticks.{after_packet, after_packets, fed_packet, fed_packets}
+use Rattle.packet_pcr.specs.PacketPcr.{pcr_at}
+use Rattle.fed_streams.specs.Ticks.{after_packet, after_packets, fed_packet, fed_packets}
 
 -- 1. Whole packets
 
@@ -16,6 +18,14 @@ use Rattle.es_feed.specs.Ticks.{after_packet, after_packets, fed_packet, fed_pac
 pub record PacketFeedView : Type 0 where
   pub demux : StreamState
   pub feed : FeedView
+
+-- the PIDs of a feed's streams
+abbrev pub stream_pids : FeedView → List ℕ
+stream_pids feed = map (λ (s : FedStreamView). s.units.pid) feed.streams
+
+-- demultiplexers are alike for a feed: they say the same besides the bodies of open PES packets of PIDs that no stream has
+abbrev pub AreAlike : FeedView → StreamState → StreamState → Type 0
+AreAlike feed s t = bodies_left_out_but (stream_pids feed) s ≡ bodies_left_out_but (stream_pids feed) t
 
 abbrev pub is_packet : List ℕ → Type 0
 is_packet packet = length packet ≡ 188
@@ -26,16 +36,23 @@ TakesPacket old new bytes before after = (new.demux ≡ taken old.demux bytes)
     × (new.feed ≡ after_packet old.feed (found_in old.demux bytes) (pcr_at old.demux.packets bytes))
     × (after ≡ before ++ fed_packet old.feed (found_in old.demux bytes) (pcr_at old.demux.packets bytes))
 
--- the whole packets at the front of these bytes were taken, which have n bytes
+-- the whole packets at the front of these bytes were taken, which have n bytes; bodies that no stream has may be left out
 pub record TakesPackets (old new : PacketFeedView) (bytes : List ℕ) (n : ℕ) (before after : List Fed) : Type 0 where
   pub packets : List (List ℕ)
   pub sizes : All is_packet packets
   pub are : concat packets ≡ take n bytes
   pub within : n ≤ length bytes
   pub all : length bytes < n + 188
-  pub demux_is : new.demux ≡ taken_all old.demux packets
+  pub demux_is : AreAlike old.feed new.demux (taken_all old.demux packets)
   pub feed_is : new.feed ≡ after_packets old.demux old.feed packets
   pub fed_is : after ≡ before ++ fed_packets old.demux old.feed packets
+
+-- after findings, with the marks that are asked for, and what these feed
+abbrev pub after_marked : FeedView → List FindingView → FeedView
+after_marked feed found = after_all feed (all_marked feed.marking found)
+
+abbrev pub fed_marked : FeedView → List FindingView → List Fed
+fed_marked feed found = fed_all feed (all_marked feed.marking found)
 
 -- what is fed where no more packets come, with these bytes of the next one
 abbrev pub fed_rest : StreamState → FeedView → List ℕ → List Fed
@@ -59,7 +76,7 @@ pub record IsFedBy (first : FeedView) (bytes : List ℕ) (ended : Bool) (s : Str
   pub packets : List (List ℕ)
   pub sizes : All is_packet packets
   pub carries : (more : List ℕ) → (ended ≡ true → more ≡ []) → carried (bytes ++ more) ≡ concat packets ++ carried (s.held ++ more)
-  pub demux_is : s.packets.demux ≡ taken_all start packets
+  pub demux_is : AreAlike first s.packets.demux (taken_all start packets)
   pub feed_is : s.packets.feed ≡ after_packets start first packets
   pub fed_is : fed ≡ fed_packets start first packets
 

@@ -6,9 +6,9 @@ use Rattle.packet_sync.specs.Slips.{slips}
 use Rattle.packet_sync.specs.declared.left_out.FieldLeftOut.{FieldLeftOut}
 use Rattle.packet_sync.specs.declared.slip.Slip.{Slip}
 use Rattle.packet_sync.specs.declared.stretch.Stretch.{Stretch}
-use Rattle.es_feed.specs.Feeding.{Fed, FeedView}
+use Rattle.fed_streams.specs.Feeding.{Fed, FeedView}
 use Rattle.es_feed.specs.StreamFeeding.{IsFedBy, StreamFeedView, at_first, fed_of}
-use Rattle.es_feed.specs.declared.feed_fault.FeedFault.TheVariants.{Slipped}
+use Rattle.fed_streams.specs.declared.feed_fault.FeedFault.TheVariants.{Slipped}
 use Rattle.es_feed.specs.declared.slip_watch.StreamPlace.{StreamPlace}
 
 -- 1. Slips so far

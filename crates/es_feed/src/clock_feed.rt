@@ -2,14 +2,15 @@
 
 ghost use Rattle.std.specs.Prelude.{◌≡◌, ◌<◌, ◌++◌, OnOk, length};
 ghost use Rattle.std.specs.Option.{option_to_list};
-ghost use Rattle.es_feed.specs.Ticks as spec;
+ghost use Rattle.fed_streams.specs.Ticks as spec;
 
-use crate::fed_map::clock_pid;
-use crate::fed_streams::{end_at, greatest_of, passed_place};
-use crate::feed_fault::{ClockJump, FeedFault};
-use crate::found_pcr::FoundPcr;
-use crate::late::late_of;
 use crate::unit_feed::{NO_STREAM, UnitFeed, push_fed};
+use fed_streams::clock_jump::{is_jump, jump};
+use fed_streams::fed_map::clock_pid;
+use fed_streams::fed_streams::{end_at, greatest_of, passed_place};
+use fed_streams::late::late_of;
+use fed_streams::{ClockJump, FeedFault};
+use packet_pcr::FoundPcr;
 use pes_packet::{Marks, Unit};
 use std::alloc::{AllocError, Global};
 
@@ -24,7 +25,7 @@ const LONGEST_SILENCE: u64 = 900_000;
 const JUMP_PAUSE: u64 = 27_000;
 
 // What is told of a clock that jumps, if it does.
-#[tactic(auto, unfolding(crate::specs::Ticks::jump_fed))]
+#[tactic(auto, unfolding(fed_streams::specs::Ticks::jump_fed))]
 fn told_jump(jump: Option<ClockJump>) -> Option<(u8, Result<Unit, FeedFault>)>
     ensures { result ≡ spec.jump_fed jump }
 {
@@ -95,7 +96,7 @@ impl UnitFeed {
     }
 
     // Time goes on to a second behind the clock: the first unit under way that is due by then ends, or a tick is fed.
-    #[tactic(auto, unfolding(crate::specs::Ticks::after_passed, crate::specs::Ticks::fed_passed))]
+    #[tactic(auto, unfolding(fed_streams::specs::Ticks::after_passed, fed_streams::specs::Ticks::fed_passed))]
     fn go_on(
         &mut self,
         alloc: &Global,
@@ -115,7 +116,7 @@ impl UnitFeed {
     fn show(&mut self, pcr: FoundPcr)
         ensures { self.new ≡ spec.with_shown self.old pcr }
     {
-        if pcr.is_jump(self.shown) {
+        if is_jump(pcr, self.shown) {
             let moment = self.greatest() + JUMP_PAUSE;
             self.origin = self.origin.jumped(pcr.packet, moment, pcr.base);
         }
@@ -123,7 +124,7 @@ impl UnitFeed {
     }
 
     // Takes a reference of the clock.
-    #[tactic(auto, unfolding(crate::specs::Ticks::after_late, crate::specs::Ticks::fed_late))]
+    #[tactic(auto, unfolding(fed_streams::specs::Ticks::after_late, fed_streams::specs::Ticks::fed_late))]
     fn take_shown(
         &mut self,
         alloc: &Global,
@@ -133,7 +134,7 @@ impl UnitFeed {
         ensures feed { OnOk result (self.new ≡ spec.after_shown self.old pcr) }
         ensures fed { OnOk result (fed.new.items ≡ fed.old.items ++ spec.fed_shown self.old pcr) }
     {
-        push_fed(fed, told_jump(pcr.jump(self.shown)))?;
+        push_fed(fed, told_jump(jump(pcr, self.shown)))?;
         self.show(pcr);
         match late_of(self.origin.now, self.greatest(), pcr.base) {
             None => Ok(()),

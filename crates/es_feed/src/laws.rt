@@ -1,10 +1,11 @@
 //! Laws of the definitions. Each function does nothing: its contract is the law.
 
 ghost use Rattle.es_feed.specs.EachStream.{EachRises, FedByOneConstant, ReleasesRise};
-ghost use Rattle.es_feed.specs.Laws.{FedAsCarried, FedInTurn, FedWithoutClock};
+ghost use Rattle.es_feed.specs.Laws.{FedAsCarried, FedWithoutClock};
 ghost use Rattle.es_feed.specs.MovedApart.{FedApart};
 ghost use Rattle.es_feed.specs.StreamFeeding.{FedIsBeginning};
-ghost use Rattle.es_feed.specs.Ticks.{TicksArePast};
+ghost use Rattle.fed_streams.specs.Ticks.{TicksArePast};
+ghost use Rattle.fed_streams.specs.Feeding.{FedInTurn};
 
 /// States that what later findings feed comes after what was fed before, and changes none of it.
 pub fn fed_in_turn()

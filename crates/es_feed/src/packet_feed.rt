@@ -1,15 +1,16 @@
 //! A stream packet by packet.
 
-ghost use Rattle.std.specs.Prelude.{◌≡◌, ◌++◌, [], false, true, IfOk, OnOk};
+ghost use Rattle.std.specs.Prelude.{◌≡◌, ◌<◌, ◌++◌, [], false, true, IfOk, OnOk, length};
 ghost use Rattle.demux.specs.Stream.{found_in, taken};
 ghost use Rattle.es_feed.specs.StreamFeeding as spec;
-ghost use Rattle.es_feed.specs.Clocks.{pcr_at};
-ghost use Rattle.es_feed.specs.Ticks as ticks;
+ghost use Rattle.packet_pcr.specs.PacketPcr.{pcr_at};
+ghost use Rattle.fed_streams.specs.Ticks as ticks;
 
-use crate::feed_fault::FeedFault;
-use crate::found_pcr::{FoundPcr, found_pcr};
+use crate::packet_ends::{take_ends, take_held};
 use crate::unit_feed::UnitFeed;
 use demux::Demux;
+use fed_streams::FeedFault;
+use packet_pcr::{FoundPcr, found_pcr};
 use pes_packet::Unit;
 use std::alloc::{AllocError, Global};
 use std::marker::Model;
@@ -17,7 +18,8 @@ use ts_packet::read_packet;
 
 /// A stream whose packets come one after another: each is demultiplexed, and what is found in it is marked and fed, and
 /// then its clock reference. A packet that only goes on with an open unit is not read: nothing is found in it, and it
-/// has no reference.
+/// has no reference. Of open PES packets whose PID no stream has the bodies are left out again and again, since nothing
+/// is fed of them.
 #[derive(Drop)]
 pub(crate) struct PacketFeed {
     demux: Demux,
@@ -25,9 +27,12 @@ pub(crate) struct PacketFeed {
     feed: UnitFeed,
 }
 
+// After each such number of packets the bodies that no stream has are left out.
+const PACKETS: u64 = 4_096;
+
 // A contract sees what was taken.
 impl Model for PacketFeed {
-    ghost use Rattle.std.specs.Prelude.{◌≡◌, true};
+    ghost use Rattle.std.specs.Prelude.{◌≡◌, [], true};
     ghost use Rattle.demux.specs.Stream.{is_aligned};
     ghost use Rattle.es_feed.specs.StreamFeeding.{PacketFeedView};
 
@@ -35,7 +40,7 @@ impl Model for PacketFeed {
 
     ghost view = { λ p. record { demux = p.demux; feed = p.feed } };
 
-    ghost invariant = { λ p. (is_aligned p.demux ≡ true) × (p.packets ≡ p.demux.packets) };
+    ghost invariant = { λ p. (is_aligned p.demux ≡ true) × (p.packets ≡ p.demux.packets) × (p.demux.found ≡ []) };
 }
 
 impl PacketFeed {
@@ -51,7 +56,7 @@ impl PacketFeed {
     }
 
     // Takes a clock reference, if there is one.
-    #[tactic(auto, unfolding(crate::specs::Ticks::after_pcr, crate::specs::Ticks::fed_pcr))]
+    #[tactic(auto, unfolding(fed_streams::specs::Ticks::after_pcr, fed_streams::specs::Ticks::fed_pcr))]
     fn take_pcr(
         &mut self,
         alloc: &Global,
@@ -124,6 +129,36 @@ impl PacketFeed {
         self.read_next(alloc, bytes, fed)
     }
 
+    // Leaves out the bodies of open PES packets whose PID no stream has, if it is time.
+    fn leave_out(&mut self, alloc: &Global) -> Result<(), AllocError>
+        ensures feed { self.new.feed ≡ self.old.feed }
+        ensures demux { OnOk result (spec.AreAlike self.old.feed self.new.demux self.old.demux) }
+    {
+        if self.packets % PACKETS != 0 {
+            return Ok(());
+        }
+        let pids = self.feed.pids(alloc)?;
+        self.demux.leave_out_other_bodies(pids.as_slice());
+        Ok(())
+    }
+
+    // Takes a packet, and leaves out then what no stream has.
+    fn take_next(
+        &mut self,
+        alloc: &Global,
+        bytes: &[u8; 188],
+        fed: &mut Vec<(u8, Result<Unit, FeedFault>)>,
+    ) -> Result<(), AllocError>
+        ensures demux { OnOk result (spec.AreAlike self.old.feed self.new.demux (taken self.old.demux bytes.now)) }
+        ensures feed { OnOk result (self.new.feed ≡ ticks.after_packet self.old.feed
+            (found_in self.old.demux bytes.now) (pcr_at self.old.demux.packets bytes.now)) }
+        ensures fed { OnOk result (fed.new.items ≡ fed.old.items ++ ticks.fed_packet self.old.feed
+            (found_in self.old.demux bytes.now) (pcr_at self.old.demux.packets bytes.now)) }
+    {
+        self.take(alloc, bytes, fed)?;
+        self.leave_out(alloc)
+    }
+
     /// Takes the whole packets at the front of bytes, and returns how many bytes these have.
     pub fn take_all(
         &mut self,
@@ -139,20 +174,21 @@ impl PacketFeed {
             let Some(packet) = rest.first_chunk::<188>() else {
                 return Ok(at);
             };
-            self.take(alloc, packet, fed)?;
+            self.take_next(alloc, packet, fed)?;
             at += 188;
         }
         Ok(at)
     }
 
-    /// Ends the packets, with these bytes of the next one: feeds what the end decides, and then the last unit of each
-    /// stream, in the order of the streams.
+    /// Ends the packets, with these bytes of the next one: feeds what the end decides, one PID after another, and then
+    /// the last unit of each stream, in the order of the streams.
     pub fn finish(
         self,
         alloc: &Global,
         rest: &[u8],
         fed: &mut Vec<(u8, Result<Unit, FeedFault>)>,
     ) -> Result<(), AllocError>
+        requires { length rest.now < 188 }
         ensures { OnOk result (fed.new.items ≡ fed.old.items ++ spec.fed_rest self.demux self.feed rest.now) }
     {
         let mut demux = self.demux;
@@ -160,12 +196,8 @@ impl PacketFeed {
         let Ok(()) = demux.push(rest) else {
             return Err(AllocError);
         };
-        let Ok(()) = demux.finish() else {
-            return Err(AllocError);
-        };
-        let mut found = demux.into_findings();
-        feed.mark(&mut found);
-        feed.take_all(alloc, found.as_slice(), fed)?;
+        take_held(alloc, &demux, &mut feed, fed)?;
+        take_ends(alloc, &demux, &mut feed, fed)?;
         feed.finish(fed)?;
         Ok(())
     }

@@ -1,12 +1,12 @@
 //! A stream of bytes, in pieces of any size.
 
 ghost use Rattle.std.specs.Prelude.{◌≡◌, ◌<◌, ◌≤◌, ◌-◌, ◌++◌, IfOk, OnOk, List, ℕ, true, false, length, drop};
-ghost use Rattle.es_feed.specs.Feeding.{Fed, FeedView};
+ghost use Rattle.fed_streams.specs.Feeding.{Fed, FeedView};
 ghost use Rattle.es_feed.specs.StreamFeeding as spec;
 
-use crate::feed_fault::FeedFault;
 use crate::packet_feed::PacketFeed;
 use crate::unit_feed::UnitFeed;
+use fed_streams::FeedFault;
 use packet_sync::next_stretch;
 use pes_packet::Unit;
 use std::alloc::{AllocError, Global};

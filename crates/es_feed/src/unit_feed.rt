@@ -4,16 +4,17 @@ ghost use Rattle.std.specs.Prelude.{◌≡◌, ◌≤◌, ◌++◌, ◌^◌, IfO
 ghost use Rattle.demux.specs.Shown.{finding_view};
 ghost use Rattle.std.specs.Option.{option_to_list};
 ghost use Rattle.given_marks.specs.Marking.{all_marked};
-ghost use Rattle.es_feed.specs.Feeding as spec;
+ghost use Rattle.fed_streams.specs.Feeding as spec;
+ghost use Rattle.es_feed.specs.StreamFeeding.{stream_pids};
 
-use crate::due::Due;
-use crate::fed_map::{FedMap, other_stream, watch};
-use crate::fed_stream::FedStream;
-use crate::fed_streams::{greatest_of, place_of, take_at};
-use crate::feed_fault::{FeedFault, NewMap, OtherStream, PacketFault, Restart};
-use crate::origin::Origin;
-use crate::restart::{Seen, fallen_after, origin_by, restart_of, seen_of};
 use demux::{Finding, What};
+use fed_streams::due::Due;
+use fed_streams::fed_map::{other_stream, watch};
+use fed_streams::fed_streams::{greatest_of, pids_of, place_of, take_at};
+use fed_streams::feed_fault::OtherStream;
+use fed_streams::origin::Origin;
+use fed_streams::restart::{Seen, fallen_after, origin_by, restart_of, seen_of};
+use fed_streams::{FedMap, FedStream, FeedFault, NewMap, PacketFault, Restart};
 use given_marks::Marking;
 use pes_packet::Unit;
 use std::alloc::{AllocError, Global};
@@ -41,8 +42,8 @@ pub struct UnitFeed {
 // A contract sees what is kept of each stream.
 impl Model for UnitFeed {
     ghost use Rattle.std.specs.Prelude.{◌≤◌, ◌^◌};
-    ghost use Rattle.es_feed.specs.Feeding.{FeedView};
-    ghost use Rattle.es_feed.specs.Origins.{IsOrigin};
+    ghost use Rattle.fed_streams.specs.Feeding.{FeedView};
+    ghost use Rattle.fed_streams.specs.Origins.{IsOrigin};
 
     ghost Value = { FeedView };
 
@@ -75,7 +76,7 @@ pub(crate) fn push_fed(
 }
 
 // What is told of a map that changes, if one does.
-#[tactic(auto, unfolding(crate::specs::Feeding::map_fed))]
+#[tactic(auto, unfolding(fed_streams::specs::Feeding::map_fed))]
 fn told_map(change: Option<NewMap>) -> Option<(u8, Result<Unit, FeedFault>)>
     ensures { result ≡ spec.map_fed change }
 {
@@ -86,7 +87,7 @@ fn told_map(change: Option<NewMap>) -> Option<(u8, Result<Unit, FeedFault>)>
 }
 
 // What is told of a description of another stream.
-#[tactic(auto, unfolding(crate::specs::Feeding::other_fed))]
+#[tactic(auto, unfolding(fed_streams::specs::Feeding::other_fed))]
 fn told_other(other: Option<OtherStream>) -> Option<(u8, Result<Unit, FeedFault>)>
     ensures { result ≡ spec.other_fed other }
 {
@@ -97,7 +98,7 @@ fn told_other(other: Option<OtherStream>) -> Option<(u8, Result<Unit, FeedFault>
 }
 
 // What a finding of no PID says of a packet, or of the end of the stream.
-#[tactic(auto, unfolding(crate::specs::Feeding::packet_fault, crate::specs::Feeding::packet_fault_of))]
+#[tactic(auto, unfolding(fed_streams::specs::Feeding::packet_fault, fed_streams::specs::Feeding::packet_fault_of))]
 fn packet_fault(finding: &Finding<'_>) -> Option<PacketFault>
     ensures { result ≡ spec.packet_fault (finding_view finding.now) }
 {
@@ -113,7 +114,7 @@ fn packet_fault(finding: &Finding<'_>) -> Option<PacketFault>
 }
 
 // What is told of a packet, if it is not read.
-#[tactic(auto, unfolding(crate::specs::Feeding::packet_fed))]
+#[tactic(auto, unfolding(fed_streams::specs::Feeding::packet_fed))]
 fn told_packet(fault: Option<PacketFault>) -> Option<(u8, Result<Unit, FeedFault>)>
     ensures { result ≡ spec.packet_fed fault }
 {
@@ -124,7 +125,7 @@ fn told_packet(fault: Option<PacketFault>) -> Option<(u8, Result<Unit, FeedFault
 }
 
 // What is told of a restart, if there is one.
-#[tactic(auto, unfolding(crate::specs::Feeding::restart_fed))]
+#[tactic(auto, unfolding(fed_streams::specs::Feeding::restart_fed))]
 fn told_restart(restart: Option<Restart>) -> Option<(u8, Result<Unit, FeedFault>)>
     ensures { result ≡ spec.restart_fed restart }
 {
@@ -135,7 +136,7 @@ fn told_restart(restart: Option<Restart>) -> Option<(u8, Result<Unit, FeedFault>
 }
 
 // The greatest DTS so far, where the clock is known.
-#[tactic(auto, unfolding(crate::specs::Feeding::greatest_if))]
+#[tactic(auto, unfolding(fed_streams::specs::Feeding::greatest_if))]
 fn greatest_if(shown: Option<u64>, greatest: u64) -> Option<u64>
     requires { greatest ≤ 2 ^ 52 }
     ensures value { result ≡ spec.greatest_if shown greatest }
@@ -176,6 +177,13 @@ impl UnitFeed {
         ensures { map finding_view findings.new ≡ all_marked self.now.marking (map finding_view findings.old) }
     {
         self.marking.mark_all(findings);
+    }
+
+    /// Returns the PIDs of the streams.
+    pub(crate) fn pids(&self, alloc: &Global) -> Result<Vec<u16>, AllocError>
+        ensures { IfOk result (λ pids. pids.items ≡ stream_pids self.now) }
+    {
+        pids_of(*alloc, &self.streams)
     }
 
     /// Returns the greatest DTS of units that were fed and of ticks.

@@ -1,13 +1,14 @@
 //! A stream and its slips.
 
 ghost use Rattle.std.specs.Prelude.{◌≡◌, ◌<◌, ◌++◌, [], List, OnOk, false, length, ℕ};
-ghost use Rattle.es_feed.specs.Feeding.{Fed, FeedView};
+ghost use Rattle.fed_streams.specs.Feeding.{Fed, FeedView};
 ghost use Rattle.es_feed.specs.Watching as spec;
 
-use crate::feed_fault::{FeedFault, SlippedBytes};
 use crate::slip_watch::SlipWatch;
 use crate::stream_feed::StreamFeed;
 use crate::unit_feed::{NO_STREAM, UnitFeed};
+use fed_streams::FeedFault;
+use fed_streams::feed_fault::SlippedBytes;
 use packet_sync::Slip;
 use pes_packet::Unit;
 use std::alloc::{AllocError, Global};
@@ -15,7 +16,7 @@ use std::marker::Model;
 
 /// A stream whose bytes arrive piece by piece, and the bytes of it that are in no packet.
 #[derive(Drop)]
-pub(crate) struct WatchedFeed {
+pub struct WatchedFeed {
     alloc: Global,
     stream: StreamFeed,
     watch: SlipWatch,
@@ -47,7 +48,7 @@ fn push_slips(
 
 impl WatchedFeed {
     /// Returns a stream before its first byte.
-    pub(crate) fn new(alloc: Global, feed: UnitFeed) -> WatchedFeed
+    pub fn new(alloc: Global, feed: UnitFeed) -> WatchedFeed
         ensures { result ≡ spec.watched_first feed }
     {
         WatchedFeed {
@@ -59,7 +60,7 @@ impl WatchedFeed {
 
     /// Takes a piece of the stream, of any size: what its packets feed goes to `fed`, where nothing is, and then its
     /// slips.
-    pub(crate) fn push(
+    pub fn push(
         &mut self,
         piece: &[u8],
         fed: &mut Vec<(u8, Result<Unit, FeedFault>)>,
@@ -78,10 +79,7 @@ impl WatchedFeed {
     }
 
     /// Ends the stream: what the end feeds goes to `fed`, where nothing is, and then the slips that it decides.
-    pub(crate) fn finish(
-        self,
-        fed: &mut Vec<(u8, Result<Unit, FeedFault>)>,
-    ) -> Result<(), AllocError>
+    pub fn finish(self, fed: &mut Vec<(u8, Result<Unit, FeedFault>)>) -> Result<(), AllocError>
         requires { fed.old.items ≡ [] }
         ensures { (first : FeedView) (stream : List ℕ) (before : List Fed) →
             spec.IsWatchedBy first stream false self before →

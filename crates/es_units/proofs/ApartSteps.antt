@@ -6,14 +6,14 @@ use Rattle.std.specs.Option.{option_to_list}
 use Rattle.std.proofs.lemmas.Bool.Decides.{nat_tests}
 use Rattle.unit_queue.proofs.CauseLemmas.{or_false}
 use Rattle.es_units.specs.ApartSteps.{place_past, set_apart, unit_apart}
-use Rattle.es_units.specs.ApartUnits.{apart_by, apart_dts, apart_from, is_same_next, next_place}
-use Rattle.es_units.specs.CarriedUnits.{CarriedUnit}
-use Rattle.es_units.specs.MadeDts.{with_dts}
-use Rattle.es_units.specs.Stamps.{distance, dts_at, dts_not_increasing}
-use Rattle.es_units.specs.declared.stamps.StampFault.TheVariants.{DtsNotIncreasing}
-use Rattle.es_units.proofs.ApartUnits.{and_false, not_true, rises, same_number}
-use Rattle.es_units.proofs.StampFaults.{test_none}
-use Rattle.es_units.proofs.StampMoments.{shows_dts}
+use Rattle.es_moments.specs.ApartUnits.{apart_by, apart_dts, apart_from, is_same_next, next_place}
+use Rattle.es_moments.specs.MadeDts.{with_dts}
+use Rattle.es_moments.specs.Stamps.{distance, dts_at, dts_not_increasing}
+use Rattle.es_moments.specs.declared.stamps.StampFault.TheVariants.{DtsNotIncreasing}
+use Rattle.es_moments.proofs.ApartUnits.{and_false, not_true, rises, same_number}
+use Rattle.es_moments.proofs.StampFaults.{test_none}
+use Rattle.es_moments.proofs.StampMoments.{shows_dts}
+use Rattle.es_moments.specs.WireUnits.{CarriedUnit}
 
 -- 1. One unit
 

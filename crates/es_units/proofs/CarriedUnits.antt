@@ -8,9 +8,10 @@ use Rattle.std.proofs.lemmas.Bool.{cases_Bool}
 use Rattle.std.proofs.lemmas.List.{drop_all}
 use Rattle.demux.specs.Views.{FindingView}
 use Rattle.demux.specs.Laws.{has_pid, found_of}
-use Rattle.es_units.specs.CarriedUnits.{RoleView, Ignored, Start, Continuation, Interruption, CarriedUnit, role_of, more_bytes, continued_by, continuation}
+use Rattle.es_units.specs.CarriedUnits.{RoleView, Ignored, Start, Continuation, Interruption, role_of, more_bytes, continued_by, continuation}
 use Rattle.es_units.specs.CarriedUnits.{end_of, is_cut, start_id, first_id, is_part, is_split, units_from, units_in}
 use Rattle.es_units.specs.Laws.{FindingsOfThePid}
+use Rattle.es_moments.specs.WireUnits.{CarriedUnit}
 
 -- 1. What a finding of another PID is for the units
 

@@ -12,13 +12,14 @@ use Rattle.pes_packet.specs.declared.time_stamps.Stamps.TheVariants.{Absent, Pts
 use Rattle.demux.specs.Views.{WhatView, IsDuplicate, BreaksCounter, IsScrambled, IsTruncated, IsSection, IsBadSection, IsPes, IsBadPes, IsBadPacket, IsErrored}
 use Rattle.demux.specs.Views.{FindingView}
 use Rattle.demux.specs.Laws.{has_pid}
-use Rattle.es_units.specs.CarriedUnits.{RoleView, Ignored, Start, Continuation, CarriedUnit, unit_with, pes_role, role_of_what, is_access_point, is_unstamped}
+use Rattle.es_units.specs.CarriedUnits.{RoleView, Ignored, Start, Continuation, pes_role, role_of_what, is_access_point, is_unstamped}
 use Rattle.es_units.specs.CarriedUnits.{first_packet, role_of, more_bytes, continued_by, continuation, is_cut, is_split, with_more, units_from, units_in}
 use Rattle.es_units.specs.Damage.{is_left_out}
 use Rattle.es_units.specs.Laws.{NothingIsLost, body_of, bodies, leaves_out}
 use Rattle.es_units.specs.UnitWarnings.{current_after, unstamped_cause, first_cause, pes_cause, cause_of_what, id_of, cause_of, warning_list, warnings_from}
 use Rattle.es_units.specs.declared.unit_warning.UnitWarningCause.{UnitWarningCause}
 use Rattle.es_units.specs.declared.unit_warning.UnitWarningCause.TheVariants as causes
+use Rattle.es_moments.specs.WireUnits.{CarriedUnit, unit_with}
 
 -- 1. What is said of units, and what is not
 

@@ -12,11 +12,11 @@ use Rattle.unit_timing.proofs.Bursting.{burst_law}
 use Rattle.unit_queue.specs.OwnedStreams.{OwnedStream, timed}
 use Rattle.unit_queue.specs.Queues.{IsUnit, max_packets_per_unit}
 use Rattle.unit_queue.specs.declared.parameters.StreamParameters.{StreamParameters}
-use Rattle.es_units.specs.Stamps.{distance, dts_at, unit_at, moved, unit_fault, first_fault}
-use Rattle.es_units.specs.Declaration.{interval_after, min_interval, max_unit_size, max_pts_after, max_group, AllowsUnits}
+use Rattle.es_moments.specs.Stamps.{distance, dts_at, unit_at, moved, unit_fault, first_fault}
+use Rattle.es_moments.specs.Declaration.{interval_after, min_interval, max_unit_size, max_pts_after, max_group, AllowsUnits}
 use Rattle.es_units.specs.Laws.{FirstDue, UnitsAreKept}
-use Rattle.es_units.proofs.StampFaults.{place_none, timely}
-use Rattle.es_units.proofs.UnitCounts.{within_burst, bytes_most}
+use Rattle.es_moments.proofs.StampFaults.{place_none, timely}
+use Rattle.es_moments.proofs.UnitCounts.{within_burst, bytes_most}
 
 -- 1. Each by itself
 

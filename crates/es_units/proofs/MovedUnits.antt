@@ -2,7 +2,7 @@
 use Rattle.std.proofs.Common.{Some, List, [], ◌∷◌, refl, ap}
 use Rattle.pes_packet.specs.AccessUnits.{AccessUnit}
 use Rattle.es_units.specs.Laws.{MovedInTurn}
-use Rattle.es_units.specs.Stamps.{dts_at, dts_after, unit_at, moved}
+use Rattle.es_moments.specs.Stamps.{dts_at, dts_after, unit_at, moved}
 
 pub moved_in_turn : MovedInTurn
 unfolding moved dts_after

@@ -11,10 +11,11 @@ use Rattle.pes_packet.specs.declared.time_stamps.Stamps.TheVariants.{Absent, Pts
 use Rattle.demux.specs.Laws.{has_pid, found_of}
 use Rattle.demux.specs.Views.{WhatView, IsDuplicate, BreaksCounter, IsScrambled, IsTruncated, IsSection, IsBadSection, IsPes, IsBadPes, IsBadPacket, IsErrored}
 use Rattle.demux.specs.Views.{FindingView}
-use Rattle.es_units.specs.CarriedUnits.{RoleView, Ignored, Start, Continuation, CarriedUnit, unit_with, pes_role, role_of_what, role_of, is_access_point}
+use Rattle.es_units.specs.CarriedUnits.{RoleView, Ignored, Start, Continuation, pes_role, role_of_what, role_of, is_access_point}
 use Rattle.es_units.specs.CarriedUnits.{is_unstamped, first_packet, carried_units}
 use Rattle.es_units.specs.TakenUnits.{body_of, OthersStay}
 use Rattle.es_units.proofs.CarriedUnits.{same_units}
+use Rattle.es_moments.specs.WireUnits.{CarriedUnit, unit_with}
 
 -- 1. The body of a PES packet with which a unit starts
 

@@ -5,11 +5,12 @@ use Rattle.std.specs.Option.{option_to_list}
 use Rattle.std.proofs.Math.Seq.{drop-cons}
 use Rattle.std.proofs.lemmas.List.{append_assoc, append-nil, drop_all}
 use Rattle.demux.specs.Views.{FindingView}
-use Rattle.es_units.specs.CarriedUnits.{RoleView, Ignored, Start, Continuation, Interruption, CarriedUnit, unit_with, role_of, more_bytes, continued_by}
+use Rattle.es_units.specs.CarriedUnits.{RoleView, Ignored, Start, Continuation, Interruption, role_of, more_bytes, continued_by}
 use Rattle.es_units.specs.CarriedUnits.{continuation, end_of, is_cut, is_split, with_more, whole_unit, units_from, units_in}
 use Rattle.es_units.specs.UnitWarnings.{current_after}
 use Rattle.es_units.specs.UnitSteps.{UnitsSoFar, if_whole, ended_unit, cuts, has_id, lengthened, made_whole, goes_on_as, after_finding, given, after_findings}
 use Rattle.es_units.specs.UnitSteps.{none_so_far, GivenInTurn, GivenAreCarried, is_start_cut, has_cut, UncutAreCarried}
+use Rattle.es_moments.specs.WireUnits.{CarriedUnit, unit_with}
 
 -- 1. In turn
 

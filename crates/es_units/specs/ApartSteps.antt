@@ -1,9 +1,9 @@
 -- Units of data streams that are due at one moment, as they come: a unit is given when the next one begins, and its DTS is known by then.
 use Rattle.std.specs.Prelude.{ℕ, Bool, false, Option, Some, None}
 use Rattle.std.specs.Option.{option_to_list}
-use Rattle.es_units.specs.ApartUnits.{apart_by, is_same_next, next_place}
-use Rattle.es_units.specs.CarriedUnits.{CarriedUnit, unit_with}
+use Rattle.es_moments.specs.ApartUnits.{apart_by, is_same_next, next_place}
 use Rattle.es_units.specs.UnitSteps.{ended_unit}
+use Rattle.es_moments.specs.WireUnits.{CarriedUnit, unit_with}
 
 -- a unit with so many of its row before it, where the next one is of a row with it or not
 unfoldable pub unit_apart : Bool → ℕ → CarriedUnit → CarriedUnit

@@ -11,13 +11,8 @@ use Rattle.demux.specs.declared.finding.Kind.{Kind}
 use Rattle.demux.specs.declared.finding.Kind.TheVariants as kinds
 use Rattle.demux.specs.Views.{WhatView, IsDuplicate, IsTruncated, IsPes, IsBadPacket, IsErrored, FindingView}
 use Rattle.demux.specs.Laws.{has_pid}
-
--- a unit as a stream carries it: the packet in which its PES packet begins, its stream_id, and its bytes with the stamps on
--- the wire and what its first PES packet says beside them
-pub record CarriedUnit : Type 0 where
-  pub packet : ℕ
-  pub stream_id : ℕ
-  pub unit : AccessUnit
+use Rattle.es_moments.specs.ApartUnits.{apart_units}
+use Rattle.es_moments.specs.WireUnits.{CarriedUnit, unit_with}
 
 -- 1. Roles
 
@@ -29,14 +24,6 @@ pub data RoleView : Type 0 where
   Start : CarriedUnit → RoleView
   Continuation : ℕ → List ℕ → RoleView
   Interruption : Bool → RoleView
-
--- a unit is decoded when it is presented where it has no DTS (ISO/IEC 13818-1, 2.4.3.7)
-abbrev pub unit_with : ℕ → ℕ → ℕ → ℕ → Marks → List ℕ → CarriedUnit
-unit_with packet stream_id dts pts marks bytes = record {
-  packet = packet;
-  stream_id = stream_id;
-  unit = record { dts = dts; pts = pts; marks = marks; bytes = bytes };
-}
 
 -- the bytes of padding_stream, 0xBE, are thrown away (ISO/IEC 13818-1, 2.4.3.7)
 unfoldable pub pes_role : ℕ → ℕ → Marks → Stamps → List ℕ → RoleView
@@ -154,3 +141,7 @@ carried_units pid findings = units_in (is_split pid findings) pid findings
 -- their bytes, and their stamps on the wire
 abbrev pub wire_units : ℕ → List FindingView → List AccessUnit
 wire_units pid findings = map (λ u. u.unit) (carried_units pid findings)
+
+-- those of a PID, as on the wire
+abbrev pub apart_wire_units : ℕ → List FindingView → List AccessUnit
+apart_wire_units pid findings = map (λ u. u.unit) (apart_units (carried_units pid findings))

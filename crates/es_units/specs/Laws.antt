@@ -1,20 +1,19 @@
 -- What the laws of this crate say.
-use Rattle.std.specs.Prelude.{◌≡◌, ◌≤◌, ◌<◌, ℕ, ◌+◌, ◌-◌, ◌^◌, ◌++◌, Bool, false, Option, None, List, [], ◌∷◌, length, map, flat_map, All}
+use Rattle.std.specs.Prelude.{◌≡◌, ◌≤◌, ◌<◌, ℕ, ◌+◌, ◌++◌, Bool, false, Option, None, List, [], ◌∷◌, length, flat_map, All}
 use Rattle.std.specs.List.{list_any}
 use Rattle.pes_packet.specs.AccessUnits.{AccessUnit}
-use Rattle.pes_packet.specs.Encoding.{on_wire}
 use Rattle.unit_timing.specs.Allowances.{allowance_rows}
 use Rattle.unit_queue.specs.OwnedStreams.{OwnedStream}
 use Rattle.unit_queue.specs.Causes.{unit_cause}
 use Rattle.unit_queue.specs.Queues.{Kept}
-use Rattle.es_units.specs.Stamps.{distance, dts_after, moved, first_fault, min_distance, constant_of}
+use Rattle.es_moments.specs.Stamps.{dts_after, moved, first_fault}
 use Rattle.demux.specs.Views.{FindingView}
 use Rattle.demux.specs.Laws.{found_of}
 use Rattle.es_units.specs.CarriedUnits.{RoleView, Ignored, Start, Continuation, Interruption, role_of, carried_units}
 use Rattle.es_units.specs.Damage.{is_left_out}
 use Rattle.es_units.specs.UnitWarnings.{unit_warnings}
 use Rattle.es_units.specs.declared.unit_warning.UnitWarning.{UnitWarning}
-use Rattle.es_units.specs.Declaration.{min_interval, max_unit_size, max_pts_after, AllowsUnits}
+use Rattle.es_moments.specs.Declaration.{min_interval, max_unit_size, max_pts_after, AllowsUnits}
 
 -- the units of a PID are those of its findings alone
 abbrev pub FindingsOfThePid : Type 0
@@ -43,25 +42,6 @@ NothingIsLost = (pid count : ℕ) (findings : List FindingView) → list_any lea
 abbrev pub MovedInTurn : Type 0
 MovedInTurn = (base : ℕ) (before : Option ℕ) (us more : List AccessUnit) →
     moved base before (us ++ more) ≡ moved base before us ++ moved base (dts_after base before us) more
-
--- the stamps on the wire are the moments with one constant, and the bytes are the same
-abbrev pub MovedByOneConstant : Type 0
-MovedByOneConstant = (base : ℕ) (before : Option ℕ) (us : List AccessUnit) →
-    (map (λ u. on_wire (u.dts + base)) (moved base before us) ≡ map (λ u. on_wire u.dts) us)
-    × (map (λ u. on_wire (u.pts + base)) (moved base before us) ≡ map (λ u. on_wire u.pts) us)
-    × (map (λ u. u.marks) (moved base before us) ≡ map (λ u. u.marks) us)
-    × (map (λ u. u.bytes) (moved base before us) ≡ map (λ u. u.bytes) us)
-
--- the first DTS of the streams on a clock, counted from half the range before the first stream's
-abbrev pub after_half : ℕ → ℕ → ℕ
-after_half first stamp = distance (first + 2 ^ 32) stamp
-
--- each comes as long after `earliest` as it is after the least of them, where that is below the range
-abbrev pub ConstantIsLeast : Type 0
-ConstantIsLeast = (earliest first : ℕ) (others : List ℕ) (stamp : ℕ) → earliest < 2 ^ 33 →
-    min_distance (first + 2 ^ 32) (2 ^ 32) others ≤ after_half first stamp →
-    after_half first stamp - min_distance (first + 2 ^ 32) (2 ^ 32) others + earliest < 2 ^ 33 →
-    distance (constant_of earliest first others) stamp ≡ after_half first stamp - min_distance (first + 2 ^ 32) (2 ^ 32) others + earliest
 
 -- the first unit is due no earlier than a moment
 unfoldable pub FirstDue : ℕ → List AccessUnit → Type 0

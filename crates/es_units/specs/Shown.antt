@@ -1,9 +1,10 @@
 -- What the program's values say, without where their bytes lie in memory.
 use Rattle.std.specs.Prelude.{}
-use Rattle.es_units.specs.CarriedUnits.{RoleView, Ignored, Start, Continuation, Interruption, CarriedUnit, unit_with}
+use Rattle.es_units.specs.CarriedUnits.{RoleView, Ignored, Start, Continuation, Interruption}
 use Rattle.es_units.specs.declared.pes_role.UnitStart.{UnitStart}
 use Rattle.es_units.specs.declared.pes_role.PesRole.{PesRole}
 use Rattle.es_units.specs.declared.pes_role.PesRole.TheVariants as roles
+use Rattle.es_moments.specs.WireUnits.{CarriedUnit, unit_with}
 
 -- the first PES packet of a unit
 abbrev pub start_view : UnitStart → CarriedUnit

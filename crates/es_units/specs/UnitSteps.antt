@@ -2,8 +2,9 @@
 use Rattle.std.specs.Prelude.{◌≡◌, ℕ, ◌==◌, ◌||◌, Bool, false, if◌then◌else◌, Option, Some, None, unwrap_or, List, [], ◌∷◌, ◌++◌, length}
 use Rattle.std.specs.Option.{option_to_list}
 use Rattle.demux.specs.Views.{FindingView}
-use Rattle.es_units.specs.CarriedUnits.{RoleView, Ignored, Start, Continuation, Interruption, CarriedUnit, role_of, end_of, is_cut, is_split, with_more}
+use Rattle.es_units.specs.CarriedUnits.{RoleView, Ignored, Start, Continuation, Interruption, role_of, end_of, is_cut, is_split, with_more}
 use Rattle.es_units.specs.CarriedUnits.{carried_units}
+use Rattle.es_moments.specs.WireUnits.{CarriedUnit}
 
 -- what is kept of a PID: its number, whether a part may be lost of a unit after which something is lost, and the unit under way,
 -- with the bytes that it has so far

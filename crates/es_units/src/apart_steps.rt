@@ -3,15 +3,14 @@
 ghost use Rattle.std.specs.Prelude.{◌≡◌, ◌≤◌, Some, false};
 ghost use Rattle.std.specs.Option.{option_to_list};
 ghost use Rattle.es_units.specs.ApartSteps as spec;
-ghost use Rattle.es_units.specs.ApartUnits.{is_same_next};
+ghost use Rattle.es_moments.specs.ApartUnits.{is_same_next};
 ghost use Rattle.es_units.specs.UnitSteps.{ended_unit};
 
-use crate::apart::{PRIVATE_STREAM_1, apart_by, next_place};
-use crate::unit_bytes::UnitBytes;
-use crate::wire_unit::WireUnit;
+use es_moments::apart::{PRIVATE_STREAM_1, apart_by, next_place};
+use es_moments::{UnitBytes, WireUnit};
 
 // Whether a unit of private_stream_1 is due when another one is that has bytes.
-#[tactic(auto, unfolding(crate::specs::ApartUnits::is_same_next, crate::specs::UnitSteps::ended_unit))]
+#[tactic(auto, unfolding(es_moments::specs::ApartUnits::is_same_next, crate::specs::UnitSteps::ended_unit))]
 fn is_same<B: UnitBytes>(unit: &WireUnit<B>, next: &WireUnit<B>) -> bool
     ensures { result ≡ is_same_next unit.now (option_to_list (ended_unit false (Some next.now))) }
 {
@@ -19,7 +18,7 @@ fn is_same<B: UnitBytes>(unit: &WireUnit<B>, next: &WireUnit<B>) -> bool
 }
 
 /// Returns whether a unit that is given is due when the one under way after it is.
-#[tactic(auto, unfolding(crate::specs::ApartSteps::is_same_after, crate::specs::ApartUnits::is_same_next, crate::specs::UnitSteps::ended_unit))]
+#[tactic(auto, unfolding(crate::specs::ApartSteps::is_same_after, es_moments::specs::ApartUnits::is_same_next, crate::specs::UnitSteps::ended_unit))]
 pub(crate) fn is_same_after<B: UnitBytes>(
     unit: &Option<WireUnit<B>>,
     next: &Option<WireUnit<B>>,

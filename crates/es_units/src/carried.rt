@@ -5,8 +5,8 @@ ghost use Rattle.demux.specs.Shown.{finding_view};
 ghost use Rattle.es_units.specs.CarriedUnits as spec;
 
 use crate::found::found_units;
-use crate::wire_unit::{FoundUnit, WireUnit};
 use demux::Finding;
+use es_moments::{FoundUnit, WireUnit};
 use std::alloc::{AllocError, Allocator};
 
 // A copy of a unit.

@@ -9,8 +9,8 @@ use crate::pes_role::{is_on, role_of};
 use crate::split_units::{cuts_any, is_split};
 use crate::taken::push_unit;
 use crate::unit_taker::UnitTaker;
-use crate::wire_unit::FoundUnit;
 use demux::Finding;
+use es_moments::FoundUnit;
 use std::alloc::{AllocError, Allocator};
 
 // The units of a PID, where its units may have several PES packets if `split`, and whether one of them is cut.

@@ -1,9 +1,10 @@
 //! Laws of the definitions. Each function does nothing: its contract is the law.
 
-ghost use Rattle.es_units.specs.ApartUnits.{ApartKeep, ApartStay, RowRises, SoundStay};
-ghost use Rattle.es_units.specs.Laws.{ConstantIsLeast, FindingsOfThePid, MovedByOneConstant, MovedInTurn};
+ghost use Rattle.es_moments.specs.ApartUnits.{ApartKeep, ApartStay, RowRises, SoundStay};
+ghost use Rattle.es_units.specs.Laws.{FindingsOfThePid, MovedInTurn};
 ghost use Rattle.es_units.specs.Laws.{NothingIsLost, TakenOneByOne, UnitsAreKept};
 ghost use Rattle.es_units.specs.UnitSteps.{GivenAreCarried, GivenInTurn, UncutAreCarried};
+ghost use Rattle.es_moments.specs.Stamps.{ConstantIsLeast, MovedByOneConstant};
 
 /// States that the units of a PID are a function of that PID's findings.
 pub fn findings_of_the_pid()

@@ -9,10 +9,9 @@ ghost use Rattle.es_units.specs.UnitSteps as steps;
 
 use crate::pes_role::is_on;
 use crate::split_units::is_split;
-use crate::unit_bytes::UnitBytes;
 use crate::unit_taker::UnitTaker;
-use crate::wire_unit::WireUnit;
 use demux::Finding;
+use es_moments::{UnitBytes, WireUnit};
 use std::alloc::{AllocError, Allocator};
 
 /// Appends the unit, if there is one.

@@ -4,6 +4,7 @@ ghost use Rattle.std.specs.Prelude.{◌≡◌, ◌∷◌, [], IfOk, IfSome, OnOk
 ghost use Rattle.demux.specs.Shown.{finding_view, what_view};
 ghost use Rattle.es_units.specs.ApartSteps as apart;
 ghost use Rattle.es_units.specs.CarriedUnits as units;
+ghost use Rattle.es_moments.specs.WireUnits as wireunits;
 ghost use Rattle.es_units.specs.TakenUnits as taken;
 ghost use Rattle.es_units.specs.TakenUnits.{OthersStay};
 ghost use Rattle.es_units.specs.UnitSteps as spec;
@@ -11,9 +12,8 @@ ghost use Rattle.es_units.specs.Shown.{role_view, start_view};
 
 use crate::apart_steps::is_same_after;
 use crate::pes_role::{PesRole, UnitStart, is_on, role_of};
-use crate::unit_bytes::{BodyBytes, UnitBytes};
-use crate::wire_unit::WireUnit;
 use demux::{Finding, Part, What};
+use es_moments::{BodyBytes, UnitBytes, WireUnit};
 use pes_packet::Marks;
 use std::alloc::{AllocError, Allocator};
 use std::marker::Model;
@@ -73,7 +73,7 @@ fn moved_body<A: Allocator>(alloc: A, what: What<'_, A>) -> Result<Vec<u8, A>, A
 #[tactic(auto, using(crate::proofs::TakenUnits::start_body))]
 fn start_in<A: Allocator>(pid: u16, finding: &Finding<'_, A>) -> Option<(u64, u8, u64, u64, Marks)>
     ensures start { IfSome result (λ s. units.role_of pid (finding_view finding.now)
-        ≡ units.Start (units.unit_with s.0 s.1 s.2 s.3 s.4 (taken.body_of (what_view finding.now.what)))) }
+        ≡ units.Start (wireunits.unit_with s.0 s.1 s.2 s.3 s.4 (taken.body_of (what_view finding.now.what)))) }
     ensures on { IfSome result (λ s. finding.now.pid ≡ Some pid) }
 {
     if !is_on(pid, finding) {

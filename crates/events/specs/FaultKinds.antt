@@ -44,6 +44,8 @@ word_of kinds.Delayed = codes "delayed"
 word_of kinds.Unreferenced = codes "unreferenced"
 word_of kinds.Missing = codes "missing"
 word_of kinds.Rest = codes "rest"
+word_of kinds.NoStamps = codes "no_stamps"
+word_of kinds.StampJump = codes "stamp_jump"
 
 -- the place among all kinds
 unfoldable pub place_of : FaultKind → ℕ
@@ -80,6 +82,8 @@ place_of kinds.Delayed = 29
 place_of kinds.Unreferenced = 30
 place_of kinds.Missing = 31
 place_of kinds.Rest = 32
+place_of kinds.NoStamps = 33
+place_of kinds.StampJump = 34
 
 -- 2. Checks
 
@@ -118,6 +122,8 @@ check_of_kind kinds.Delayed = Some checks.DataDelay
 check_of_kind kinds.Unreferenced = Some checks.Unreferenced
 check_of_kind kinds.Missing = Some checks.Pid
 check_of_kind kinds.Rest = None
+check_of_kind kinds.NoStamps = None
+check_of_kind kinds.StampJump = None
 
 -- a table that is scrambled is a PAT or a PMT
 unfoldable pub check_of_stream : FaultKind → ℕ → Option Check
@@ -154,6 +160,8 @@ check_of_stream kinds.Delayed pid = check_of_kind kinds.Delayed
 check_of_stream kinds.Unreferenced pid = check_of_kind kinds.Unreferenced
 check_of_stream kinds.Missing pid = check_of_kind kinds.Missing
 check_of_stream kinds.Rest pid = check_of_kind kinds.Rest
+check_of_stream kinds.NoStamps pid = check_of_kind kinds.NoStamps
+check_of_stream kinds.StampJump pid = check_of_kind kinds.StampJump
 
 -- a section counts by its table_id, and a section of another table by its PID
 unfoldable pub check_of_section : FaultKind → ℕ → ℕ → Option Check
@@ -190,6 +198,8 @@ check_of_section kinds.Delayed pid table = check_of_kind kinds.Delayed
 check_of_section kinds.Unreferenced pid table = check_of_kind kinds.Unreferenced
 check_of_section kinds.Missing pid table = check_of_kind kinds.Missing
 check_of_section kinds.Rest pid table = check_of_kind kinds.Rest
+check_of_section kinds.NoStamps pid table = check_of_kind kinds.NoStamps
+check_of_section kinds.StampJump pid table = check_of_kind kinds.StampJump
 
 unfoldable pub check_of : FaultKind → FaultSource → Option Check
 check_of kind Whole = check_of_kind kind
@@ -232,6 +242,8 @@ is_repetition kinds.Delayed = false
 is_repetition kinds.Unreferenced = false
 is_repetition kinds.Missing = false
 is_repetition kinds.Rest = false
+is_repetition kinds.NoStamps = false
+is_repetition kinds.StampJump = false
 
 -- of service information (EN 300 468, table 2): SI_repetition_error comes in addition to the check of the table
 unfoldable pub is_si_repetition : FaultKind → FaultSource → Bool

@@ -43,6 +43,8 @@ is_worse kinds.Delayed value than = nat_lt than value
 is_worse kinds.Unreferenced value than = nat_lt than value
 is_worse kinds.Missing value than = nat_lt than value
 is_worse kinds.Rest value than = nat_lt than value
+is_worse kinds.NoStamps value than = nat_lt than value
+is_worse kinds.StampJump value than = nat_lt than value
 
 -- of equal values the first counts
 unfoldable pub worst_of : FaultKind → Option Measured → Option Measured → Option Measured

@@ -13,6 +13,7 @@ use Rattle.events.specs.declared.fault_kind.FaultKind.TheVariants as kinds
 use Rattle.events.specs.declared.fault_kind.FaultSource.{FaultSource}
 use Rattle.events.specs.declared.fault_kind.FaultSource.TheVariants.{Whole, Stream, Program, Table}
 use Rattle.events.specs.declared.input_event.InputEvent.{InputEvent}
+use Rattle.events.specs.declared.input_event.StampJump.{StampJump}
 use Rattle.events.specs.declared.input_event.InputEvent.TheVariants as inputs
 use Rattle.events.specs.declared.packet_fault.RefusalCause.{RefusalCause}
 use Rattle.events.specs.declared.packet_fault.RefusalCause.TheVariants as causes
@@ -75,6 +76,10 @@ kind_of_cause causes.SyncByte = kinds.SyncByte
 kind_of_cause causes.Header = kinds.Header
 kind_of_cause causes.TransportError = kinds.TransportError
 
+-- an arrival time stamp with which the stamps do not go on
+abbrev pub jump_fault : StampJump → Option ℕ → Fault
+jump_fault e at = measured_fault kinds.StampJump Whole e.packet at (record { value = e.value; limit = e.limit })
+
 -- packets of another size are no fault
 unfoldable pub input_fault : InputEvent → Option ℕ → Option Fault
 input_fault (inputs.Slip e) at = Some (point kinds.Slip Whole e.packet at)
@@ -83,6 +88,8 @@ input_fault inputs.Empty at = Some (point kinds.Empty Whole 0 None)
 input_fault (inputs.NoStream form) at = Some (point kinds.NoStream Whole 0 None)
 input_fault (inputs.OtherRate e) at = Some (point kinds.OtherRate (Stream e.pid) 0 None)
 input_fault (inputs.Rest e) at = Some (point kinds.Rest Whole e.packet at)
+input_fault inputs.NoStamps at = Some (point kinds.NoStamps Whole 0 None)
+input_fault (inputs.StampJump e) at = Some (jump_fault e at)
 
 unfoldable pub rule_fault : RuleEvent → Option ℕ → Option Fault
 rule_fault (rules.PtsRepetition e) at = Some (clock_fault kinds.PtsRepetition e at)
@@ -93,6 +100,7 @@ rule_fault (rules.NoCat e) at = Some (point kinds.NoCat (Stream e.pid) e.packet 
 rule_fault (rules.NotEmpty e) at = Some (stay_fault kinds.NotEmpty e)
 rule_fault (rules.Delayed e) at = Some (stay_fault kinds.Delayed e)
 rule_fault (rules.VariableRate e) at = None
+rule_fault (rules.ClockWindow e) at = None
 
 unfoldable pub buffer_fault : Event → Option ℕ → Option Fault
 buffer_fault (events.Input e) at = None

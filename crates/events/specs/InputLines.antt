@@ -6,6 +6,7 @@ use Rattle.events.specs.declared.input_event.InputEvent.TheVariants as inputs
 use Rattle.events.specs.declared.input_event.OtherRate.{OtherRate}
 use Rattle.events.specs.declared.input_event.RestBytes.{RestBytes}
 use Rattle.events.specs.declared.input_event.SlippedBytes.{SlippedBytes}
+use Rattle.events.specs.declared.input_event.StampJump.{StampJump}
 use Rattle.events.specs.FileForms.{line_word}
 use Rattle.events.specs.ReportLines.{line_of, number_field, word_field}
 
@@ -29,6 +30,13 @@ other_rate_line json e = line_of json (codes "other_rate")
 abbrev pub rest_line : Bool → RestBytes → List ℕ
 rest_line json e = line_of json (codes "rest") (number_field (codes "packet") e.packet ∷ number_field (codes "bytes") e.bytes ∷ [])
 
+abbrev pub no_stamps_line : Bool → List ℕ
+no_stamps_line json = line_of json (codes "no_stamps") []
+
+abbrev pub stamp_jump_line : Bool → StampJump → List ℕ
+stamp_jump_line json e = line_of json (codes "stamp_jump")
+    (number_field (codes "packet") e.packet ∷ number_field (codes "value") e.value ∷ number_field (codes "limit") e.limit ∷ [])
+
 unfoldable pub input_line : Bool → InputEvent → List ℕ
 input_line json (inputs.Slip e) = slip_line json e
 input_line json (inputs.PacketSize size) = packet_size_line json size
@@ -36,3 +44,5 @@ input_line json inputs.Empty = empty_line json
 input_line json (inputs.NoStream form) = no_stream_line json form
 input_line json (inputs.OtherRate e) = other_rate_line json e
 input_line json (inputs.Rest e) = rest_line json e
+input_line json inputs.NoStamps = no_stamps_line json
+input_line json (inputs.StampJump e) = stamp_jump_line json e

@@ -3,6 +3,7 @@ use Rattle.std.specs.Prelude.{ℕ, Bool, List, [], ◌∷◌, codes}
 use Rattle.events.specs.declared.event.ClockFault.{ClockFault}
 use Rattle.events.specs.declared.event.TableFault.{TableFault}
 use Rattle.events.specs.declared.rule_event.BufferStay.{BufferStay}
+use Rattle.events.specs.declared.rule_event.ClockFigures.{ClockFigures}
 use Rattle.events.specs.declared.rule_event.OtherTable.{OtherTable}
 use Rattle.events.specs.declared.rule_event.RuleEvent.{RuleEvent}
 use Rattle.events.specs.declared.rule_event.RuleEvent.TheVariants as rules
@@ -42,6 +43,12 @@ variable_line json e = line_of json (codes "variable_rate")
     (number_field (codes "packet") e.packet ∷ number_field (codes "pairs") e.pairs
     ∷ number_field (codes "apart") e.apart ∷ [])
 
+abbrev pub clock_window_line : Bool → ClockFigures → List ℕ
+clock_window_line json e = line_of json (codes "clock_window")
+    (number_field (codes "number") e.number ∷ number_field (codes "pid") e.pid
+    ∷ number_field (codes "references") e.references ∷ number_field (codes "interval") e.interval
+    ∷ number_field (codes "inaccuracy") e.inaccuracy ∷ [])
+
 unfoldable pub rule_line : Bool → RuleEvent → List ℕ
 rule_line json (rules.PtsRepetition e) = pts_line json e
 rule_line json (rules.SectionDistance e) = distance_line json e
@@ -51,3 +58,4 @@ rule_line json (rules.NoCat e) = scrambled_line json (codes "no_cat") e
 rule_line json (rules.NotEmpty e) = stay_line json (codes "not_empty") e
 rule_line json (rules.Delayed e) = stay_line json (codes "delayed") e
 rule_line json (rules.VariableRate e) = variable_line json e
+rule_line json (rules.ClockWindow e) = clock_window_line json e

@@ -4,7 +4,7 @@ ghost use Rattle.events.specs.Faults as spec;
 
 use crate::event::{BufferExcess, ClockFault, Event, ProgramExcess, TableFault};
 use crate::fault_kind::{FaultKind, FaultSource};
-use crate::input_event::InputEvent;
+use crate::input_event::{InputEvent, StampJump};
 use crate::packet_fault::RefusalCause;
 use crate::rule_event::{BufferKind, BufferStay, RuleEvent};
 
@@ -181,6 +181,22 @@ fn kind_of_cause(cause: RefusalCause) -> FaultKind
     }
 }
 
+fn jump_fault(e: &StampJump, at: Option<u128>) -> Fault
+    ensures { result ≡ spec.jump_fault e.now at }
+{
+    Fault {
+        kind: FaultKind::StampJump,
+        source: FaultSource::Whole,
+        packet: e.packet,
+        from: at,
+        to: at,
+        measured: Some(Measured {
+            value: u128::from(e.value),
+            limit: e.limit,
+        }),
+    }
+}
+
 #[tactic(auto, unfolding(crate::specs::Faults::input_fault))]
 fn input_fault(event: InputEvent, at: Option<u128>) -> Option<Fault>
     ensures { result ≡ spec.input_fault event at }
@@ -197,6 +213,8 @@ fn input_fault(event: InputEvent, at: Option<u128>) -> Option<Fault>
             None,
         )),
         InputEvent::Rest(e) => Some(point(FaultKind::Rest, FaultSource::Whole, e.packet, at)),
+        InputEvent::NoStamps => Some(point(FaultKind::NoStamps, FaultSource::Whole, 0, None)),
+        InputEvent::StampJump(e) => Some(jump_fault(&e, at)),
     }
 }
 
@@ -228,6 +246,7 @@ fn rule_fault(event: RuleEvent, at: Option<u128>) -> Option<Fault>
         RuleEvent::NotEmpty(e) => Some(stay_fault(FaultKind::NotEmpty, &e)),
         RuleEvent::Delayed(e) => Some(stay_fault(FaultKind::Delayed, &e)),
         RuleEvent::VariableRate(_) => None,
+        RuleEvent::ClockWindow(_) => None,
     }
 }
 

@@ -40,6 +40,8 @@ pub enum FaultKind {
     Unreferenced,
     Missing,
     Rest,
+    NoStamps,
+    StampJump,
 }
 
 /// Where a fault is: in the whole stream, in the stream of a PID, in the tables of a program, or in a table by PID and
@@ -92,6 +94,8 @@ impl FaultKind {
             FaultKind::Unreferenced => "unreferenced",
             FaultKind::Missing => "missing",
             FaultKind::Rest => "rest",
+            FaultKind::NoStamps => "no_stamps",
+            FaultKind::StampJump => "stamp_jump",
         }
     }
 
@@ -134,6 +138,8 @@ impl FaultKind {
             FaultKind::Unreferenced => 30,
             FaultKind::Missing => 31,
             FaultKind::Rest => 32,
+            FaultKind::NoStamps => 33,
+            FaultKind::StampJump => 34,
         }
     }
 

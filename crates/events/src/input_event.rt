@@ -48,6 +48,16 @@ pub struct OtherRate {
     pub references: u128,
 }
 
+/// An arrival time stamp with which the stamps do not go on.
+#[derive(Clone, Copy)]
+pub struct StampJump {
+    /// The number of packets before its packet.
+    pub packet: u64,
+    /// The ticks from the stamp before, and the most that there may be.
+    pub value: u64,
+    pub limit: u64,
+}
+
 /// An event of the input, by the word of its line.
 #[derive(Clone, Copy)]
 pub enum InputEvent {
@@ -60,6 +70,9 @@ pub enum InputEvent {
     NoStream(FileForm),
     OtherRate(OtherRate),
     Rest(RestBytes),
+    /// Arrival time stamps are asked for, and the packets have none.
+    NoStamps,
+    StampJump(StampJump),
 }
 
 impl FileForm {

@@ -2,7 +2,7 @@
 ghost use Rattle.std.specs.Prelude.{◌≡◌, ◌++◌, OnOk, string_bytes};
 ghost use Rattle.events.specs.InputLines as spec;
 
-use crate::input_event::{FileForm, InputEvent, OtherRate, RestBytes, SlippedBytes};
+use crate::input_event::{FileForm, InputEvent, OtherRate, RestBytes, SlippedBytes, StampJump};
 use crate::lines::{number, word, write_line};
 use std::alloc::AllocError;
 
@@ -57,6 +57,18 @@ fn write_rest(text: &mut String, json: bool, e: &RestBytes) -> Result<(), AllocE
     write_line(text, json, "rest", &fields)
 }
 
+// Appends `stamp_jump`.
+fn write_stamp_jump(text: &mut String, json: bool, e: &StampJump) -> Result<(), AllocError>
+    ensures { OnOk result (string_bytes text.new ≡ string_bytes text.old ++ spec.stamp_jump_line json e.now) }
+{
+    let fields = [
+        number("packet", u128::from(e.packet)),
+        number("value", u128::from(e.value)),
+        number("limit", u128::from(e.limit)),
+    ];
+    write_line(text, json, "stamp_jump", &fields)
+}
+
 /// Appends the line of an event of the input.
 #[tactic(auto, unfolding(crate::specs::InputLines::input_line))]
 pub(crate) fn write_input(
@@ -73,5 +85,7 @@ pub(crate) fn write_input(
         InputEvent::NoStream(form) => write_no_stream(text, json, *form),
         InputEvent::OtherRate(e) => write_other_rate(text, json, e),
         InputEvent::Rest(e) => write_rest(text, json, e),
+        InputEvent::NoStamps => write_line(text, json, "no_stamps", &[]),
+        InputEvent::StampJump(e) => write_stamp_jump(text, json, e),
     }
 }

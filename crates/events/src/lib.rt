@@ -46,12 +46,12 @@ pub use event::{
 pub use event_lines::write_events;
 pub use fault::{Fault, Measured, fault_of};
 pub use fault_kind::{FaultKind, FaultSource};
-pub use input_event::{FileForm, InputEvent, OtherRate, RestBytes, SlippedBytes};
+pub use input_event::{FileForm, InputEvent, OtherRate, RestBytes, SlippedBytes, StampJump};
 pub use mark_event::MarkTotals;
 pub use packet_fault::{CheckWordFault, CounterFault, RefusalCause, RefusedPacket};
 pub use pid_name::PidName;
 pub use rule_event::{
-    BufferKind, BufferStay, OtherTable, RuleEvent, ScrambledPacket, VariableRate,
+    BufferKind, BufferStay, ClockFigures, OtherTable, RuleEvent, ScrambledPacket, VariableRate,
 };
 pub use summary::{
     BufferVerdict, CheckVerdict, FaultTotals, FaultVerdict, SummaryEvent, UnitVerdict, Verdict,

@@ -53,7 +53,20 @@ pub struct VariableRate {
     pub apart: u64,
 }
 
-/// A fault by a check of ETSI TR 101 290, or a check that can't be made, by the word of its line.
+/// The clock references of a PID in a window: their number, the greatest time from one to the next in ticks, and the
+/// greatest inaccuracy in nanoseconds; 0 if no reference has one.
+#[derive(Clone, Copy)]
+pub struct ClockFigures {
+    /// The number of the window.
+    pub number: u64,
+    pub pid: u16,
+    pub references: u64,
+    pub interval: u128,
+    pub inaccuracy: u128,
+}
+
+/// A fault by a check of ETSI TR 101 290, a check that can't be made, or the clock references of a window, by the word
+/// of its line.
 #[derive(Clone, Copy)]
 pub enum RuleEvent {
     /// A PTS that comes too long after the one before it (2.5).
@@ -71,6 +84,8 @@ pub enum RuleEvent {
     Delayed(BufferStay),
     /// The accuracy of clock references (2.4) says nothing.
     VariableRate(VariableRate),
+    /// The clock references of a PID in a window.
+    ClockWindow(ClockFigures),
 }
 
 impl BufferKind {

@@ -4,7 +4,9 @@ ghost use Rattle.events.specs.RuleLines as spec;
 
 use crate::event::{ClockFault, TableFault};
 use crate::lines::{number, word, write_line};
-use crate::rule_event::{BufferStay, OtherTable, RuleEvent, ScrambledPacket, VariableRate};
+use crate::rule_event::{
+    BufferStay, ClockFigures, OtherTable, RuleEvent, ScrambledPacket, VariableRate,
+};
 use std::alloc::AllocError;
 
 // Appends `pts_repetition`.
@@ -89,7 +91,21 @@ fn write_variable(text: &mut String, json: bool, e: &VariableRate) -> Result<(),
     write_line(text, json, "variable_rate", &fields)
 }
 
-/// Appends the line of a fault by a check, or of a check that can't be made.
+// Appends `clock_window`.
+fn write_clock_window(text: &mut String, json: bool, e: &ClockFigures) -> Result<(), AllocError>
+    ensures { OnOk result (string_bytes text.new ≡ string_bytes text.old ++ spec.clock_window_line json e.now) }
+{
+    let fields = [
+        number("number", u128::from(e.number)),
+        number("pid", u128::from(e.pid)),
+        number("references", u128::from(e.references)),
+        number("interval", e.interval),
+        number("inaccuracy", e.inaccuracy),
+    ];
+    write_line(text, json, "clock_window", &fields)
+}
+
+/// Appends the line of a fault by a check, of a check that can't be made, or of the clock references of a window.
 #[tactic(auto, unfolding(crate::specs::RuleLines::rule_line))]
 pub(crate) fn write_rule(text: &mut String, json: bool, event: &RuleEvent) -> Result<(), AllocError>
     ensures { OnOk result (string_bytes text.new ≡ string_bytes text.old ++ spec.rule_line json event.now) }
@@ -103,5 +119,6 @@ pub(crate) fn write_rule(text: &mut String, json: bool, event: &RuleEvent) -> Re
         RuleEvent::NotEmpty(e) => write_stay(text, json, "not_empty", e),
         RuleEvent::Delayed(e) => write_stay(text, json, "delayed", e),
         RuleEvent::VariableRate(e) => write_variable(text, json, e),
+        RuleEvent::ClockWindow(e) => write_clock_window(text, json, e),
     }
 }

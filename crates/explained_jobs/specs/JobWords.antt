@@ -2,13 +2,14 @@
 use Rattle.std.specs.Prelude.{◌≡◌, ℕ, ◌==◌, Bool, true, false, if◌then◌else◌, List, [], ◌++◌, length, Option, Some, None, Result, Ok, Err}
 use Rattle.std.specs.Prelude.{codes, decimal, nat_eq}
 use Rattle.std.specs.List.{starts_with}
-use Rattle.slot_plan.specs.Entries.{Entry, code_of}
+use Rattle.slot_plan.specs.Entries.{Entry}
 use Rattle.mux_core.specs.declared.multiplexing.MuxError.{MuxError}
 use Rattle.mux_core.specs.declared.multiplexing.MuxError.TheVariants.{TooManySlots, Periods, Feed, Device, Memory}
 use Rattle.unit_records.specs.declared.reading.UnitFileError.{UnitFileError}
 use Rattle.unit_records.specs.declared.reading.UnitFileError.TheVariants as unread
 use Rattle.checked_jobs.specs.Jobs.{BadDescription, BadLine, BadSecondLine, Fails, HasNoPlan, JobFaultView, JobView, SecondFails}
 use Rattle.checked_jobs.specs.Jobs.{first_plan_line, job_of, parts_of}
+use Rattle.diagnosis.specs.ConditionLines.{switch_line}
 use Rattle.diagnosis.specs.Explained.{explained}
 use Rattle.diagnosis.specs.TomlNotes.{TomlNoteView}
 use Rattle.tsmux_cli.specs.MuxJobs.{InJob, InRecord, MuxFaultView, MuxJobView, mux_job_of}
@@ -40,9 +41,7 @@ record_words index unread.Memory = []
 
 -- a condition on two plans has the two numbers that it compares
 unfoldable pub switch_words : Entry → List ℕ
-switch_words e =
-    codes "the second plan can't follow: condition " ++ decimal (code_of e.condition) ++ codes " part " ++ decimal e.part ++ codes " item " ++ decimal e.item
-    ++ codes ": " ++ decimal e.left ++ codes ", at most " ++ decimal e.right ++ codes "\n"
+switch_words e = codes "the second plan can't follow: " ++ switch_line e
 
 -- the faults after a plan that serves its description
 unfoldable pub job_fault_words : JobFaultView → List ℕ

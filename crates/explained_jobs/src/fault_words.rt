@@ -45,22 +45,12 @@ fn write_record(index: u64, fault: UnitFileError, text: &mut String) -> Result<(
 }
 
 // Appends a condition on two plans.
+#[tactic(auto, unfolding(crate::specs::JobWords::switch_words))]
 fn write_switch(refusal: Refusal, text: &mut String) -> Result<(), AllocError>
     ensures { OnOk result (string_bytes text.new ≡ string_bytes text.old ++ spec.switch_words (entry_of refusal)) }
 {
-    let Refusal {
-        condition,
-        part,
-        item,
-        left,
-        right,
-        ..
-    } = refusal;
-    let code = condition.code();
-    write!(
-        text,
-        "the second plan can't follow: condition {code} part {part} item {item}: {left}, at most {right}\n"
-    )
+    text.push_str("the second plan can't follow: ")?;
+    diagnosis::write_switch(refusal, text)
 }
 
 // Appends a fault of plans.

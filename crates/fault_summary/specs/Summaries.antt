@@ -37,6 +37,7 @@ is_variable_rule (rules.NoCat e) = false
 is_variable_rule (rules.NotEmpty e) = false
 is_variable_rule (rules.Delayed e) = false
 is_variable_rule (rules.VariableRate e) = true
+is_variable_rule (rules.ClockWindow e) = false
 
 unfoldable pub is_variable : Event → Bool
 is_variable (events.Input e) = false

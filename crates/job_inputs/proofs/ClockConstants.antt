@@ -5,8 +5,8 @@ use Rattle.std.proofs.lemmas.Option.{same_Some, slice_get-get_or, slice_get-map,
 use Rattle.demux.specs.Views.{FindingView}
 use Rattle.pes_packet.specs.AccessUnits.{AccessUnit}
 use Rattle.pes_packet.specs.Encoding.{on_wire}
-use Rattle.es_units.specs.Stamps.{distance, first_fault, moved as moved_units}
-use Rattle.es_units.proofs.StampMoments.{moved_by_one}
+use Rattle.es_moments.specs.Stamps.{distance, first_fault, moved as moved_units}
+use Rattle.es_moments.proofs.StampMoments.{moved_by_one}
 use Rattle.job_units.specs.declared.moved_streams.FirstDts.{FirstDts}
 use Rattle.job_programs.specs.declared.refusal.JobError.{JobError}
 use Rattle.job_programs.specs.Answers.{Answers, and_then, each}

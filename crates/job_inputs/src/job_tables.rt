@@ -7,7 +7,7 @@ ghost use Rattle.job_programs.specs.JobStreams.{is_stream_of};
 ghost use Rattle.job_programs.specs.JobTables as spec;
 
 use demux::Finding;
-use es_units::FoundUnit;
+use es_moments::FoundUnit;
 use job_programs::job_stream::is_stream_of;
 use job_programs::{JobProgram, Warning, WireStream};
 use job_units::wire_streams::is_selected_stream;

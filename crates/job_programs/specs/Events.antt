@@ -7,7 +7,7 @@ use Rattle.service_information.specs.CivilTimes.{civil_text}
 use Rattle.service_information.specs.Events.{FoundEventView, stream_events}
 use Rattle.service_information.specs.StreamTime.{stream_time}
 use Rattle.service_information.specs.Warnings.{information_warnings}
-use Rattle.stream_programs.specs.Texts.{decode_text}
+use Rattle.dvb_texts.specs.Texts.{decode_text}
 use Rattle.job_programs.specs.JobPrograms.{JobProgramView}
 use Rattle.job_programs.specs.declared.warning.Warning.{Warning}
 use Rattle.job_programs.specs.declared.warning.Warning.TheVariants.{Information}

@@ -2,14 +2,15 @@
 use Rattle.std.specs.Prelude.{◌≡◌, ◌≤◌, ◌<◌, ℕ, ◌^◌, Bool, true, false, None, List, map, length}
 use Rattle.pes_packet.specs.AccessUnits.{AccessUnit}
 use Rattle.demux.specs.Views.{FindingView}
-use Rattle.es_units.specs.ApartUnits.{apart_units}
-use Rattle.es_units.specs.CarriedUnits.{CarriedUnit, carried_units}
-use Rattle.es_units.specs.MadeDts.{made_units}
-use Rattle.es_units.specs.Declaration.{min_interval, max_unit_size, max_pts_after, AllowsUnits}
+use Rattle.es_moments.specs.ApartUnits.{apart_units}
+use Rattle.es_units.specs.CarriedUnits.{carried_units}
+use Rattle.es_moments.specs.MadeDts.{made_units}
+use Rattle.es_moments.specs.Declaration.{min_interval, max_unit_size, max_pts_after, AllowsUnits}
 use Rattle.es_units.specs.Laws.{FirstDue}
-use Rattle.es_units.specs.Stamps.{moved, first_fault}
+use Rattle.es_moments.specs.Stamps.{moved, first_fault}
 use Rattle.description_parts.specs.Described.{Described, DescribedStream}
 use Rattle.job_programs.specs.JobStreams.{TimedStreamView, WireStreamView}
+use Rattle.es_moments.specs.WireUnits.{CarriedUnit}
 
 -- units as on the wire, at the moments that they have where the clock shows `base` at moment 0, each presented within some limit after its
 -- DTS

@@ -4,10 +4,10 @@ use Rattle.std.specs.Option.{option_or}
 use Rattle.std.specs.List.{list_any}
 use Rattle.demux.specs.Views.{FindingView}
 use Rattle.job_text.specs.DescriptionParts.{EventPartView, NetworkPartView}
-use Rattle.stream_programs.specs.NetworkInformation.{FoundNetworkView, stream_network}
-use Rattle.stream_programs.specs.Networks.{network}
-use Rattle.stream_programs.specs.Services.{FoundServiceView, service}
-use Rattle.stream_programs.specs.Texts.{decode_text}
+use Rattle.ts_services.specs.NetworkInformation.{FoundNetworkView, stream_network}
+use Rattle.ts_services.specs.Networks.{network}
+use Rattle.ts_services.specs.Services.{FoundServiceView, service}
+use Rattle.dvb_texts.specs.Texts.{decode_text}
 use Rattle.service_information.specs.StreamTime.{stream_time}
 use Rattle.job_programs.specs.Events.{event_parts, job_events, start_of}
 use Rattle.given_values.specs.GivenNames.{NetworkNameView, ServiceNameView}

@@ -12,7 +12,7 @@ use Rattle.stream_coding.specs.declared.buffers.PidBuffers.{PidBuffers}
 -- of 90 kHz; by what the packets of units are declared; whether DTS are made from PTS; whether a stream that can't be carried refuses the
 -- input; what the system clock shows as the run begins; the network and the names of services in place of those of the stream; the programs
 -- that are taken, none for all; PIDs that are left out; buffers in place of those by coding; whether units at which a decoder may begin are
--- marked; and PIDs whose units are aligned
+-- marked; PIDs whose units are aligned; and whether the parts of a recording that was joined from several come one after another
 pub record JobOptionsView : Type 0 where
   pub rate : Option ℕ
   pub start : Option (List ℕ)
@@ -29,6 +29,7 @@ pub record JobOptionsView : Type 0 where
   pub buffers : List PidBuffers
   pub mark_access : Bool
   pub aligned : List ℕ
+  pub joined : Bool
 
 unfoldable pub is_among : ℕ → List ℕ → Bool
 is_among number numbers = list_any (λ other. other == number) numbers

@@ -5,8 +5,8 @@ use Rattle.std.specs.List.{list_any}
 use Rattle.demux.specs.Views.{FindingView}
 use Rattle.psi_tables.specs.declared.pat.programs.Program.{Program}
 use Rattle.stream_programs.specs.Programs.{FoundProgramView}
-use Rattle.stream_programs.specs.Services.{FoundServiceView, service}
-use Rattle.stream_programs.specs.Texts.{has_unread}
+use Rattle.ts_services.specs.Services.{FoundServiceView, service}
+use Rattle.dvb_texts.specs.Texts.{has_unread}
 use Rattle.stream_programs.specs.declared.pid_assignment.ProgramPids.{ProgramPids}
 use Rattle.job_programs.specs.declared.program_clock.ProgramClock.{ProgramClock}
 use Rattle.job_programs.specs.declared.refusal.NamedNumbers.{NamedNumbers}

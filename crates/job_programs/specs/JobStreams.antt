@@ -2,8 +2,8 @@
 use Rattle.std.specs.Prelude.{ℕ, ◌==◌, ◌||◌, Bool, List, refl}
 use Rattle.std.specs.Coded.{Coded, code_by, coded×, coded_list, coded_ℕ}
 use Rattle.pes_packet.specs.AccessUnits.{AccessUnit}
-use Rattle.es_units.specs.CarriedUnits.{CarriedUnit}
 use Rattle.job_programs.specs.JobOptions.{is_among}
+use Rattle.es_moments.specs.WireUnits.{CarriedUnit}
 
 -- an elementary stream of a program: what its map says, the stream_id of its PES packets, the other programs that share it, and its
 -- units

@@ -11,12 +11,12 @@ use Rattle.other_tables.specs.SteadySections.{SteadySectionsView, steady_section
 use Rattle.stream_programs.specs.Streams.{FoundStreamView}
 use Rattle.stream_programs.specs.declared.omission.TableOmission.{TableOmission}
 use Rattle.stream_programs.specs.declared.omission.TableOmission.TheVariants.{NoPes}
-use Rattle.es_units.specs.CarriedUnits.{CarriedUnit}
 use Rattle.job_programs.specs.declared.warning.Warning.{Warning}
 use Rattle.job_programs.specs.declared.warning.Warning.TheVariants as warnings
 use Rattle.job_programs.specs.JobOptions.{is_selected_stream}
 use Rattle.job_programs.specs.JobPrograms.{JobProgramView}
 use Rattle.job_programs.specs.JobStreams.{TimedStreamView, WireStreamView, is_stream_of}
+use Rattle.es_moments.specs.WireUnits.{CarriedUnit}
 
 -- what the map of its program says, the sections in the order in which they come first, the greatest number of packets from one start of a
 -- section to the next, and the packets from the first unit of the program's first stream to its last

@@ -5,18 +5,19 @@ use Rattle.std.specs.List.{list_any}
 use Rattle.psi_tables.specs.declared.pat.programs.Program.{Program}
 use Rattle.demux.specs.Views.{WhatView, IsTruncated, IsBadPacket, IsErrored, FindingView}
 use Rattle.stream_programs.specs.Association.{AssociationView, association_change, is_named}
-use Rattle.stream_programs.specs.NetworkInformation.{FoundNetworkView, network_surplus, stream_network}
+use Rattle.ts_services.specs.NetworkInformation.{FoundNetworkView, network_surplus, stream_network}
 use Rattle.stream_programs.specs.Omissions.{is_loss}
 use Rattle.stream_programs.specs.ProgramMaps.{map_change}
 use Rattle.stream_programs.specs.declared.program_map.MapPart.{MapPart}
 use Rattle.stream_programs.specs.Programs.{programs_of}
 use Rattle.stream_programs.specs.StrayPids.{mapped_pids, pes_count, stray_pids}
 use Rattle.stream_programs.specs.Streams.{FoundStreamView}
-use Rattle.stream_programs.specs.Texts.{has_unread}
+use Rattle.dvb_texts.specs.Texts.{has_unread}
 use Rattle.es_units.specs.UnitWarnings.{unit_warnings}
 use Rattle.es_units.specs.Damage as units
 use Rattle.given_values.specs.GivenNames.{NetworkNameView, ServiceNameView}
 use Rattle.stream_coding.specs.declared.buffers.PidBuffers.{PidBuffers}
+use Rattle.job_programs.specs.JobPrograms.{numbers_named}
 use Rattle.job_programs.specs.declared.warning.Warning.{Warning}
 use Rattle.job_programs.specs.declared.warning.Warning.TheVariants as warning
 use Rattle.job_programs.specs.declared.warning.PacketWarning.{PacketWarning}
@@ -67,10 +68,10 @@ stray_warning findings pid = warning.StrayPes pid (pes_count pid findings)
 unfoldable pub stray_warnings : List ℕ → AssociationView → List FindingView → List Warning
 stray_warnings without a findings = map (stray_warning findings) (stray_pids (known_pids without a findings) [] findings)
 
--- 5. What options name and is not there
+-- 5. What options name and is not there: of a program that is not there, with the programs that are
 
 unfoldable pub selection_warning : AssociationView → ℕ → List Warning
-selection_warning a number = if is_named number a.programs then [] else warning.Program number Missing ∷ []
+selection_warning a number = if is_named number a.programs then [] else warning.Program number (Missing (numbers_named a.programs)) ∷ []
 
 unfoldable pub pid_option_warning : List FoundStreamView → ℕ → List Warning
 pid_option_warning streams pid = if list_any (λ s. s.pid == pid) streams then [] else warning.NoSuchStream pid ∷ []
@@ -109,7 +110,7 @@ is_packet_damage AssociationChanges = false
 is_packet_damage NetworkSurplus = true
 
 abbrev pub is_program_damage : ProgramWarning → Bool
-is_program_damage Missing = true
+is_program_damage (Missing named) = true
 is_program_damage NoStream = false
 is_program_damage UnreadText = true
 

@@ -13,7 +13,7 @@ use demux::Finding;
 use service_information::stream_time;
 use std::alloc::{AllocError, Global};
 use std::marker::Model;
-use stream_programs::stream_network;
+use ts_services::{found_services, stream_network};
 
 /// original_network_id where nothing says it (ETSI TS 101 162: 0xFF00 to 0xFFFF are for private
 /// use).
@@ -71,14 +71,15 @@ pub fn information_of(
     let start = start_of(alloc, options.start, &events, findings)?;
     let found = stream_network(transport_stream_id, findings);
     let original = original_of(options.network, transport_stream_id, findings);
+    let services = found_services(alloc, findings)?;
     Ok(JobInformation {
         transport_stream_id,
         original_network_id: original.unwrap_or(PRIVATE_NETWORK),
         start,
         tdt: stream_time(findings).is_some(),
-        sdt: has_services(options.names, findings, programs),
+        sdt: has_services(options.names, &services, programs),
         network: network_or(alloc, options.network, found)?,
         events: event_parts(alloc, &events)?,
-        services: services_of(alloc, options.names, programs, findings)?,
+        services: services_of(alloc, options.names, programs, &services)?,
     })
 }

@@ -11,13 +11,13 @@ use crate::job_programs::JobProgram;
 use crate::named_service::copied;
 use crate::warning::Warning;
 use demux::Finding;
+use dvb_texts::decode_text;
 use job_text::EventPart;
 use service_information::{
     FoundEvent, InformationWarning, civil_text, information_warnings, stream_events, stream_time,
 };
 use std::alloc::{AllocError, Global};
 use std::marker::Model;
-use stream_programs::decode_text;
 
 /// The moment of the first slot, if nothing says it.
 const DEFAULT_START: &str = "2000-01-01T00:00:00";

@@ -3,7 +3,7 @@
 ghost use Rattle.std.specs.Prelude.{◌≡◌, ◌++◌, IfOk, OnOk, Some, map, option_map, option_to_list, string_bytes};
 ghost use Rattle.demux.specs.Shown.{finding_view};
 ghost use Rattle.job_text.specs.Texts.{network_if_any};
-ghost use Rattle.stream_programs.specs.NetworkInformation.{found_network_view, network_surplus};
+ghost use Rattle.ts_services.specs.NetworkInformation.{found_network_view, network_surplus};
 ghost use Rattle.given_values.specs.GivenNames.{network_name_view};
 ghost use Rattle.job_programs.specs.Information as spec;
 ghost use Rattle.job_programs.specs.Warnings as spec_warnings;
@@ -12,13 +12,12 @@ use crate::given_names::original_given;
 use crate::named_service::copied;
 use crate::warning::{PacketWarning, Warning};
 use demux::Finding;
+use dvb_texts::{decode_text, has_unread};
 use given_values::NetworkName;
 use job_text::NetworkPart;
 use std::alloc::{AllocError, Global};
 use std::marker::Model;
-use stream_programs::{
-    FoundNetwork, decode_text, has_unread, network_surplus, original_network, stream_network,
-};
+use ts_services::{FoundNetwork, network_surplus, original_network, stream_network};
 
 /// The most bytes of a network's name, as written in a descriptor.
 const LONGEST_NAME: usize = 200;

@@ -41,6 +41,8 @@ pub struct JobOptions<'a> {
     pub mark_access: bool,
     /// The PIDs whose units are aligned.
     pub aligned: &'a [u16],
+    /// Whether the parts of a recording that was joined from several come one after another.
+    pub joined: bool,
 }
 
 // A contract sees its texts and lists.
@@ -67,6 +69,7 @@ impl<'a> Model for JobOptions<'a> {
       buffers = o.buffers.now;
       mark_access = o.mark_access;
       aligned = o.aligned.now;
+      joined = o.joined;
     } };
 }
 

@@ -4,7 +4,7 @@ ghost use Rattle.std.specs.Prelude.{◌≡◌};
 ghost use Rattle.job_programs.specs.JobStreams as spec;
 
 use crate::job_options::is_among;
-use es_units::{FoundUnit, UnitMoment};
+use es_moments::{FoundUnit, UnitMoment};
 use pes_packet::Unit;
 use std::marker::Model;
 

@@ -2,7 +2,7 @@
 
 ghost use Rattle.std.specs.Prelude.{◌≡◌, ◌++◌, IfOk, OnOk, is_some, map, option_map, string_bytes};
 ghost use Rattle.demux.specs.Shown.{finding_view};
-ghost use Rattle.stream_programs.specs.Services.{service, found_service_view};
+ghost use Rattle.ts_services.specs.Services.{service, found_service_view};
 ghost use Rattle.job_programs.specs.GivenNames.{name_given};
 ghost use Rattle.job_programs.specs.JobPrograms as spec_programs;
 ghost use Rattle.job_programs.specs.Information as spec;
@@ -11,10 +11,11 @@ use crate::given_names::name_given;
 use crate::job_programs::JobProgram;
 use crate::warning::{ProgramWarning, Warning};
 use demux::Finding;
+use dvb_texts::{decode_text, has_unread};
 use given_values::ServiceName;
 use std::alloc::{AllocError, Global};
 use std::marker::Model;
-use stream_programs::{FoundService, decode_text, has_unread, last_service};
+use ts_services::{FoundService, FoundServices, found_services};
 
 /// The most bytes of a service's name and provider, as written in a descriptor.
 const LONGEST_NAME: usize = 100;
@@ -33,7 +34,7 @@ pub struct NamedService {
 // A contract sees its texts as lists.
 impl Model for NamedService {
     ghost use Rattle.std.specs.Prelude.{string_bytes};
-    ghost use Rattle.stream_programs.specs.Services.{FoundServiceView};
+    ghost use Rattle.ts_services.specs.Services.{FoundServiceView};
 
     ghost Value = { FoundServiceView };
 
@@ -45,10 +46,10 @@ impl Model for NamedService {
 }
 
 // Whether the service of a program is described.
-fn is_described(findings: &[Finding<'_>], number: u16) -> bool
-    ensures { result ≡ is_some (service number (map finding_view findings.now)) }
+fn is_described(services: &FoundServices<'_, '_>, number: u16) -> bool
+    ensures { result ≡ is_some (service number services.now) }
 {
-    match last_service(number, findings) {
+    match services.of(number) {
         Some(_) => true,
         None => false,
     }
@@ -66,24 +67,24 @@ fn is_named(names: &[ServiceName<'_>], number: u16) -> bool
 
 // Whether it is described, or given a name.
 #[tactic(auto, unfolding(crate::specs::Information::has_service))]
-fn has_service(names: &[ServiceName<'_>], findings: &[Finding<'_>], number: u16) -> bool
-    ensures { result ≡ spec.has_service names.now (map finding_view findings.now) number }
+fn has_service(names: &[ServiceName<'_>], services: &FoundServices<'_, '_>, number: u16) -> bool
+    ensures { result ≡ spec.has_service names.now services.now number }
 {
-    is_described(findings, number) || is_named(names, number)
+    is_described(services, number) || is_named(names, number)
 }
 
 /// Returns whether a service of one of these programs is described, or given a name.
 #[tactic(auto, unfolding(crate::specs::Information::has_services))]
 pub(crate) fn has_services(
     names: &[ServiceName<'_>],
-    findings: &[Finding<'_>],
+    services: &FoundServices<'_, '_>,
     programs: &[JobProgram],
 ) -> bool
-    ensures { result ≡ spec.has_services names.now (map finding_view findings.now) programs.now }
+    ensures { result ≡ spec.has_services names.now services.now programs.now }
 {
     programs
         .iter()
-        .any(|program| has_service(names, findings, program.number))
+        .any(|program| has_service(names, services, program.number))
 }
 
 // A service, or a television service without a name.
@@ -144,11 +145,11 @@ fn service_of(
     alloc: Global,
     names: &[ServiceName<'_>],
     number: u16,
-    findings: &[Finding<'_>],
+    services: &FoundServices<'_, '_>,
 ) -> Result<NamedService, AllocError>
-    ensures { IfOk result (λ named. named ≡ spec.service_of names.now (map finding_view findings.now) number) }
+    ensures { IfOk result (λ named. named ≡ spec.service_of names.now services.now number) }
 {
-    let named = named_service(alloc, last_service(number, findings))?;
+    let named = named_service(alloc, services.of(number))?;
     match name_given(number, names) {
         Some(given) => renamed(alloc, given, named),
         None => Ok(named),
@@ -160,14 +161,14 @@ fn push_services(
     alloc: Global,
     names: &[ServiceName<'_>],
     programs: &[JobProgram],
-    findings: &[Finding<'_>],
-    services: &mut Vec<NamedService>,
+    services: &FoundServices<'_, '_>,
+    named: &mut Vec<NamedService>,
 ) -> Result<(), AllocError>
-    ensures { OnOk result (services.new.items ≡ services.old.items
-        ++ spec.services_of names.now (map finding_view findings.now) programs.now) }
+    ensures { OnOk result (named.new.items ≡ named.old.items
+        ++ spec.services_of names.now services.now programs.now) }
 {
     for program in programs {
-        services.push(service_of(alloc, names, program.number, findings)?)?;
+        named.push(service_of(alloc, names, program.number, services)?)?;
     }
     Ok(())
 }
@@ -177,14 +178,13 @@ pub(crate) fn services_of(
     alloc: Global,
     names: &[ServiceName<'_>],
     programs: &[JobProgram],
-    findings: &[Finding<'_>],
+    services: &FoundServices<'_, '_>,
 ) -> Result<Vec<NamedService>, AllocError>
-    ensures { IfOk result (λ services. services.items
-        ≡ spec.services_of names.now (map finding_view findings.now) programs.now) }
+    ensures { IfOk result (λ named. named.items ≡ spec.services_of names.now services.now programs.now) }
 {
-    let mut services = Vec::new(alloc);
-    push_services(alloc, names, programs, findings, &mut services)?;
-    Ok(services)
+    let mut named = Vec::new(alloc);
+    push_services(alloc, names, programs, services, &mut named)?;
+    Ok(named)
 }
 
 // Whether a text of a service, if no other is given, has characters that can't be read.
@@ -216,22 +216,35 @@ fn push_text_warning(
     alloc: Global,
     names: &[ServiceName<'_>],
     program: &JobProgram,
-    findings: &[Finding<'_>],
+    services: &FoundServices<'_, '_>,
     warnings: &mut Vec<Warning>,
 ) -> Result<(), AllocError>
     ensures { OnOk result (warnings.new.items ≡ warnings.old.items
-        ++ spec_programs.text_warning names.now (map finding_view findings.now) program.now) }
+        ++ spec_programs.text_warning names.now services.now program.now) }
 {
     let number = program.number;
-    if is_unread(
-        alloc,
-        name_given(number, names),
-        last_service(number, findings),
-    )? {
+    if is_unread(alloc, name_given(number, names), services.of(number))? {
         warnings.push(Warning::Program {
             program: number,
             what: ProgramWarning::UnreadText,
         })?;
+    }
+    Ok(())
+}
+
+// Appends the warnings about the texts of services.
+fn push_each_text_warning(
+    alloc: Global,
+    names: &[ServiceName<'_>],
+    programs: &[JobProgram],
+    services: &FoundServices<'_, '_>,
+    warnings: &mut Vec<Warning>,
+) -> Result<(), AllocError>
+    ensures { OnOk result (warnings.new.items ≡ warnings.old.items
+        ++ spec_programs.text_warnings names.now services.now programs.now) }
+{
+    for program in programs {
+        push_text_warning(alloc, names, program, services, warnings)?;
     }
     Ok(())
 }
@@ -247,8 +260,6 @@ pub fn push_text_warnings(
     ensures { OnOk result (warnings.new.items ≡ warnings.old.items
         ++ spec_programs.text_warnings names.now (map finding_view findings.now) programs.now) }
 {
-    for program in programs {
-        push_text_warning(alloc, names, program, findings, warnings)?;
-    }
-    Ok(())
+    let services = found_services(alloc, findings)?;
+    push_each_text_warning(alloc, names, programs, &services, warnings)
 }

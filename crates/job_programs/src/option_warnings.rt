@@ -5,6 +5,7 @@ ghost use Rattle.std.specs.List.{list_any};
 ghost use Rattle.stream_programs.specs.Association.{is_named};
 ghost use Rattle.job_programs.specs.Warnings as spec;
 
+use crate::named_numbers::numbers_named;
 use crate::warning::{ProgramWarning, Warning};
 use given_values::ServiceName;
 use std::alloc::AllocError;
@@ -34,7 +35,7 @@ fn push_selection(
     if !is_named(association, number) {
         warnings.push(Warning::Program {
             program: number,
-            what: ProgramWarning::Missing,
+            what: ProgramWarning::Missing(numbers_named(&association.programs)),
         })?;
     }
     Ok(())

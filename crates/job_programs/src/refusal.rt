@@ -4,7 +4,7 @@ ghost use Rattle.std.specs.Prelude.{◌≡◌};
 ghost use Rattle.job_programs.specs.declared.refusal.JobError.TheVariants.{Memory, Refused};
 
 use description_keys::DescFault;
-use es_units::{DtsFault, StampFault};
+use es_moments::{DtsFault, StampFault};
 use std::alloc::{AllocError, AllocFailed};
 
 /// Buffers that `--buffers` can give a stream: the rate out of its transport buffer in bits a second, and its main

@@ -3,7 +3,7 @@
 ghost use Rattle.std.specs.Prelude.{◌≡◌};
 ghost use Rattle.job_programs.specs.Warnings as spec;
 
-use crate::refusal::JobRefusal;
+use crate::refusal::{JobRefusal, NamedNumbers};
 use es_units::UnitWarning;
 use service_information::InformationWarning;
 use stream_programs::{MapPart, TableOmission};
@@ -25,8 +25,8 @@ pub enum PacketWarning {
 /// A warning about a program.
 #[derive(Clone, Copy)]
 pub enum ProgramWarning {
-    /// It is asked for, and is not there.
-    Missing,
+    /// It is asked for, and is not there; the transport stream names these.
+    Missing(NamedNumbers),
     /// No stream of it has a unit.
     NoStream,
     /// The name or the provider of its service has characters that can't be read.
@@ -141,7 +141,7 @@ impl ProgramWarning {
         ensures { result ≡ spec.is_program_damage self }
     {
         match self {
-            ProgramWarning::Missing | ProgramWarning::UnreadText => true,
+            ProgramWarning::Missing(_) | ProgramWarning::UnreadText => true,
             ProgramWarning::NoStream => false,
         }
     }

@@ -4,7 +4,7 @@ use Rattle.std.proofs.Common.{arith, append_assoc, append-nil, drop-drop}
 use Rattle.std.proofs.Math.Seq.{drop-append-add}
 use Rattle.std.proofs.lemmas.List.{drop_all, drop-append-le, take-append-drop}
 use Rattle.data_times.specs.References.{LogView, logged, no_packet, references_in}
-use Rattle.data_times.specs.declared.references.ClockReference.{ClockReference}
+use Rattle.packet_pcr.specs.declared.pcr_reading.FoundPcr.{FoundPcr}
 use Rattle.data_times.proofs.LoggedBytes.{logged_append}
 use Rattle.demux.specs.Stream.{StreamState, finished, pushed, start}
 use Rattle.demux.proofs.PushedBytes.{pushed_append}
@@ -120,7 +120,7 @@ rest_is piece held front later joined at n f l j past within =
 
 -- 5. The end
 
-pub stream_ended : (bytes held : List ℕ) (at : ℕ) (p : PacketsView) (references : List ClockReference) (demux : StreamState) → length held ≤ at →
+pub stream_ended : (bytes held : List ℕ) (at : ℕ) (p : PacketsView) (references : List FoundPcr) (demux : StreamState) → length held ≤ at →
     IsCarriedTo bytes true (record { held = drop at held; packets = p }) → references ≡ p.log.found → demux ≡ finished p.demux →
     IsOfStream bytes (record { slips = p.notes.slips; fields = p.notes.fields }) references demux.found p.size
 stream_ended bytes held at p references demux past so r f =

@@ -10,9 +10,8 @@ use Rattle.slot_plan.specs.Conditions.{IsServing}
 use Rattle.slot_plan.specs.Planned.{Planned, plan_error}
 use Rattle.slot_plan.specs.Text.{plan_text}
 use Rattle.job_programs.specs.Answers.{Answers, Refuses}
-use Rattle.data_times.specs.DataTimes.{timed, times_of}
 use Rattle.data_times.specs.References.{references_in}
-use Rattle.data_times.specs.declared.references.ClockReference.{ClockReference}
+use Rattle.packet_pcr.specs.declared.pcr_reading.FoundPcr.{FoundPcr}
 use Rattle.job_inputs.specs.AskedMarks.{as_asked}
 use Rattle.stream_jobs.specs.Jobs.{AllAgree, AreUnits, IsDescription, IsJob}
 use Rattle.job_inputs.specs.JoinedInputs.{AreStreamsIn, AreUnitsIn, IsFoundIn, JoinedInputsView}
@@ -41,9 +40,9 @@ use Rattle.job_run.specs.Outcomes.{BytesLead, FindingsLead, Gives, GivesJob, Giv
 use Rattle.job_run.specs.Outcomes.{ReportsWhy, Withholds, found_line}
 use Rattle.std.specs.Int.{bytes_high_first}
 use Rattle.unit_records.specs.Records.{private_bytes, private_size, record_head, word_of}
-use Rattle.es_feed.specs.Records.{records_of, written}
+use Rattle.es_records.specs.Records.{records_of, written}
 use Rattle.job_run.specs.SeveralInputs.{GivesJobIn}
-use Rattle.job_run.specs.Streams.{IsOfStream, IsRead, PacketNotesView, ReadingView, asked_findings, findings_for, notes_for, timed_notes}
+use Rattle.job_run.specs.Streams.{IsOfStream, IsRead, PacketNotesView, ReadingView, asked_findings, findings_by, findings_for, notes_by, notes_for}
 use Rattle.job_programs.specs.FoundUnits.{FitsQueue}
 
 -- 1. What a subcommand gives
@@ -208,19 +207,21 @@ without_input arguments notes count findings error o a t = refused arguments not
 -- 3. What was read leads to it
 
 -- a stream that was read
-pub carried_lead : (arguments : JobArgumentsView) (bytes : List ℕ) (notes said : PacketNotesView) (references : List ClockReference) (size : ℕ)
+pub carried_lead : (arguments : JobArgumentsView) (bytes : List ℕ) (notes said : PacketNotesView) (references : List FoundPcr) (size : ℕ)
     (at_times marked findings found : List FindingView) (w : JobOptionsView) (o : Outcome) →
     IsOfStream bytes notes references found size → findings ≡ found → w ≡ arguments.options → marked ≡ as_asked w findings →
-    said ≡ timed_notes (times_of references marked) notes → at_times ≡ timed references marked → FindingsLead arguments said (size / 188) at_times o →
+    said ≡ notes_by w.joined references marked notes → at_times ≡ findings_by w.joined references marked → FindingsLead arguments said (size / 188) at_times o →
     BytesLead arguments bytes None o
 carried_lead arguments bytes notes said references size at_times marked findings found w o t f asked marks told times l =
     let asked_are : marked ≡ asked_findings arguments.options bytes =
     marks ∙ ap (λ (x : JobOptionsView). as_asked x findings) asked ∙ ap (λ (x : List FindingView). as_asked arguments.options x) (f ∙ t.found_is) in
     let all : at_times ≡ findings_for arguments.options bytes =
-    times ∙ ap₂ (λ (r : List ClockReference) (x : List FindingView). timed r x) t.references_are asked_are in
+    times ∙ ap (λ (x : JobOptionsView). findings_by x.joined references marked) asked
+    ∙ ap₂ (λ (r : List FoundPcr) (x : List FindingView). findings_by arguments.options.joined r x) t.references_are asked_are in
     let notes_are : said ≡ notes_for arguments.options bytes =
-    told ∙ ap₂ (λ (r : List ClockReference) (x : List FindingView). timed_notes (times_of r x) notes) t.references_are asked_are
-    ∙ ap (λ (n : PacketNotesView). timed_notes (times_of (references_in (carried bytes)) (asked_findings arguments.options bytes)) n) t.notes_are in
+    told ∙ ap (λ (x : JobOptionsView). notes_by x.joined references marked notes) asked
+    ∙ ap₂ (λ (r : List FoundPcr) (x : List FindingView). notes_by arguments.options.joined r x notes) t.references_are asked_are
+    ∙ ap (λ (n : PacketNotesView). notes_by arguments.options.joined (references_in (carried bytes)) (asked_findings arguments.options bytes) n) t.notes_are in
     subst (λ (x : PacketNotesView). FindingsLead arguments x (length (carried bytes) / 188) (findings_for arguments.options bytes) o) notes_are
     (subst (λ (x : List FindingView). FindingsLead arguments said (length (carried bytes) / 188) x o) all
     (subst (λ (n : ℕ). FindingsLead arguments said (n / 188) at_times o) t.size_is l))

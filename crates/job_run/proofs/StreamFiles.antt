@@ -27,9 +27,8 @@ use Rattle.job_run.specs.InputLines.{are_lost, input_line, name_of, note_lines}
 use Rattle.job_run.specs.RefusalLine.{refusal_line}
 use Rattle.job_run.specs.SlipLines.{packets_line}
 use Rattle.job_programs.specs.Answers.{Answers, Refuses}
-use Rattle.data_times.specs.DataTimes.{timed, times_of}
 use Rattle.data_times.specs.References.{references_in}
-use Rattle.data_times.specs.declared.references.ClockReference.{ClockReference}
+use Rattle.packet_pcr.specs.declared.pcr_reading.FoundPcr.{FoundPcr}
 use Rattle.job_inputs.specs.AskedMarks.{as_asked}
 use Rattle.job_programs.specs.JobOptions.{JobOptionsView}
 use Rattle.job_inputs.specs.JobInput.{JobInputView, job_input, AreStreams}
@@ -44,7 +43,7 @@ use Rattle.job_run.specs.SeveralInputs.{GivesIn, InputsLead, JoinedLead, NamedSt
 use Rattle.job_run.specs.SeveralInputs.{packets_input, stream_input, stream_inputs, streams_lines, under, with_first}
 use Rattle.job_run.specs.StreamFiles.{AreNamedInputs, AreTaken, EndsAt, FilesLead, HasRead, IsInput, IsInputIn, IsInputOf, IsLedTo, IsNamedInput, IsRefusalOf}
 use Rattle.job_run.specs.StreamFiles.{IsTakenFrom, IsTakenOf, JoinedLeads, TakenLead, TakenView, read_line, stopped_by, taken_lines, told_under}
-use Rattle.job_run.specs.Streams.{IsOfStream, IsRead, PacketNotesView, ReadingView, asked_findings, findings_for, notes_for, timed_notes}
+use Rattle.job_run.specs.Streams.{IsOfStream, IsRead, PacketNotesView, ReadingView, asked_findings, findings_by, findings_for, notes_by, notes_for}
 
 -- 1. One stream
 
@@ -98,18 +97,20 @@ of_bytes a bytes (Err o) none is = record {
   is = is.is;
 }
 
-pub carried_is_input : (a : JobArgumentsView) (bytes : List ℕ) (notes said : PacketNotesView) (references : List ClockReference) (size : ℕ)
+pub carried_is_input : (a : JobArgumentsView) (bytes : List ℕ) (notes said : PacketNotesView) (references : List FoundPcr) (size : ℕ)
     (at_times marked findings found : List FindingView) (w : JobOptionsView) (r : Result TakenView Outcome) →
     IsOfStream bytes notes references found size → findings ≡ found → other_packets bytes ≡ None → w ≡ a.options → marked ≡ as_asked w findings →
-    said ≡ timed_notes (times_of references marked) notes → at_times ≡ timed references marked → IsInputOf a said (size / 188) at_times r → IsInput a bytes r
+    said ≡ notes_by w.joined references marked notes → at_times ≡ findings_by w.joined references marked → IsInputOf a said (size / 188) at_times r → IsInput a bytes r
 carried_is_input a bytes notes said references size at_times marked findings found w r of same none asked marks told times is =
     let asked_are : marked ≡ asked_findings a.options bytes =
     marks ∙ ap (λ (x : JobOptionsView). as_asked x findings) asked ∙ ap (λ (x : List FindingView). as_asked a.options x) (same ∙ of.found_is) in
     let all : at_times ≡ findings_for a.options bytes =
-    times ∙ ap₂ (λ (r : List ClockReference) (x : List FindingView). timed r x) of.references_are asked_are in
+    times ∙ ap (λ (x : JobOptionsView). findings_by x.joined references marked) asked
+    ∙ ap₂ (λ (r : List FoundPcr) (x : List FindingView). findings_by a.options.joined r x) of.references_are asked_are in
     let notes_are : said ≡ notes_for a.options bytes =
-    told ∙ ap₂ (λ (r : List ClockReference) (x : List FindingView). timed_notes (times_of r x) notes) of.references_are asked_are
-    ∙ ap (λ (n : PacketNotesView). timed_notes (times_of (references_in (carried bytes)) (asked_findings a.options bytes)) n) of.notes_are in
+    told ∙ ap (λ (x : JobOptionsView). notes_by x.joined references marked notes) asked
+    ∙ ap₂ (λ (r : List FoundPcr) (x : List FindingView). notes_by a.options.joined r x notes) of.references_are asked_are
+    ∙ ap (λ (n : PacketNotesView). notes_by a.options.joined (references_in (carried bytes)) (asked_findings a.options bytes) n) of.notes_are in
     of_bytes a bytes r none
     (subst (λ (x : PacketNotesView). IsInputOf a x (length (carried bytes) / 188) (findings_for a.options bytes) r) notes_are
     (subst (λ (x : List FindingView). IsInputOf a said (length (carried bytes) / 188) x r) all

@@ -10,7 +10,7 @@ use Rattle.diagnosis.specs.ReasonLines.{reason_lines}
 use Rattle.slot_plan.specs.Conditions.{IsServing}
 use Rattle.slot_plan.specs.Planned.{Planned, plan_error}
 use Rattle.slot_plan.specs.Text.{plan_text}
-use Rattle.es_units.specs.Merging.{AreMerged}
+use Rattle.es_moments.specs.Merging.{AreMerged}
 use Rattle.stream_jobs.specs.Jobs.{AllAgree, AreUnits, IsDescription, IsJob, IsUnplanned}
 use Rattle.job_inputs.specs.JobInput.{JobInputView, job_input}
 use Rattle.other_tables.specs.OtherTables.{other_tables}
@@ -39,7 +39,7 @@ use Rattle.job_run.specs.declared.job_arguments.Subcommand.{Subcommand}
 use Rattle.job_run.specs.declared.job_arguments.Subcommand.TheVariants.{Whole, Describe, Units, Why}
 use Rattle.job_run.specs.JobArguments.{JobArgumentsView}
 use Rattle.job_run.specs.FieldLines.{field_lines, told_fields}
-use Rattle.es_feed.specs.Records.{records_of, written}
+use Rattle.es_records.specs.Records.{records_of, written}
 use Rattle.job_run.specs.RefusalLine.{refusal_line}
 use Rattle.job_run.specs.SlipLines.{packets_line, slip_lines}
 use Rattle.job_run.specs.Streams.{PacketNotesView, findings_for, notes_for}

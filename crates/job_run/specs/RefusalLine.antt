@@ -1,10 +1,10 @@
 -- The line for the refusal of a stream.
-use Rattle.std.specs.Prelude.{ℕ, ◌-◌, nat_lt, Bool, if◌then◌else◌, List, [], ◌++◌, Option, Some, None, codes, decimal}
+use Rattle.std.specs.Prelude.{ℕ, ◌-◌, nat_lt, Bool, false, if◌then◌else◌, List, [], ◌++◌, Option, Some, None, codes, decimal}
 use Rattle.diagnosis.specs.FaultLines.{fault_line}
-use Rattle.es_units.specs.declared.stamps.StampFault.{StampFault}
-use Rattle.es_units.specs.declared.stamps.StampFault.TheVariants.{DtsNotIncreasing, PtsOutOfRange, DtsTooFar}
-use Rattle.es_units.specs.declared.dts_from_pts.DtsFault.{DtsFault}
-use Rattle.es_units.specs.declared.dts_from_pts.DtsFault.TheVariants.{SamePts, PtsTooLate}
+use Rattle.es_moments.specs.declared.stamps.StampFault.{StampFault}
+use Rattle.es_moments.specs.declared.stamps.StampFault.TheVariants.{DtsNotIncreasing, PtsOutOfRange, DtsTooFar}
+use Rattle.es_moments.specs.declared.dts_from_pts.DtsFault.{DtsFault}
+use Rattle.es_moments.specs.declared.dts_from_pts.DtsFault.TheVariants.{SamePts, PtsTooLate}
 use Rattle.job_programs.specs.declared.refusal.GreaterBuffers.{GreaterBuffers}
 use Rattle.job_programs.specs.declared.refusal.JobRefusal.{JobRefusal}
 use Rattle.job_programs.specs.declared.refusal.NamedNumbers.{NamedNumbers}
@@ -18,9 +18,18 @@ stamps_text (DtsNotIncreasing by) = codes " DTS is " ++ decimal by ++ codes " be
 stamps_text (PtsOutOfRange after limit) = codes " PTS is " ++ decimal after ++ codes " after its DTS: not 0 to " ++ decimal limit
 stamps_text DtsTooFar = codes " DTS is too far"
 
--- what would mend them, if it would
-unfoldable pub remedy_text : Bool → List ℕ
-remedy_text mended = if mended then codes "; --make-dts makes DTS from the PTS\n" else codes "\n"
+-- DTS that fall by more than a second, as where two recordings were joined
+unfoldable pub has_fallen : StampFault → Bool
+has_fallen (DtsNotIncreasing by) = nat_lt 90_000 by
+has_fallen (PtsOutOfRange after limit) = false
+has_fallen DtsTooFar = false
+
+unfoldable pub fallen_text : Bool → List ℕ
+fallen_text fallen = if fallen then codes "; --joined takes recordings that were joined\n" else codes "\n"
+
+-- what would mend them, if something would
+unfoldable pub remedy_text : Bool → StampFault → List ℕ
+remedy_text mended fault = if mended then codes "; --make-dts makes DTS from the PTS\n" else fallen_text (has_fallen fault)
 
 -- a stream for which no DTS can be made, after its PID
 unfoldable pub making_text : DtsFault → List ℕ
@@ -67,7 +76,8 @@ refusal_line (StreamId packet pid id) = codes "packet " ++ decimal packet ++ cod
 refusal_line (NoStamps pid) = codes "pid " ++ decimal pid ++ codes " has no PTS in its PES packets\n"
 refusal_line (OtherStreamId packet pid id first) = codes "packet " ++ decimal packet ++ codes " pid " ++ decimal pid ++ codes " stream_id " ++ decimal id
     ++ codes " after " ++ decimal first ++ codes "\n"
-refusal_line (Stamps packet pid fault mended) = codes "packet " ++ decimal packet ++ codes " pid " ++ decimal pid ++ stamps_text fault ++ remedy_text mended
+refusal_line (Stamps packet pid fault mended) = codes "packet " ++ decimal packet ++ codes " pid " ++ decimal pid ++ stamps_text fault
+    ++ remedy_text mended fault
 refusal_line (Dts pid fault) = codes "pid " ++ decimal pid ++ making_text fault
 refusal_line (Units pid count) = codes "pid " ++ decimal pid ++ codes " has " ++ decimal count ++ codes " units: more than 1048576\n"
 refusal_line (Size pid size) = codes "pid " ++ decimal pid ++ codes " unit of " ++ decimal size ++ codes " bytes is too large\n"

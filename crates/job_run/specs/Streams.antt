@@ -6,7 +6,8 @@ use Rattle.devices.specs.declared.halt.Halt.{Halt}
 use Rattle.demux.specs.Views.{FindingView}
 use Rattle.data_times.specs.DataTimes.{TimesView, is_timed, timed, times_of}
 use Rattle.data_times.specs.References.{LogView, logged, no_packet, references_in}
-use Rattle.data_times.specs.declared.references.ClockReference.{ClockReference}
+use Rattle.packet_pcr.specs.declared.pcr_reading.FoundPcr.{FoundPcr}
+use Rattle.joined_parts.specs.Joined.{joined, joined_references}
 use Rattle.demux.specs.Stream.{StreamState, start, pushed, finished}
 use Rattle.packet_sync.specs.FieldsLeftOut.{fields_left_out}
 use Rattle.packet_sync.specs.declared.field.Field.{Field}
@@ -29,9 +30,21 @@ findings_of bytes = (finished (pushed start bytes)).found
 abbrev pub asked_findings : JobOptionsView → List ℕ → List FindingView
 asked_findings options bytes = as_asked options (findings_of (carried bytes))
 
--- those of which a job by these options is made: with the moments of teletext that has no stamps
+-- the clock references, and these findings; if they are asked for, those of the parts of a joined recording one after another
+unfoldable pub references_by : Bool → List FoundPcr → List FindingView → List FoundPcr
+references_by false references findings = references
+references_by true references findings = joined_references references findings
+
+unfoldable pub parts_by : Bool → List FoundPcr → List FindingView → List FindingView
+parts_by false references findings = findings
+parts_by true references findings = joined references findings
+
+-- those of which a job is made: with the moments of teletext that has no stamps
+abbrev pub findings_by : Bool → List FoundPcr → List FindingView → List FindingView
+findings_by joined references findings = timed (references_by joined references findings) (parts_by joined references findings)
+
 abbrev pub findings_for : JobOptionsView → List ℕ → List FindingView
-findings_for options bytes = timed (references_in (carried bytes)) (asked_findings options bytes)
+findings_for options bytes = findings_by options.joined (references_in (carried bytes)) (asked_findings options bytes)
 
 -- what is said of the packets of a stream: its slips, and the fields that are not written again
 pub record PacketNotesView : Type 0 where
@@ -55,11 +68,14 @@ is_unwritten t f = not (is_of_unit f.field && is_timed t f.pid)
 abbrev pub timed_notes : TimesView → PacketNotesView → PacketNotesView
 timed_notes t notes = record { slips = notes.slips; fields = filter (is_unwritten t) notes.fields }
 
+abbrev pub notes_by : Bool → List FoundPcr → List FindingView → PacketNotesView → PacketNotesView
+notes_by joined references findings notes = timed_notes (times_of (references_by joined references findings) (parts_by joined references findings)) notes
+
 abbrev pub notes_for : JobOptionsView → List ℕ → PacketNotesView
-notes_for options bytes = timed_notes (times_of (references_in (carried bytes)) (asked_findings options bytes)) (notes_of bytes)
+notes_for options bytes = notes_by options.joined (references_in (carried bytes)) (asked_findings options bytes) (notes_of bytes)
 
 -- this is said of it, and these references and this are found in the bytes that are in no slip, which are so many
-pub record IsOfStream (bytes : List ℕ) (notes : PacketNotesView) (references : List ClockReference) (found : List FindingView) (size : ℕ) : Type 0 where
+pub record IsOfStream (bytes : List ℕ) (notes : PacketNotesView) (references : List FoundPcr) (found : List FindingView) (size : ℕ) : Type 0 where
   pub notes_are : notes ≡ notes_of bytes
   pub references_are : references ≡ references_in (carried bytes)
   pub found_is : found ≡ findings_of (carried bytes)

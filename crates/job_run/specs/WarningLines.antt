@@ -15,9 +15,10 @@ use Rattle.job_programs.specs.declared.warning.ProgramWarning.TheVariants.{Missi
 use Rattle.job_programs.specs.declared.warning.Warning.{Warning}
 use Rattle.job_programs.specs.declared.warning.Warning.TheVariants as warning
 use Rattle.job_programs.specs.declared.refusal.JobRefusal.{JobRefusal}
+use Rattle.job_programs.specs.declared.refusal.NamedNumbers.{NamedNumbers}
 use Rattle.job_run.specs.declared.job_arguments.Reporting.{Reporting}
 use Rattle.job_run.specs.InformationLines.{information_line}
-use Rattle.job_run.specs.RefusalLine.{refusal_line}
+use Rattle.job_run.specs.RefusalLine.{named_text, refusal_line}
 
 -- 1. A line each
 
@@ -77,9 +78,16 @@ map_text Descriptors = codes " has descriptors that the last one has not: left o
 unfoldable pub map_line : ℕ → ℕ → MapPart → List ℕ
 map_line program packet part = codes "packet " ++ decimal packet ++ codes " PMT of program " ++ decimal program ++ map_text part
 
+-- a program that is not there, with the programs that are
+unfoldable pub missing_front : ℕ → List ℕ
+missing_front program = codes "program " ++ decimal program ++ codes " is not there; the PAT names "
+
+unfoldable pub missing_line : ℕ → NamedNumbers → List ℕ
+missing_line program named = missing_front program ++ named_text named
+
 -- a program
 unfoldable pub program_line : ℕ → ProgramWarning → List ℕ
-program_line program Missing = codes "program " ++ decimal program ++ codes " is not there\n"
+program_line program (Missing named) = missing_line program named
 program_line program NoStream = codes "program " ++ decimal program ++ codes " has no stream with units: left out\n"
 program_line program UnreadText = codes "name of program " ++ decimal program ++ codes " has characters that cannot be read\n"
 

@@ -3,8 +3,9 @@ ghost use Rattle.std.specs.Prelude.{◌≡◌, ◌≤◌, ◌++◌, [], IfOk, Li
 ghost use Rattle.demux.specs.Stream.{finished};
 ghost use Rattle.job_run.specs.Streams as spec;
 
-use data_times::{ClockReference, ReferenceLog};
+use data_times::ReferenceLog;
 use demux::Demux;
+use packet_pcr::FoundPcr;
 use packet_sync::{FieldLeftOut, Slip, StreamNotes};
 use std::alloc::{AllocError, Global};
 use std::marker::Model;
@@ -34,7 +35,7 @@ impl Model for PacketNotes {
 #[derive(Drop)]
 pub(crate) struct ReadStream {
     pub notes: PacketNotes,
-    pub references: Vec<ClockReference>,
+    pub references: Vec<FoundPcr>,
     pub demux: Demux,
     pub size: usize,
 }

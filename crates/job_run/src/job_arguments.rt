@@ -69,6 +69,8 @@ pub struct JobArguments<'a> {
     pub mark_access: bool,
     /// The PIDs whose units are aligned.
     pub aligned: Vec<u16>,
+    /// Whether the parts of a recording that was joined from several come one after another.
+    pub joined: bool,
 }
 
 // A contract sees its lists and its text.
@@ -99,6 +101,7 @@ impl<'a> Model for JobArguments<'a> {
         buffers = a.buffers.items;
         mark_access = a.mark_access;
         aligned = a.aligned.items;
+        joined = a.joined;
       };
     } };
 }
@@ -131,6 +134,7 @@ impl JobArguments<'_> {
             buffers: &self.buffers,
             mark_access: self.mark_access,
             aligned: &self.aligned,
+            joined: self.joined,
         }
     }
 }

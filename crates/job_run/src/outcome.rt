@@ -26,7 +26,7 @@ use crate::reason_output::reason_output;
 use crate::refusal_line::write_refusal;
 use crate::slip_lines::{write_packets, write_slips};
 use crate::table_lines::{are_missed, told_tables, write_other_tables};
-use crate::timed_text::timed_stream;
+use crate::timed_text::job_findings;
 use crate::warning_lines::{is_damaged, told_warnings, write_warnings};
 use demux::Finding;
 use job_inputs::{JobInput, job_input, mark_as_asked};
@@ -68,7 +68,7 @@ pub struct JobText {
 // A contract sees the bytes that are written.
 impl Model for JobText {
     ghost use Rattle.std.specs.Prelude.{ℕ, List, string_bytes};
-    ghost use Rattle.es_feed.specs.Records.{written};
+    ghost use Rattle.es_records.specs.Records.{written};
 
     ghost Value = { List ℕ };
 
@@ -377,8 +377,9 @@ fn carried_outcome(
         size,
     } = stream.end()?;
     let count = size as u64 / 188;
-    let marked = mark_as_asked(alloc, &arguments.options(), demux.into_findings())?;
-    let (notes, findings) = timed_stream(alloc, references, notes, marked)?;
+    let options = arguments.options();
+    let marked = mark_as_asked(alloc, &options, demux.into_findings())?;
+    let (notes, findings) = job_findings(alloc, &options, references, notes, marked)?;
     let outcome = findings_outcome(alloc, arguments, &notes, count, findings)?;
     Ok(outcome)
 }

@@ -6,10 +6,13 @@ ghost use Rattle.job_programs.specs.declared.refusal.JobRefusal.TheVariants as r
 
 use description_keys::DescFault;
 use diagnosis::write_fault;
-use es_units::{DtsFault, StampFault};
+use es_moments::{DtsFault, StampFault};
 use job_programs::{GreaterBuffers, JobRefusal, NamedNumbers};
 use std::alloc::AllocError;
 use std::fmt::Write;
+
+// A DTS that falls by more, in units of 90 kHz, may be the first one of a second recording: 1 s.
+const FALL: u64 = 90_000;
 
 // A stream_id that no unit may have.
 #[tactic(auto, unfolding(crate::specs::RefusalLine::refusal_line))]
@@ -49,15 +52,39 @@ fn write_stamps(fault: StampFault, text: &mut String) -> Result<(), AllocError>
     }
 }
 
-// What would mend them, if it would.
+// Whether DTS fall by more than a second, as where two recordings were joined.
+#[tactic(auto, unfolding(crate::specs::RefusalLine::has_fallen))]
+fn has_fallen(fault: StampFault) -> bool
+    ensures { result ≡ spec.has_fallen fault }
+{
+    match fault {
+        StampFault::DtsNotIncreasing(by) => by > FALL,
+        StampFault::PtsOutOfRange { .. } => false,
+        StampFault::DtsTooFar => false,
+    }
+}
+
+// What would mend these.
+#[tactic(auto, unfolding(crate::specs::RefusalLine::fallen_text))]
+fn write_fallen(fallen: bool, text: &mut String) -> Result<(), AllocError>
+    ensures { OnOk result (string_bytes text.new ≡ string_bytes text.old ++ spec.fallen_text fallen) }
+{
+    if fallen {
+        text.push_str("; --joined takes recordings that were joined\n")
+    } else {
+        text.push_str("\n")
+    }
+}
+
+// What would mend time stamps, if something would.
 #[tactic(auto, unfolding(crate::specs::RefusalLine::remedy_text))]
-fn write_remedy(mended: bool, text: &mut String) -> Result<(), AllocError>
-    ensures { OnOk result (string_bytes text.new ≡ string_bytes text.old ++ spec.remedy_text mended) }
+fn write_remedy(mended: bool, fault: StampFault, text: &mut String) -> Result<(), AllocError>
+    ensures { OnOk result (string_bytes text.new ≡ string_bytes text.old ++ spec.remedy_text mended fault) }
 {
     if mended {
         text.push_str("; --make-dts makes DTS from the PTS\n")
     } else {
-        text.push_str("\n")
+        write_fallen(has_fallen(fault), text)
     }
 }
 
@@ -75,7 +102,7 @@ fn write_stamps_of(
 {
     write!(text, "packet {packet} pid {pid}")?;
     write_stamps(fault, text)?;
-    write_remedy(mended, text)
+    write_remedy(mended, fault, text)
 }
 
 // PTS from which no DTS can be made.
@@ -211,9 +238,9 @@ fn write_more(count: usize, text: &mut String) -> Result<(), AllocError>
     }
 }
 
-// The programs that are named.
+/// Appends the numbers of programs that are named, and the end of the line.
 #[tactic(auto, unfolding(crate::specs::RefusalLine::named_text))]
-fn write_named(there: NamedNumbers, text: &mut String) -> Result<(), AllocError>
+pub fn write_named(there: NamedNumbers, text: &mut String) -> Result<(), AllocError>
     ensures { OnOk result (string_bytes text.new ≡ string_bytes text.old ++ spec.named_text there) }
 {
     write_first(there.first, text)?;

@@ -15,7 +15,7 @@ use crate::input_lines::write_input;
 use crate::job_arguments::JobArguments;
 use crate::outcome::{JobOutcome, only_text, packets_outcome, refused_outcome, told_of};
 use crate::reading::{StreamReading, read_stream};
-use crate::timed_text::timed_stream;
+use crate::timed_text::job_findings;
 use demux::Finding;
 use devices::{Halt, NamedFiles};
 use job_inputs::{JobInput, job_input, mark_as_asked};
@@ -94,8 +94,9 @@ fn carried_input(
         size,
     } = stream.end()?;
     let count = size as u64 / 188;
-    let marked = mark_as_asked(alloc, &arguments.options(), demux.into_findings())?;
-    let (notes, findings) = timed_stream(alloc, references, notes, marked)?;
+    let options = arguments.options();
+    let marked = mark_as_asked(alloc, &options, demux.into_findings())?;
+    let (notes, findings) = job_findings(alloc, &options, references, notes, marked)?;
     let taken = taken_or_refused(alloc, arguments, &notes, count, findings)?;
     Ok(taken)
 }

@@ -1,4 +1,5 @@
-//! Teletext without stamps in a stream that was read: its findings with their moments, and what is said of its packets.
+//! What a job is made of in a stream that was read: if it was joined from several, its parts one after another;
+//! teletext without stamps with its moments, and what is said of its packets.
 
 ghost use Rattle.std.specs.Prelude.{◌≡◌, IfOk, filter, map};
 ghost use Rattle.data_times.specs.DataTimes as text;
@@ -6,8 +7,11 @@ ghost use Rattle.demux.specs.Shown.{finding_view};
 ghost use Rattle.job_run.specs.Streams as spec;
 
 use crate::carried_stream::PacketNotes;
-use data_times::{ClockReference, TextTimes, text_times};
+use data_times::{TextTimes, text_times};
 use demux::Finding;
+use job_programs::JobOptions;
+use joined_parts::part_joins;
+use packet_pcr::FoundPcr;
 use packet_sync::{Field, FieldLeftOut};
 use std::alloc::{AllocError, Global};
 
@@ -49,11 +53,35 @@ fn timed_notes(times: &TextTimes, notes: PacketNotes) -> PacketNotes
     PacketNotes { slips, fields }
 }
 
-/// Returns what is said of the packets of a stream with these clock references, and its findings, each PES packet of
-/// teletext without stamps with its moment.
-pub(crate) fn timed_stream(
+// The clock references and the findings of a stream; if that is asked for, those of the parts of a joined recording one
+// after another.
+#[tactic(auto, unfolding(crate::specs::Streams::references_by, crate::specs::Streams::parts_by))]
+fn joined_stream(
     alloc: Global,
-    references: Vec<ClockReference>,
+    options: &JobOptions<'_>,
+    references: Vec<FoundPcr>,
+    findings: Vec<Finding<'static>>,
+) -> Result<(Vec<FoundPcr>, Vec<Finding<'static>>), AllocError>
+    ensures references { IfOk result (λ parts. parts.0.items
+        ≡ spec.references_by options.now.joined references.items (map finding_view findings.entry.items)) }
+    ensures findings { IfOk result (λ parts. map finding_view parts.1.items
+        ≡ spec.parts_by options.now.joined references.items (map finding_view findings.entry.items)) }
+{
+    if !options.joined {
+        return Ok((references, findings));
+    }
+    let joins = part_joins(alloc, &references, &findings)?;
+    let references = joins.moved_references(alloc, &references)?;
+    let mut findings = findings;
+    joins.move_findings(&mut findings);
+    Ok((references, findings))
+}
+
+// What is said of the packets of a stream with these clock references, and its findings, each PES packet of teletext
+// without stamps with its moment.
+fn timed_stream(
+    alloc: Global,
+    references: Vec<FoundPcr>,
     notes: PacketNotes,
     findings: Vec<Finding<'static>>,
 ) -> Result<(PacketNotes, Vec<Finding<'static>>), AllocError>
@@ -66,4 +94,23 @@ pub(crate) fn timed_stream(
     let notes = timed_notes(&times, notes);
     let timed = times.time_all(alloc, &references, findings)?;
     Ok((notes, timed))
+}
+
+/// Returns what is said of the packets of a stream with these clock references, and the findings of which its job is
+/// made: if that is asked for, those of the parts of a joined recording one after another; each PES packet of teletext
+/// without stamps with its moment.
+pub(crate) fn job_findings(
+    alloc: Global,
+    options: &JobOptions<'_>,
+    references: Vec<FoundPcr>,
+    notes: PacketNotes,
+    findings: Vec<Finding<'static>>,
+) -> Result<(PacketNotes, Vec<Finding<'static>>), AllocError>
+    ensures notes { IfOk result (λ made. made.0 ≡ spec.notes_by options.now.joined references.items
+        (map finding_view findings.entry.items) notes) }
+    ensures findings { IfOk result (λ made. map finding_view made.1.items
+        ≡ spec.findings_by options.now.joined references.items (map finding_view findings.entry.items)) }
+{
+    let (references, parts) = joined_stream(alloc, options, references, findings)?;
+    timed_stream(alloc, references, notes, parts)
 }

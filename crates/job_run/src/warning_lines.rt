@@ -6,9 +6,9 @@ ghost use Rattle.job_run.specs.WarningLines as spec;
 
 use crate::information_lines::write_information;
 use crate::job_arguments::Reporting;
-use crate::refusal_line::write_refusal;
+use crate::refusal_line::{write_named, write_refusal};
 use es_units::{UnitWarning, UnitWarningCause};
-use job_programs::{JobRefusal, PacketWarning, ProgramWarning, Warning};
+use job_programs::{JobRefusal, NamedNumbers, PacketWarning, ProgramWarning, Warning};
 use std::alloc::{AllocError, Global};
 use std::fmt::Write;
 use stream_programs::{MapPart, TableOmission};
@@ -166,13 +166,30 @@ fn write_map(program: u16, packet: u64, part: MapPart, text: &mut String) -> Res
     text.push_str(map_text(part))
 }
 
+// What is said of a program that is not there, before the programs that are.
+#[tactic(auto, unfolding(crate::specs::WarningLines::missing_front))]
+fn write_missing_front(program: u16, text: &mut String) -> Result<(), AllocError>
+    ensures { OnOk result (string_bytes text.new ≡ string_bytes text.old ++ spec.missing_front program) }
+{
+    write!(text, "program {program} is not there; the PAT names ")
+}
+
+// The line for a program that is not there.
+#[tactic(auto, unfolding(crate::specs::WarningLines::missing_line))]
+fn write_missing(program: u16, named: NamedNumbers, text: &mut String) -> Result<(), AllocError>
+    ensures { OnOk result (string_bytes text.new ≡ string_bytes text.old ++ spec.missing_line program named) }
+{
+    write_missing_front(program, text)?;
+    write_named(named, text)
+}
+
 // The line for a program.
 #[tactic(auto, unfolding(crate::specs::WarningLines::program_line))]
 fn write_program(program: u16, what: ProgramWarning, text: &mut String) -> Result<(), AllocError>
     ensures { OnOk result (string_bytes text.new ≡ string_bytes text.old ++ spec.program_line program what) }
 {
     match what {
-        ProgramWarning::Missing => write!(text, "program {program} is not there\n"),
+        ProgramWarning::Missing(named) => write_missing(program, named, text),
         ProgramWarning::NoStream => write!(
             text,
             "program {program} has no stream with units: left out\n"

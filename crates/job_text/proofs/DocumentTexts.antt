@@ -14,21 +14,23 @@ use Rattle.hex.specs.Hex.{encode_lower}
 use Rattle.toml_writer.specs.Text.{key_text}
 use Rattle.toml.specs.Data.{string, integer, boolean, Members, no_members, member, is_before, members_are_sorted}
 use Rattle.toml.specs.Text.{expressions, pairs, sections, elements}
-use Rattle.toml.specs.Tables.{Expression}
+use Rattle.toml.specs.Tables.{Expression, array_table}
 use Rattle.toml.proofs.Lines.{after}
 use Rattle.job_text.specs.DescriptionParts.{EventPartView, HeadingView, NetworkPartView, ProgramPartView, StreamPartView, TablePartView}
-use Rattle.job_text.specs.KeyLines.{with_numbers, with_hex, with_list, hex_line, list_line, key_line, number_lines}
+use Rattle.job_text.specs.KeyLines.{with_numbers, with_hex, with_list, header, hex_line, list_line, key_line, number_lines}
+use Rattle.job_text.specs.Notes.{type_note}
 use Rattle.job_text.specs.Fields.{program_numbers, burst_numbers, frame_numbers, group_numbers, time_numbers, size_numbers, pace_numbers, place_numbers}
 use Rattle.job_text.specs.Fields.{leak_numbers, limit_numbers, drain_numbers, last_numbers}
 use Rattle.job_text.specs.Documents.{document, elements_of, with_table, with_tables, event_table, network_table, program_table, stream_last, stream_drain}
 use Rattle.job_text.specs.Documents.{stream_place, stream_middle, stream_rest, stream_members, stream_table, table_table}
-use Rattle.job_text.specs.Texts.{event_text, heading_text, network_text, network_if_any, program_text, stream_text, table_text}
+use Rattle.job_text.specs.Texts.{event_text, heading_text, network_text, network_if_any, program_text, stream_end, stream_text, table_text}
 use Rattle.job_text.specs.Laws.{Fits, FitsEvent, FitsHeading, FitsNetwork, FitsProgram, FitsAllowance, FitsMultiplexing, FitsFraming, FitsStream, FitsTable}
 use Rattle.job_text.specs.Laws.{TextsAreRead}
 use Rattle.job_text.proofs.Comments.{AreCommented, commented_both, document_read}
 use Rattle.job_text.proofs.FlatArrays.{list_none, list_some, numbers_are, numbers_sorted, digits_are, digits_sorted}
-use Rattle.job_text.proofs.Scalars.{AreScalars, IsScalar, scalar_lines, lines_are_text}
-use Rattle.job_text.proofs.TableArrays.{AreTables, element_lines, elements_are_text, pairs_past, sections_with, sorted_past, before_tables}
+use Rattle.job_text.proofs.NoteLines.{type_tail}
+use Rattle.job_text.proofs.Scalars.{AreScalars, IsScalar, scalar_lines, lines_are_text, typed_are_text, typed_lines}
+use Rattle.job_text.proofs.TableArrays.{AreTables, element_is_text, element_lines, elements_are_text, pairs_past, sections_with, sorted_past, before_tables}
 use Rattle.job_text.proofs.SingleTables.{IsTable, lines_if_any, expressions_if_any, table_is_text, pairs_past_table, sections_with_table}
 use Rattle.job_text.proofs.SingleTables.{sorted_past_table, before_table}
 
@@ -92,10 +94,6 @@ list_after : (key : List ℕ) (ns : List ℕ) (more : Members) → is_lt (slice_
     → is_before key (with_list (codes "shared_with") ns more) ≡ true
 list_after key [] more first last = last
 list_after key (n ∷ ns) more first last = first
-
-list_lines : (ns : List ℕ) (more : Members) → scalar_lines (with_list (codes "shared_with") ns more) ≡ list_line (codes "shared_with") ns ++ scalar_lines more
-list_lines [] more = ap (λ (l : List ℕ). l ++ scalar_lines more) (sym (list_none (codes "shared_with")))
-list_lines (n ∷ ns) more = ap (λ (l : List ℕ). l ++ scalar_lines more) (sym (list_some (codes "shared_with") n ns))
 
 -- an event
 event_scalars : (e : EventPartView) → FitsEvent e → AreScalars (event_table e)
@@ -278,39 +276,53 @@ sorted_with (Pace burst pace) m p l s =
       hex_sorted s.descriptors (stream_rest (Pace burst pace) m p l s) (after_descriptors (Pace burst pace) m p l s) (rest_sorted (Pace burst pace) m p l s),
     )
 
--- the lines from its leak on, those after its access units, and all
-drain_lines : (m : Option MultiplexingBuffer) (s : StreamPartView) → scalar_lines (stream_drain m s)
-    ≡ number_lines (leak_numbers m) ++ (number_lines (drain_numbers s) ++ (list_line (codes "shared_with") s.shared_with ++ number_lines (last_numbers s)))
-drain_lines None s = rw (list_lines s.shared_with (stream_last s)) (simp (append_assoc, append-nil))
-drain_lines (Some m) s = rw (list_lines s.shared_with (stream_last s)) (simp (append_assoc, append-nil))
+-- the lines of some of its keys, with what is said beside its stream_type
+abbrev own_lines : StreamPartView → Members → List ℕ
+own_lines s ms = typed_lines (type_note s.stream_type s.said) ms
 
-limit_lines : (m : Option MultiplexingBuffer) (l : Option ℕ) (s : StreamPartView) → scalar_lines (with_numbers (limit_numbers l) (stream_drain m s))
-    ≡ number_lines (limit_numbers l) ++ scalar_lines (stream_drain m s)
+own_hex : (s : StreamPartView) (bytes : List ℕ) (more : Members) → own_lines s (with_hex (codes "descriptors") bytes more)
+    ≡ hex_line (codes "descriptors") bytes ++ own_lines s more
+own_hex s [] more = ap (own_lines s) (hex_none more) ∙ ap (λ (l : List ℕ). l ++ own_lines s more) (sym line_none)
+own_hex s (b ∷ bytes) more = ap (own_lines s) (hex_some b bytes more) ∙ ap (λ (l : List ℕ). l ++ own_lines s more) (sym (line_some b bytes))
+
+own_list : (s : StreamPartView) (ns : List ℕ) (more : Members) → own_lines s (with_list (codes "shared_with") ns more)
+    ≡ list_line (codes "shared_with") ns ++ own_lines s more
+own_list s [] more = ap (λ (l : List ℕ). l ++ own_lines s more) (sym (list_none (codes "shared_with")))
+own_list s (n ∷ ns) more = ap (λ (l : List ℕ). l ++ own_lines s more) (sym (list_some (codes "shared_with") n ns))
+
+-- the lines from its leak on, those after its access units, and all
+drain_lines : (m : Option MultiplexingBuffer) (s : StreamPartView) → own_lines s (stream_drain m s)
+    ≡ number_lines (leak_numbers m) ++ (number_lines (drain_numbers s) ++ stream_end s)
+drain_lines None s = rw (own_list s s.shared_with (stream_last s)) (simp (append_assoc, append-nil))
+drain_lines (Some m) s = rw (own_list s s.shared_with (stream_last s)) (simp (append_assoc, append-nil))
+
+limit_lines : (m : Option MultiplexingBuffer) (l : Option ℕ) (s : StreamPartView) → own_lines s (with_numbers (limit_numbers l) (stream_drain m s))
+    ≡ number_lines (limit_numbers l) ++ own_lines s (stream_drain m s)
 limit_lines m None s = refl
 limit_lines m (Some n) s = simp (append_assoc, append-nil)
 
-middle_lines : (a : Allowance) (m : Option MultiplexingBuffer) (l : Option ℕ) (s : StreamPartView) → scalar_lines (stream_middle a m l s)
+middle_lines : (a : Allowance) (m : Option MultiplexingBuffer) (l : Option ℕ) (s : StreamPartView) → own_lines s (stream_middle a m l s)
     ≡ number_lines (group_numbers a) ++ (number_lines (time_numbers s) ++ (number_lines (size_numbers m) ++ (number_lines (pace_numbers a)
-    ++ (number_lines (place_numbers s) ++ (number_lines (limit_numbers l) ++ scalar_lines (stream_drain m s))))))
+    ++ (number_lines (place_numbers s) ++ (number_lines (limit_numbers l) ++ own_lines s (stream_drain m s))))))
 middle_lines (Groups units packets) None l s = rw (limit_lines None l s) (simp (append_assoc, append-nil))
 middle_lines (Groups units packets) (Some m) l s = rw (limit_lines (Some m) l s) (simp (append_assoc, append-nil))
 middle_lines (Pace burst pace) None l s = rw (limit_lines None l s) (simp (append_assoc, append-nil))
 middle_lines (Pace burst pace) (Some m) l s = rw (limit_lines (Some m) l s) (simp (append_assoc, append-nil))
 
 rest_lines : (a : Allowance) (m : Option MultiplexingBuffer) (p : Option Framing) (l : Option ℕ) (s : StreamPartView)
-    → scalar_lines (stream_rest a m p l s) ≡ number_lines (frame_numbers p) ++ scalar_lines (stream_middle a m l s)
+    → own_lines s (stream_rest a m p l s) ≡ number_lines (frame_numbers p) ++ own_lines s (stream_middle a m l s)
 rest_lines a m None l s = refl
 rest_lines a m (Some p) l s = simp (append_assoc, append-nil)
 
-lines_with : (a : Allowance) (m : Option MultiplexingBuffer) (p : Option Framing) (l : Option ℕ) (s : StreamPartView) → scalar_lines (stream_members a m p l s)
+lines_with : (a : Allowance) (m : Option MultiplexingBuffer) (p : Option Framing) (l : Option ℕ) (s : StreamPartView) → own_lines s (stream_members a m p l s)
     ≡ number_lines (burst_numbers a) ++ (hex_line (codes "descriptors") s.descriptors
-    ++ (number_lines (frame_numbers p) ++ scalar_lines (stream_middle a m l s)))
+    ++ (number_lines (frame_numbers p) ++ own_lines s (stream_middle a m l s)))
 lines_with (Groups units packets) m p l s =
-    rw (hex_lines s.descriptors (stream_rest (Groups units packets) m p l s), rest_lines (Groups units packets) m p l s) refl
+    rw (own_hex s s.descriptors (stream_rest (Groups units packets) m p l s), rest_lines (Groups units packets) m p l s) refl
 lines_with (Pace burst pace) m p l s =
-    rw (hex_lines s.descriptors (stream_rest (Pace burst pace) m p l s), rest_lines (Pace burst pace) m p l s) (simp (append_assoc, append-nil))
+    rw (own_hex s s.descriptors (stream_rest (Pace burst pace) m p l s), rest_lines (Pace burst pace) m p l s) (simp (append_assoc, append-nil))
 
-stream_lines : (s : StreamPartView) → element_lines (codes "stream") (stream_table s) ≡ stream_text s
+stream_lines : (s : StreamPartView) → header (codes "stream") ++ own_lines s (stream_table s) ≡ stream_text s
 stream_lines s =
     rw (
       lines_with s.allowance s.multiplexing s.framing s.pts_limit s,
@@ -349,12 +361,36 @@ program_tables : (ps : List ProgramPartView) → All FitsProgram ps → AreTable
 program_tables [] h = tt
 program_tables (p ∷ ps) h = let e = each FitsProgram p ps h in (program_scalars p e.0, program_sorted p, program_tables ps e.1)
 
+stream_scalars : (s : StreamPartView) → FitsStream s → AreScalars (stream_table s)
+stream_scalars s h = scalars_with s.allowance s.multiplexing s.framing s.pts_limit s h.allowance h.multiplexing h.framing h.pts_limit h
+
 stream_tables : (ss : List StreamPartView) → All FitsStream ss → AreTables (map stream_table ss)
 stream_tables [] h = tt
 stream_tables (s ∷ ss) h =
     let e = each FitsStream s ss h in
-    let scalars = scalars_with s.allowance s.multiplexing s.framing s.pts_limit s e.0.allowance e.0.multiplexing e.0.framing e.0.pts_limit e.0 in
-    (scalars, sorted_with s.allowance s.multiplexing s.framing s.pts_limit s, stream_tables ss e.1)
+    (stream_scalars s e.0, sorted_with s.allowance s.multiplexing s.framing s.pts_limit s, stream_tables ss e.1)
+
+own_are_text : (s : StreamPartView) → FitsStream s → AreCommented true (pairs (stream_table s)) (own_lines s (stream_table s))
+own_are_text s h = typed_are_text true (type_note s.stream_type s.said) (stream_table s) (type_tail s.stream_type s.said) (stream_scalars s h)
+
+stream_is_text : (s : StreamPartView) (es : List Expression) (text : List ℕ) → FitsStream s → AreCommented true es text
+    → AreCommented true ((([], codes "stream"), array_table) ∷ ((pairs (stream_table s) ++ sections (codes "stream" ∷ []) (stream_table s)) ++ es))
+    (stream_text s ++ text)
+unfolding key_text
+stream_is_text s es text h more =
+    let own = own_lines s (stream_table s) in
+    let whole : header (codes "stream") ++ (own ++ text) ≡ stream_text s ++ text =
+    sym (append_assoc (header (codes "stream")) own text) ∙ ap (λ (t : List ℕ). t ++ text) (stream_lines s) in
+    subst (λ (t : List ℕ). AreCommented true
+    ((([], codes "stream"), array_table) ∷ ((pairs (stream_table s) ++ sections (codes "stream" ∷ []) (stream_table s)) ++ es)) t) whole
+    (element_is_text (codes "stream") (stream_table s) es own text refl (stream_scalars s h) (own_are_text s h) more)
+
+streams_are_text : (ss : List StreamPartView) → All FitsStream ss
+    → AreCommented true (elements ([], codes "stream") (elements_of (map stream_table ss))) (flat_map stream_text ss)
+streams_are_text [] h = refl
+streams_are_text (s ∷ ss) h =
+    let e = each FitsStream s ss h in
+    stream_is_text s (elements ([], codes "stream") (elements_of (map stream_table ss))) (flat_map stream_text ss) e.0 (streams_are_text ss e.1)
 
 events_lines : (es : List EventPartView) → flat_map (element_lines (codes "event")) (map event_table es) ≡ flat_map event_text es
 events_lines [] = refl
@@ -363,10 +399,6 @@ events_lines (e ∷ es) = ap₂ (λ (a b : List ℕ). a ++ b) (event_lines e) (e
 programs_lines : (ps : List ProgramPartView) → flat_map (element_lines (codes "program")) (map program_table ps) ≡ flat_map program_text ps
 programs_lines [] = refl
 programs_lines (p ∷ ps) = ap₂ (λ (a b : List ℕ). a ++ b) (program_lines p) (programs_lines ps)
-
-streams_lines : (ss : List StreamPartView) → flat_map (element_lines (codes "stream")) (map stream_table ss) ≡ flat_map stream_text ss
-streams_lines [] = refl
-streams_lines (s ∷ ss) = ap₂ (λ (a b : List ℕ). a ++ b) (stream_lines s) (streams_lines ss)
 
 private_tables : (ts : List TablePartView) → All FitsTable ts → AreTables (map table_table ts)
 private_tables [] h = tt
@@ -429,21 +461,20 @@ abbrev arrays : List Members → List Members → List Members → List Expressi
 arrays ts us ws = elements ([], codes "program") (elements_of ts)
     ++ (elements ([], codes "stream") (elements_of us) ++ (elements ([], codes "table") (elements_of ws) ++ []))
 
-abbrev array_lines : List Members → List Members → List Members → List ℕ
-array_lines ts us ws = flat_map (element_lines (codes "program")) ts
-    ++ (flat_map (element_lines (codes "stream")) us ++ flat_map (element_lines (codes "table")) ws)
+abbrev array_lines : List Members → List StreamPartView → List Members → List ℕ
+array_lines ts ss ws = flat_map (element_lines (codes "program")) ts ++ (flat_map stream_text ss ++ flat_map (element_lines (codes "table")) ws)
 
 abbrev tables : Option Members → List Members → List Members → List Members → List Expression
 tables n ts us ws = expressions_if_any (codes "network") n ++ arrays ts us ws
 
-abbrev table_lines : Option Members → List Members → List Members → List Members → List ℕ
-table_lines n ts us ws = lines_if_any (codes "network") n ++ array_lines ts us ws
+abbrev table_lines : Option Members → List Members → List StreamPartView → List Members → List ℕ
+table_lines n ts ss ws = lines_if_any (codes "network") n ++ array_lines ts ss ws
 
 abbrev all_tables_of : List Members → Option Members → List Members → List Members → List Members → List Expression
 all_tables_of es n ts us ws = elements ([], codes "event") (elements_of es) ++ tables n ts us ws
 
-abbrev all_lines : List Members → Option Members → List Members → List Members → List Members → List ℕ
-all_lines es n ts us ws = flat_map (element_lines (codes "event")) es ++ table_lines n ts us ws
+abbrev all_lines : List Members → Option Members → List Members → List StreamPartView → List Members → List ℕ
+all_lines es n ts ss ws = flat_map (element_lines (codes "event")) es ++ table_lines n ts ss ws
 
 whole_sections : (h : HeadingView) (es : List Members) (n : Option Members) (ts us ws : List Members) →
     sections [] (document h es n ts us ws) ≡ all_tables_of es n ts us ws
@@ -467,44 +498,46 @@ last_is_text ws w =
     (sym (append-nil (elements ([], codes "table") (elements_of ws))))
     (elements_are_text (codes "table") ws refl w)
 
-arrays_are_text : (ts us ws : List Members) → AreTables ts → AreTables us → AreTables ws → AreCommented true (arrays ts us ws) (array_lines ts us ws)
+arrays_are_text : (ts : List Members) (ss : List StreamPartView) (ws : List Members) → AreTables ts → All FitsStream ss → AreTables ws
+    → AreCommented true (arrays ts (map stream_table ss) ws) (array_lines ts ss ws)
 unfolding key_text
-arrays_are_text ts us ws a b w =
+arrays_are_text ts ss ws a b w =
+    let us = map stream_table ss in
     let programs = elements_are_text (codes "program") ts refl a in
-    let streams = elements_are_text (codes "stream") us refl b in
     let two = commented_both true (elements ([], codes "stream") (elements_of us)) (elements ([], codes "table") (elements_of ws) ++ [])
-    (flat_map (element_lines (codes "stream")) us) (flat_map (element_lines (codes "table")) ws) streams (last_is_text ws w) in
+    (flat_map stream_text ss) (flat_map (element_lines (codes "table")) ws) (streams_are_text ss b) (last_is_text ws w) in
     commented_both true (elements ([], codes "program") (elements_of ts))
     (elements ([], codes "stream") (elements_of us) ++ (elements ([], codes "table") (elements_of ws) ++ []))
-    (flat_map (element_lines (codes "program")) ts) (flat_map (element_lines (codes "stream")) us ++ flat_map (element_lines (codes "table")) ws) programs two
+    (flat_map (element_lines (codes "program")) ts) (flat_map stream_text ss ++ flat_map (element_lines (codes "table")) ws) programs two
 
-tables_are_text : (n : Option Members) (ts us ws : List Members) → IsTable n → AreTables ts → AreTables us → AreTables ws →
-    AreCommented true (tables n ts us ws) (table_lines n ts us ws)
+tables_are_text : (n : Option Members) (ts : List Members) (ss : List StreamPartView) (ws : List Members) → IsTable n → AreTables ts → All FitsStream ss →
+    AreTables ws → AreCommented true (tables n ts (map stream_table ss) ws) (table_lines n ts ss ws)
 unfolding key_text
-tables_are_text n ts us ws t a b w =
-    commented_both true (expressions_if_any (codes "network") n) (arrays ts us ws)
-    (lines_if_any (codes "network") n) (array_lines ts us ws)
-    (table_is_text (codes "network") n refl t) (arrays_are_text ts us ws a b w)
+tables_are_text n ts ss ws t a b w =
+    commented_both true (expressions_if_any (codes "network") n) (arrays ts (map stream_table ss) ws)
+    (lines_if_any (codes "network") n) (array_lines ts ss ws)
+    (table_is_text (codes "network") n refl t) (arrays_are_text ts ss ws a b w)
 
-all_are_text : (es : List Members) (n : Option Members) (ts us ws : List Members) → AreTables es → IsTable n → AreTables ts → AreTables us → AreTables ws
-    → AreCommented true (all_tables_of es n ts us ws) (all_lines es n ts us ws)
+all_are_text : (es : List Members) (n : Option Members) (ts : List Members) (ss : List StreamPartView) (ws : List Members) → AreTables es → IsTable n →
+    AreTables ts → All FitsStream ss → AreTables ws → AreCommented true (all_tables_of es n ts (map stream_table ss) ws) (all_lines es n ts ss ws)
 unfolding key_text
-all_are_text es n ts us ws e t a b w =
-    commented_both true (elements ([], codes "event") (elements_of es)) (tables n ts us ws)
-    (flat_map (element_lines (codes "event")) es) (table_lines n ts us ws)
-    (elements_are_text (codes "event") es refl e) (tables_are_text n ts us ws t a b w)
+all_are_text es n ts ss ws e t a b w =
+    commented_both true (elements ([], codes "event") (elements_of es)) (tables n ts (map stream_table ss) ws)
+    (flat_map (element_lines (codes "event")) es) (table_lines n ts ss ws)
+    (elements_are_text (codes "event") es refl e) (tables_are_text n ts ss ws t a b w)
 
-document_is_text : (h : HeadingView) (es : List Members) (n : Option Members) (ts us ws : List Members) → FitsHeading h → AreTables es → IsTable n →
-    AreTables ts → AreTables us → AreTables ws
-    → AreCommented false (expressions (document h es n ts us ws)) (heading_text h ++ all_lines es n ts us ws)
-document_is_text h es n ts us ws f e t a b w =
+document_is_text : (h : HeadingView) (es : List Members) (n : Option Members) (ts : List Members) (ss : List StreamPartView) (ws : List Members)
+    → FitsHeading h → AreTables es → IsTable n → AreTables ts → All FitsStream ss → AreTables ws
+    → AreCommented false (expressions (document h es n ts (map stream_table ss) ws)) (heading_text h ++ all_lines es n ts ss ws)
+document_is_text h es n ts ss ws f e t a b w =
+    let us = map stream_table ss in
     let head = pairs (document h [] None [] [] []) in
     let rest = all_tables_of es n ts us ws in
-    let text = all_lines es n ts us ws in
+    let text = all_lines es n ts ss ws in
     let first : AreCommented false head (heading_text h) =
     subst (λ (t : List ℕ). AreCommented false head t) (heading_lines h) (lines_are_text false (document h [] None [] [] []) (heading_scalars h f)) in
     let second : AreCommented (after false head) rest text =
-    subst (λ (s : Bool). AreCommented s rest text) (sym (begun head (omega arith))) (all_are_text es n ts us ws e t a b w) in
+    subst (λ (s : Bool). AreCommented s rest text) (sym (begun head (omega arith))) (all_are_text es n ts ss ws e t a b w) in
     let whole = commented_both false head rest (heading_text h) text first second in
     let same : expressions (document h es n ts us ws) ≡ head ++ rest =
     ap₂ (λ (xs ys : List Expression). xs ++ ys) (whole_pairs h es n ts us ws) (whole_sections h es n ts us ws) in
@@ -541,16 +574,16 @@ texts_are_read h es n ps ss qs f e m p s q =
     let a = program_tables ps p in
     let b = stream_tables ss s in
     let w = private_tables qs q in
-    let arrays : array_lines ts us ws ≡ flat_map program_text ps ++ (flat_map stream_text ss ++ flat_map table_text qs) =
-    ap₂ (λ (xs ys : List ℕ). xs ++ ys) (programs_lines ps) (ap₂ (λ (xs ys : List ℕ). xs ++ ys) (streams_lines ss) (privates_lines qs)) in
-    let rest : table_lines t ts us ws ≡ network_if_any n ++ (flat_map program_text ps ++ (flat_map stream_text ss ++ flat_map table_text qs)) =
+    let arrays : array_lines ts ss ws ≡ flat_map program_text ps ++ (flat_map stream_text ss ++ flat_map table_text qs) =
+    ap₂ (λ (xs ys : List ℕ). xs ++ ys) (programs_lines ps) (ap (λ (ys : List ℕ). flat_map stream_text ss ++ ys) (privates_lines qs)) in
+    let rest : table_lines t ts ss ws ≡ network_if_any n ++ (flat_map program_text ps ++ (flat_map stream_text ss ++ flat_map table_text qs)) =
     ap₂ (λ (xs ys : List ℕ). xs ++ ys) (network_lines_if_any n) arrays in
-    let lines : all_lines vs t ts us ws ≡ flat_map event_text es
+    let lines : all_lines vs t ts ss ws ≡ flat_map event_text es
     ++ (network_if_any n ++ (flat_map program_text ps ++ (flat_map stream_text ss ++ flat_map table_text qs))) =
     ap₂ (λ (xs ys : List ℕ). xs ++ ys) (events_lines es) rest in
     let text : AreCommented false (expressions (document h vs t ts us ws))
     (heading_text h ++ (flat_map event_text es ++ (network_if_any n ++ (flat_map program_text ps ++ (flat_map stream_text ss ++ flat_map table_text qs)))))
     =
     subst (λ (l : List ℕ). AreCommented false (expressions (document h vs t ts us ws)) (heading_text h ++ l)) lines
-    (document_is_text h vs t ts us ws f ev fits a b w) in
+    (document_is_text h vs t ts ss ws f ev fits a s w) in
     document_read (document h vs t ts us ws) _ text (document_sorted h vs t ts us ws ev fits a b w)

@@ -1,4 +1,6 @@
 pub mod Comments
+pub mod ShownTexts
+pub mod ShownProfiles
 pub mod NoteLines
 pub mod FlatArrays
 pub mod Scalars

@@ -12,9 +12,14 @@ use Rattle.toml.specs.Data.{Data, string, integer, float, boolean, datetime, arr
 use Rattle.toml.specs.Parse.{ends_line}
 use Rattle.toml.proofs.Blanks.{skip_newline}
 use Rattle.job_text.specs.declared.measure.Measure.{Measure}
-use Rattle.job_text.specs.declared.measure.Measure.TheVariants.{Plain, Ticks, Clock, BitRate, Bytes, Milliseconds, Seconds, StreamType, ServiceType}
+use Rattle.job_text.specs.declared.measure.Measure.TheVariants.{Plain, Ticks, Clock, BitRate, Bytes, Milliseconds, Seconds, ServiceType}
 use Rattle.job_text.specs.Notes.{group, grouped, is_shown, measure_of, note, note_if_any, note_of, number_note, quotient, service_type_name, stream_type_name}
-use Rattle.job_text.specs.Notes.{thousandths, two_digits}
+use Rattle.job_text.specs.Notes.{thousandths, two_digits, type_note}
+use Rattle.job_text.specs.ProfileWords.{said_words}
+use Rattle.stream_coding.specs.declared.profiles.ProfileLevel.{ProfileLevel}
+use Rattle.job_text.specs.Laws.{NotesAreShown}
+use Rattle.job_text.proofs.ShownTexts.{Shown, shown_both, decimal_shown, three_shown}
+use Rattle.job_text.proofs.ShownProfiles.{said_shown}
 use Rattle.job_text.proofs.Comments.{IsTail}
 
 -- a test of the elements of a list is one of what they are mapped to
@@ -23,39 +28,6 @@ any_of_mapped p f [] = refl
 any_of_mapped p f (x ∷ xs) = ap (λ (b : Bool). p (f x) || b) (any_of_mapped p f xs)
 
 -- 1. Its bytes
-
-abbrev pub Shown : List ℕ → Type 0
-Shown xs = list_all is_shown xs ≡ true
-
-pub shown_both : (xs ys : List ℕ) → Shown xs → Shown ys → Shown (xs ++ ys)
-shown_both [] ys a b = b
-shown_both (x ∷ xs) ys a b =
-    let parts = and_parts (is_shown x) (list_all is_shown xs) a in
-    and_from (is_shown x) (list_all is_shown (xs ++ ys)) parts.0 (shown_both xs ys parts.1 b)
-
-shown_byte : (c : ℕ) → 32 ≤ c → c ≤ 126 → is_shown c ≡ true
-shown_byte c low high = and_from (nat_le 32 c) (nat_le c 126) (le-leb 32 c low) (le-leb c 126 high)
-
-digit_shown : (n : ℕ) → is_shown (digit_glyph false (n % 10)) ≡ true
-digit_shown n =
-    cond_both (nat_lt (n % 10) 10) (48 + n % 10) (87 + n % 10) (λ c. is_shown c ≡ true)
-    (λ _. shown_byte (48 + n % 10) (omega arith) (omega arith))
-    (λ _. shown_byte (87 + n % 10) (omega arith) (omega arith))
-
-digits_shown : (k n : ℕ) (acc : List ℕ) → Shown acc → Shown (digits_onto k 10 false n acc)
-digits_shown zero n acc e = e
-digits_shown (suc k) n acc e =
-    let more = and_from (is_shown (digit_glyph false (n % 10))) (list_all is_shown acc) (digit_shown n) e in
-    cond_both (n / 10 == 0) (digit_glyph false (n % 10) ∷ acc) (digits_onto k 10 false (n / 10) (digit_glyph false (n % 10) ∷ acc)) Shown
-    (λ _. more) (λ _. digits_shown k (n / 10) (digit_glyph false (n % 10) ∷ acc) more)
-
-pub decimal_shown : (n : ℕ) → Shown (decimal n)
-unfolding digits
-decimal_shown n = digits_shown 64 n [] refl
-
-three_shown : (a b c : ℕ) → Shown (decimal a ++ (decimal b ++ decimal c))
-three_shown a b c =
-    shown_both (decimal a) (decimal b ++ decimal c) (decimal_shown a) (shown_both (decimal b) (decimal c) (decimal_shown b) (decimal_shown c))
 
 group_shown : (n : ℕ) → Shown (group n)
 unfolding group
@@ -155,7 +127,6 @@ number_is Seconds n =
     let minutes_are = shown_both (codes ":") (two_digits (n / 60 % 60) ++ seconds) refl
     (shown_both (two_digits (n / 60 % 60)) seconds (two_shown (n / 60 % 60)) seconds_are) in
     is_note (decimal (n / 3_600) ++ minutes) (shown_both (decimal (n / 3_600)) minutes (decimal_shown (n / 3_600)) minutes_are)
-number_is StreamType n = name_note (stream_type_name n) (stream_name_shown n)
 number_is ServiceType n = name_note (service_type_name n) (service_name_shown n)
 
 pub note_is : (key : List ℕ) (d : Data) → IsNote (note_of key d)
@@ -167,6 +138,13 @@ note_is key (boolean b) = inl refl
 note_is key (datetime x) = inl refl
 note_is key (array x) = inl refl
 note_is key (table x) = inl refl
+
+-- beside a stream_type
+type_is : (n : ℕ) (said : ProfileLevel) → IsNote (type_note n said)
+unfolding type_note
+type_is n said =
+    cond_both (length (stream_type_name n) == 0) [] (note (stream_type_name n ++ said_words said)) IsNote (λ _. inl refl)
+    (λ _. is_note (stream_type_name n ++ said_words said) (shown_both (stream_type_name n) (said_words said) (stream_name_shown n) (said_shown said)))
 
 -- 3. It ends its line
 
@@ -211,10 +189,13 @@ tail_of text (inr (words, is, h)) = rw is (words_tail words h)
 pub note_tail : (key : List ℕ) (d : Data) → IsTail (note_of key d ++ 10 ∷ [])
 note_tail key d = tail_of (note_of key d) (note_is key d)
 
+pub type_tail : (n : ℕ) (said : ProfileLevel) → IsTail (type_note n said ++ 10 ∷ [])
+type_tail n said = tail_of (type_note n said) (type_is n said)
+
 -- and its bytes are printable
 shown_of : (text : List ℕ) → IsNote text → Shown text
 shown_of text (inl none) = rw none refl
 shown_of text (inr (words, is, h)) = rw is (shown_both (codes " # ") words refl h)
 
-pub notes_are_shown : (key : List ℕ) (d : Data) → Shown (note_of key d)
-notes_are_shown key d = shown_of (note_of key d) (note_is key d)
+pub notes_are_shown : NotesAreShown
+notes_are_shown = (λ key d. shown_of (note_of key d) (note_is key d), λ n said. shown_of (type_note n said) (type_is n said))

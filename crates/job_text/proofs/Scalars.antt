@@ -1,5 +1,7 @@
 -- Tables of strings, numbers, truth values and flat arrays, as lines.
-use Rattle.std.proofs.Common.{◌≡◌, ℕ, ◌≤◌, Bool, true, false, List, [], ◌++◌, codes, refl, arith}
+use Rattle.std.proofs.Common.{◌≡◌, ℕ, pos, negsuc, ◌≤◌, Bool, true, false, if◌then◌else◌, List, [], ◌++◌, codes, decimal, refl, arith}
+use Rattle.std.specs.Prelude.{bytes_eq}
+use Rattle.std.proofs.lemmas.Bool.{cond_both}
 use Rattle.std.specs.Int.{w64}
 use Rattle.std.specs.Prelude.{FitsSigned}
 use Rattle.toml_writer.specs.Text.{key_text}
@@ -7,9 +9,9 @@ use Rattle.toml.specs.Data.{Data, string, integer, float, boolean, datetime, arr
 use Rattle.toml.specs.Tables.{key_value}
 use Rattle.toml.specs.Text.{IsValueText, pairs, sections, is_section}
 use Rattle.toml.proofs.ReadLines.{IsPrinted}
-use Rattle.job_text.specs.KeyLines.{value_text, key_line}
+use Rattle.job_text.specs.KeyLines.{value_text, key_line, noted_line}
 use Rattle.job_text.specs.Notes.{note_of}
-use Rattle.job_text.proofs.Comments.{IsCommented, AreCommented}
+use Rattle.job_text.proofs.Comments.{IsCommented, IsTail, AreCommented}
 use Rattle.job_text.proofs.NoteLines.{note_tail}
 use Rattle.job_text.proofs.FlatArrays.{AreFlat, array_is_text, array_is_no_section, no_array_section, array_low, array_dated}
 
@@ -73,6 +75,35 @@ line_is_text : (started : Bool) (k : List ℕ) (d : Data) → key_text k ≡ k �
 unfolding key_line
 line_is_text started k d bare h = (value_text d, note_of k d ++ codes "\n", rw bare refl, value_is_text d h, note_tail k d)
 
+-- a line of a number with another tail
+noted_is_text : (started : Bool) (k : List ℕ) (n : ℕ) (note : List ℕ) → IsTail (note ++ codes "\n") → key_text k ≡ k → IsScalar (integer (pos n))
+    → IsCommented started ([], k) (key_value (integer (pos n))) (noted_line k n note)
+unfolding noted_line
+noted_is_text started k n note tail bare h = (decimal n, note ++ codes "\n", rw bare refl, (refl, h), tail)
+
+-- the lines of a table whose `type` has this note beside it
+abbrev pub typed_line : List ℕ → List ℕ → Data → List ℕ
+typed_line note k (integer (pos n)) = if bytes_eq k (codes "type") then noted_line k n note else key_line k (integer (pos n))
+typed_line note k d = key_line k d
+
+abbrev pub typed_lines : List ℕ → Members → List ℕ
+typed_lines note no_members = []
+typed_lines note (member k d ms) = typed_line note k d ++ typed_lines note ms
+
+typed_is_text : (started : Bool) (note k : List ℕ) (d : Data) → IsTail (note ++ codes "\n") → key_text k ≡ k → IsScalar d
+    → IsCommented started ([], k) (key_value d) (typed_line note k d)
+typed_is_text started note k (integer (pos n)) tail bare h =
+    cond_both (bytes_eq k (codes "type")) (noted_line k n note) (key_line k (integer (pos n)))
+    (λ text. IsCommented started ([], k) (key_value (integer (pos n))) text)
+    (λ _. noted_is_text started k n note tail bare h) (λ _. line_is_text started k (integer (pos n)) bare h)
+typed_is_text started note k (integer (negsuc n)) tail bare h = line_is_text started k (integer (negsuc n)) bare h
+typed_is_text started note k (string s) tail bare h = line_is_text started k (string s) bare h
+typed_is_text started note k (boolean b) tail bare h = line_is_text started k (boolean b) bare h
+typed_is_text started note k (float x) tail bare h = absurd h
+typed_is_text started note k (datetime x) tail bare h = absurd h
+typed_is_text started note k (array x) tail bare h = line_is_text started k (array x) bare h
+typed_is_text started note k (table x) tail bare h = absurd h
+
 line_is_printed : (k : List ℕ) (d : Data) → IsScalar d → IsPrinted ([], k) (key_value d)
 line_is_printed k d h = let within = low d h in (refl, omega (arith, within), dated d h)
 
@@ -81,6 +112,13 @@ lines_are_text started no_members h = refl
 lines_are_text started (member k d ms) h =
     rw (is_no_section d h.1)
     (key_line k d, scalar_lines ms, refl, line_is_text started k d h.0 h.1, line_is_printed k d h.1, lines_are_text true ms h.2)
+
+pub typed_are_text : (started : Bool) (note : List ℕ) (ms : Members) → IsTail (note ++ codes "\n") → AreScalars ms
+    → AreCommented started (pairs ms) (typed_lines note ms)
+typed_are_text started note no_members tail h = refl
+typed_are_text started note (member k d ms) tail h =
+    rw (is_no_section d h.1)
+    (typed_line note k d, typed_lines note ms, refl, typed_is_text started note k d tail h.0 h.1, line_is_printed k d h.1, typed_are_text true note ms tail h.2)
 
 -- and it has no tables
 pub no_sections : (path : List (List ℕ)) (ms : Members) → AreScalars ms → sections path ms ≡ []

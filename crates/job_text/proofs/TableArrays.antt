@@ -5,7 +5,7 @@ use Rattle.toml_writer.specs.Text.{key_text}
 use Rattle.std.specs.Ordering.{nat_cmp, is_lt}
 use Rattle.std.specs.Cmp.Lexicographic.{slice_cmp}
 use Rattle.toml.specs.Data.{is_before, Members, items_are_sorted, members_are_sorted}
-use Rattle.toml.specs.Tables.{array_table}
+use Rattle.toml.specs.Tables.{Expression, array_table}
 use Rattle.toml.specs.Text.{pairs, sections, elements, are_tables}
 use Rattle.job_text.specs.KeyLines.{header}
 use Rattle.job_text.specs.Documents.{elements_of, with_tables}
@@ -32,6 +32,15 @@ all_sorted (t ∷ ts) h = rw h.1 (all_sorted ts h.2)
 header_is_text : (key : List ℕ) → key_text key ≡ key → IsCommented true ([], key) array_table (header key)
 unfolding header
 header_is_text key bare = rw bare refl
+
+-- an element with other lines of its keys, before other expressions
+pub element_is_text : (key : List ℕ) (t : Members) (es : List Expression) (own text : List ℕ) → key_text key ≡ key → AreScalars t
+    → AreCommented true (pairs t) own → AreCommented true es text
+    → AreCommented true ((([], key), array_table) ∷ ((pairs t ++ sections (key ∷ []) t) ++ es)) (header key ++ (own ++ text))
+element_is_text key t es own text bare h lines more =
+    let all : AreCommented true (pairs t ++ []) own = rw append-nil lines in
+    let both = commented_both true (pairs t ++ []) es own text all more in
+    rw (no_sections (key ∷ []) t h) (header key, own ++ text, refl, header_is_text key bare, omega arith, both)
 
 -- their lines are TOML's
 pub elements_are_text : (key : List ℕ) (ts : List Members) → key_text key ≡ key → AreTables ts

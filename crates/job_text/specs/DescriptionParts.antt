@@ -3,6 +3,7 @@ use Rattle.std.specs.Prelude.{ℕ, Bool, List, Option, map}
 use Rattle.unit_timing.specs.declared.allowance.Allowance.{Allowance}
 use Rattle.unit_timing.specs.declared.framing.Framing.{Framing}
 use Rattle.unit_timing.specs.declared.multiplexing_buffer.MultiplexingBuffer.{MultiplexingBuffer}
+use Rattle.stream_coding.specs.declared.profiles.ProfileLevel.{ProfileLevel}
 use Rattle.job_text.specs.declared.event_part.EventPart.{EventPart}
 use Rattle.job_text.specs.declared.heading.Heading.{Heading}
 use Rattle.job_text.specs.declared.network_part.NetworkPart.{NetworkPart}
@@ -59,6 +60,7 @@ pub record StreamPartView : Type 0 where
   pub shared_with : List ℕ
   pub multiplexing : Option MultiplexingBuffer
   pub framing : Option Framing
+  pub said : ProfileLevel
 
 pub record TablePartView : Type 0 where
   pub pid : ℕ
@@ -123,6 +125,7 @@ stream_view s = record {
   shared_with = s.shared_with.now;
   multiplexing = s.multiplexing;
   framing = s.framing;
+  said = s.said;
 }
 
 abbrev pub table_view : TablePart → TablePartView

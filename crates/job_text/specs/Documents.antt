@@ -48,7 +48,7 @@ program_table p =
 
 -- of a stream: its last keys, what stands from its PID on, after its access units, after its descriptors, and the whole
 abbrev pub stream_last : StreamPartView → Members
-stream_last s = with_numbers (last_numbers s) no_members
+stream_last s = with_numbers (last_numbers s) (member (codes "type") (integer (pos s.stream_type)) no_members)
 
 abbrev pub stream_drain : Option MultiplexingBuffer → StreamPartView → Members
 stream_drain m s =

@@ -65,9 +65,9 @@ leak_numbers (Some m) = (codes "rbx", m.rbx) ∷ []
 abbrev pub drain_numbers : StreamPartView → List (List ℕ × ℕ)
 drain_numbers s = (codes "rx", s.rx) ∷ []
 
--- and the last
+-- and the last but for its stream_type
 abbrev pub last_numbers : StreamPartView → List (List ℕ × ℕ)
-last_numbers s = (codes "size", s.size) ∷ (codes "type", s.stream_type) ∷ []
+last_numbers s = (codes "size", s.size) ∷ []
 
 -- of a table, between its descriptors and its sections
 abbrev pub table_numbers : TablePartView → List (List ℕ × ℕ)

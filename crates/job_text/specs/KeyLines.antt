@@ -26,6 +26,10 @@ abbrev mutual
 unfoldable pub key_line : List ℕ → Data → List ℕ
 key_line key value = key ++ (codes " = " ++ (value_text value ++ (note_of key value ++ codes "\n")))
 
+-- of a number, with this comment beside it
+unfoldable pub noted_line : List ℕ → ℕ → List ℕ → List ℕ
+noted_line key n note = key ++ (codes " = " ++ (decimal n ++ (note ++ codes "\n")))
+
 -- of a number
 abbrev pub number_line : List ℕ × ℕ → List ℕ
 number_line field = key_line field.0 (integer (pos field.1))

@@ -8,7 +8,8 @@ use Rattle.unit_timing.specs.declared.allowance.Allowance.TheVariants.{Groups, P
 use Rattle.unit_timing.specs.declared.framing.Framing.{Framing}
 use Rattle.unit_timing.specs.declared.multiplexing_buffer.MultiplexingBuffer.{MultiplexingBuffer}
 use Rattle.job_text.specs.DescriptionParts.{EventPartView, HeadingView, NetworkPartView, ProgramPartView, StreamPartView, TablePartView}
-use Rattle.job_text.specs.Notes.{is_shown, note_of}
+use Rattle.job_text.specs.Notes.{is_shown, note_of, type_note}
+use Rattle.stream_coding.specs.declared.profiles.ProfileLevel.{ProfileLevel}
 use Rattle.job_text.specs.Documents.{document, event_table, network_table, program_table, stream_table, table_table}
 use Rattle.job_text.specs.Texts.{event_text, heading_text, network_if_any, program_text, stream_text, table_text}
 
@@ -91,6 +92,8 @@ TextsAreRead =
     (heading_text h ++ (flat_map event_text es ++ (network_if_any n ++ (flat_map program_text ps ++ (flat_map stream_text ss ++ flat_map table_text ts)))))
     ≡ Some (document h (map event_table es) (option_map network_table n) (map program_table ps) (map stream_table ss) (map table_table ts))
 
--- what stands beside a value is printable ASCII
+-- the comments beside a value and beside a stream_type are printable ASCII
 abbrev pub NotesAreShown : Type 0
-NotesAreShown = (key : List ℕ) (value : Data) → list_all is_shown (note_of key value) ≡ true
+NotesAreShown =
+    ((key : List ℕ) (value : Data) → list_all is_shown (note_of key value) ≡ true)
+    × ((stream_type : ℕ) (said : ProfileLevel) → list_all is_shown (type_note stream_type said) ≡ true)

@@ -1,3 +1,4 @@
+pub mod ProfileWords
 pub mod Notes
 pub mod KeyLines
 pub mod DescriptionParts

@@ -3,7 +3,9 @@ use Rattle.std.specs.Prelude.{ℕ, pos, ◌*◌, ◌/◌, ◌%◌, ◌==◌, ◌
 use Rattle.std.specs.List.{list_any}
 use Rattle.toml.specs.Data.{Data, integer}
 use Rattle.job_text.specs.declared.measure.Measure.{Measure}
-use Rattle.job_text.specs.declared.measure.Measure.TheVariants.{Plain, Ticks, Clock, BitRate, Bytes, Milliseconds, Seconds, StreamType, ServiceType}
+use Rattle.job_text.specs.declared.measure.Measure.TheVariants.{Plain, Ticks, Clock, BitRate, Bytes, Milliseconds, Seconds, ServiceType}
+use Rattle.stream_coding.specs.declared.profiles.ProfileLevel.{ProfileLevel}
+use Rattle.job_text.specs.ProfileWords.{said_words}
 
 -- 1. Which keys have which measure; a key has the same one in each table
 
@@ -28,7 +30,6 @@ measure_of key =
     else if is_among bit_rate_keys key then BitRate
     else if is_among byte_keys key then Bytes
     else if is_among millisecond_keys key then Milliseconds
-    else if is_among (codes "type" ∷ []) key then StreamType
     else if is_among (codes "service_type" ∷ []) key then ServiceType
     else if is_among (codes "base0" ∷ []) key then Clock
     else if is_among (codes "duration" ∷ []) key then Seconds
@@ -103,8 +104,11 @@ number_note BitRate n = note (grouped n ++ codes " bits/s")
 number_note Bytes n = note (grouped n ++ codes " bytes")
 number_note Milliseconds n = note (codes "ms")
 number_note Seconds n = note (decimal (n / 3_600) ++ (codes ":" ++ (two_digits (n / 60 % 60) ++ (codes ":" ++ two_digits (n % 60)))))
-number_note StreamType n = note_if_any (stream_type_name n)
 number_note ServiceType n = note_if_any (service_type_name n)
+
+-- beside a stream_type that has a name: its name, and what the headers of the stream say
+unfoldable pub type_note : ℕ → ProfileLevel → List ℕ
+type_note n said = if length (stream_type_name n) == 0 then [] else note (stream_type_name n ++ said_words said)
 
 -- what is no number has none
 abbrev pub note_of : List ℕ → Data → List ℕ

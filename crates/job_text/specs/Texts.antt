@@ -3,7 +3,8 @@ use Rattle.std.specs.Prelude.{ℕ, List, [], ◌∷◌, ◌++◌, codes, Option,
 use Rattle.hex.specs.Hex.{encode_lower}
 use Rattle.toml.specs.Data.{string, boolean, array}
 use Rattle.job_text.specs.DescriptionParts.{EventPartView, HeadingView, NetworkPartView, ProgramPartView, StreamPartView, TablePartView}
-use Rattle.job_text.specs.KeyLines.{key_line, number_line, number_lines, hex_line, list_line, digits_of, table_header, header}
+use Rattle.job_text.specs.KeyLines.{key_line, noted_line, number_line, number_lines, hex_line, list_line, digits_of, table_header, header}
+use Rattle.job_text.specs.Notes.{type_note}
 use Rattle.job_text.specs.Fields.{first_numbers, program_numbers, burst_numbers, frame_numbers, group_numbers, time_numbers, size_numbers, pace_numbers}
 use Rattle.job_text.specs.Fields.{place_numbers, leak_numbers, limit_numbers, drain_numbers, last_numbers, table_numbers}
 
@@ -67,8 +68,12 @@ stream_place s =
     number_lines (place_numbers s)
     ++ (number_lines (limit_numbers s.pts_limit) ++ (number_lines (leak_numbers s.multiplexing) ++ number_lines (drain_numbers s)))
 
+-- of its stream_type, with what its headers say of it
+abbrev pub type_line : StreamPartView → List ℕ
+type_line s = noted_line (codes "type") s.stream_type (type_note s.stream_type s.said)
+
 abbrev pub stream_end : StreamPartView → List ℕ
-stream_end s = list_line (codes "shared_with") s.shared_with ++ number_lines (last_numbers s)
+stream_end s = list_line (codes "shared_with") s.shared_with ++ (number_lines (last_numbers s) ++ type_line s)
 
 -- an element of the array `stream`
 abbrev pub stream_text : StreamPartView → List ℕ

@@ -5,14 +5,16 @@ ghost use Rattle.hex.specs.Hex.{encode_lower};
 ghost use Rattle.toml_writer.specs.Text.{string_text};
 ghost use Rattle.std.specs.List.{flat_map};
 ghost use Rattle.toml.specs.Data.{string, boolean, array};
-ghost use Rattle.job_text.specs.KeyLines.{key_line, number_line, field_line, table_header, header, hex_line, list_line};
+ghost use Rattle.job_text.specs.KeyLines.{key_line, noted_line, number_line, field_line, table_header, header, hex_line, list_line};
+ghost use Rattle.job_text.specs.Notes.{type_note};
 ghost use Rattle.job_text.specs.KeyLines.{next_number, array_line, digits_of, next_digits};
 
 use crate::measure::measure_of;
-use crate::note::write_note;
+use crate::note::{write_note, write_type_note};
 use std::alloc::{AllocError, Allocator, Global};
 use std::fmt;
 use std::fmt::Write;
+use stream_coding::ProfileLevel;
 
 // A string in the first of TOML's forms that needs no escape.
 #[derive(Clone, Copy)]
@@ -43,6 +45,21 @@ pub(crate) fn write_number<A: Allocator>(
     text.push_str(" = ")?;
     write!(text, "{number}")?;
     write_note(text, measure_of(key), number)?;
+    text.push_str("\n")
+}
+
+/// Appends the line of a stream_type, with what the headers of the stream say of it.
+#[tactic(auto, unfolding(crate::specs::KeyLines::noted_line))]
+pub(crate) fn write_type<A: Allocator>(
+    text: &mut String<A>,
+    stream_type: u64,
+    said: ProfileLevel,
+) -> Result<(), AllocError>
+    ensures { OnOk result (string_bytes text.new ≡ string_bytes text.old
+        ++ noted_line (codes "type") stream_type (type_note stream_type said)) }
+{
+    write!(text, "type = {stream_type}")?;
+    write_type_note(text, stream_type, said)?;
     text.push_str("\n")
 }
 

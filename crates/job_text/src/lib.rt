@@ -3,8 +3,8 @@
 //! `Heading`, `EventPart`, `NetworkPart`, `ProgramPart`, `StreamPart` and `TablePart` are the parts of a description;
 //! each appends its lines. The heading comes first, then the events, the network if there is one, the programs, the
 //! streams and the private tables. `specs/Documents` says which keys and values a part has, `specs/Texts` how they are
-//! written, `specs/Notes` which comment is beside a number, and the law `texts_are_read` that TOML's grammar reads the
-//! whole as that document.
+//! written, `specs/Notes` and `ProfileWords` which comment is beside a number, and the law `texts_are_read` that TOML's
+//! grammar reads the whole as that document.
 #![tactic(auto)]
 
 mod event_part;
@@ -14,6 +14,7 @@ mod laws;
 mod measure;
 mod network_part;
 mod note;
+mod profile_words;
 mod program_part;
 mod stream_part;
 mod table_part;

@@ -18,8 +18,6 @@ pub(crate) enum Measure {
     Bytes,
     Milliseconds,
     Seconds,
-    /// ISO/IEC 13818-1, table 2-34.
-    StreamType,
     /// EN 300 468, table 87.
     ServiceType,
 }
@@ -49,8 +47,6 @@ pub(crate) fn measure_of(key: &str) -> Measure
         Measure::Bytes
     } else if is_among(key, &["limit", "pcr_limit"]) {
         Measure::Milliseconds
-    } else if is_among(key, &["type"]) {
-        Measure::StreamType
     } else if is_among(key, &["service_type"]) {
         Measure::ServiceType
     } else if is_among(key, &["base0"]) {

@@ -5,8 +5,10 @@ ghost use Rattle.job_text.specs.Notes as spec;
 ghost use Rattle.job_text.specs.declared.measure.Measure.TheVariants.{Seconds};
 
 use crate::measure::Measure;
+use crate::profile_words::write_said;
 use std::alloc::{AllocError, Allocator};
 use std::fmt::Write;
+use stream_coding::ProfileLevel;
 
 // The last three digits of a number after a comma.
 #[tactic(auto, unfolding(crate::specs::Notes::group))]
@@ -180,6 +182,24 @@ fn write_name<A: Allocator>(text: &mut String<A>, name: &str) -> Result<(), Allo
     text.push_str(name)
 }
 
+/// Appends the comment beside a stream_type, if it has a name: its name, and what the headers of the stream say.
+#[tactic(auto, unfolding(crate::specs::Notes::type_note))]
+pub(crate) fn write_type_note<A: Allocator>(
+    text: &mut String<A>,
+    stream_type: u64,
+    said: ProfileLevel,
+) -> Result<(), AllocError>
+    ensures { OnOk result (string_bytes text.new ≡ string_bytes text.old ++ spec.type_note stream_type said) }
+{
+    let name = stream_type_name(stream_type);
+    if name.is_empty() {
+        return Ok(());
+    }
+    text.push_str(" # ")?;
+    text.push_str(name)?;
+    write_said(text, said)
+}
+
 /// Appends the comment beside a number, if its measure has one.
 pub(crate) fn write_note<A: Allocator>(
     text: &mut String<A>,
@@ -196,7 +216,6 @@ pub(crate) fn write_note<A: Allocator>(
         Measure::Bytes => write_amount(text, number, " bytes"),
         Measure::Milliseconds => text.push_str(" # ms"),
         Measure::Seconds => write_duration(text, number),
-        Measure::StreamType => write_name(text, stream_type_name(number)),
         Measure::ServiceType => write_name(text, service_type_name(number)),
     }
 }

@@ -7,8 +7,11 @@ ghost use Rattle.job_text.specs.Fields.{size_numbers, pace_numbers, leak_numbers
 ghost use Rattle.job_text.specs.KeyLines.{hex_line, number_lines};
 ghost use Rattle.job_text.specs.Texts.{stream_text, stream_front, stream_times, stream_place, stream_end};
 
-use crate::key_line::{write_header, write_hex, write_list, write_number, write_numbers};
+use crate::key_line::{
+    write_header, write_hex, write_list, write_number, write_numbers, write_type,
+};
 use std::alloc::{AllocError, Allocator};
+use stream_coding::ProfileLevel;
 use unit_timing::allowance::Allowance;
 use unit_timing::framing::Framing;
 use unit_timing::multiplexing_buffer::MultiplexingBuffer;
@@ -46,6 +49,8 @@ pub struct StreamPart<'a> {
     pub multiplexing: Option<MultiplexingBuffer>,
     /// The access units of its units, if these are PES packets that hold several.
     pub framing: Option<Framing>,
+    /// What its headers say of its profile and level, for the comment beside its stream_type.
+    pub said: ProfileLevel,
 }
 
 impl StreamPart<'_> {
@@ -202,11 +207,9 @@ impl StreamPart<'_> {
     fn write_end<A: Allocator>(&self, text: &mut String<A>) -> Result<(), AllocError>
         ensures { OnOk result (string_bytes text.new ≡ string_bytes text.old ++ stream_end (stream_view self.now)) }
     {
-        let last = [
-            ("size", self.size as u64),
-            ("type", self.stream_type as u64),
-        ];
+        let last = [("size", self.size as u64)];
         write_list(text, "shared_with", self.shared_with)?;
-        write_numbers(text, &last)
+        write_numbers(text, &last)?;
+        write_type(text, self.stream_type as u64, self.said)
     }
 }

@@ -5,9 +5,9 @@ use Rattle.std.proofs.lemmas.List.{append_assoc, append-nil}
 use Rattle.std.proofs.lemmas.List.Elements.{All-nil, All-cons, All-append}
 use Rattle.demux.specs.Views.{FindingView}
 use Rattle.stream_programs.specs.Streams.{FoundStreamView}
-use Rattle.es_units.specs.ApartUnits.{apart_units}
-use Rattle.es_units.specs.CarriedUnits.{CarriedUnit, carried_units}
-use Rattle.es_units.specs.MadeDts.{made_units}
+use Rattle.es_moments.specs.ApartUnits.{apart_units}
+use Rattle.es_units.specs.CarriedUnits.{carried_units}
+use Rattle.es_moments.specs.MadeDts.{made_units}
 use Rattle.stream_coding.specs.Codings.{is_ac3}
 use Rattle.job_programs.specs.declared.refusal.JobRefusal.{JobRefusal}
 use Rattle.job_programs.specs.Answers.{and_then}
@@ -18,6 +18,7 @@ use Rattle.job_units.specs.WireStreams.{carried_stream, carried_streams, common_
 use Rattle.job_units.specs.WireStreams.{with_stamps, stream_of, wire_stream, with_units}
 use Rattle.job_programs.proofs.Steps.{granted, comes}
 use Rattle.job_programs.specs.JobStreams.{WireStreamView}
+use Rattle.es_moments.specs.WireUnits.{CarriedUnit}
 
 -- 1. What comes of what
 

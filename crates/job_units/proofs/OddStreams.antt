@@ -1,18 +1,18 @@
 -- Units at moments of their own.
 use Rattle.std.proofs.Common.{◌≡◌, ◌∙◌, ℕ, Option, List, [], ◌∷◌, None, map, refl, sym, ap}
 use Rattle.pes_packet.specs.AccessUnits.{AccessUnit}
-use Rattle.es_units.specs.CarriedUnits.{CarriedUnit}
-use Rattle.es_units.specs.CountedUnits.{CountedUnitsView, counted_units}
-use Rattle.es_units.specs.Stamps.{moved, unit_at}
-use Rattle.es_units.specs.UnitMoments.{moment_of, units_at}
-use Rattle.es_units.specs.declared.unit_moments.UnitMoment.{UnitMoment}
-use Rattle.es_units.proofs.UnitMoments.{at_own}
+use Rattle.es_moments.specs.CountedUnits.{CountedUnitsView, counted_units}
+use Rattle.es_moments.specs.Stamps.{moved, unit_at}
+use Rattle.es_moments.specs.UnitMoments.{moment_of, units_at}
+use Rattle.es_moments.specs.declared.unit_moments.UnitMoment.{UnitMoment}
+use Rattle.es_moments.proofs.UnitMoments.{at_own}
 use Rattle.stream_coding.specs.FrameHeaders.{frame_kind}
 use Rattle.unit_timing.specs.declared.framing.Framing.{Framing}
 use Rattle.job_units.specs.Declarations.{MeasuredView, first_bytes, framing_for, measured}
 use Rattle.job_programs.specs.JobStreams.{TimedStreamView, WireStreamView}
 use Rattle.job_units.specs.Moments.{wire_of, with_moments}
 use Rattle.job_units.specs.OddStreams.{alone, first_carried, own_base}
+use Rattle.es_moments.specs.WireUnits.{CarriedUnit}
 
 pub own_at : (base : ℕ) (us vs : List CarriedUnit) (ms : List UnitMoment) (out : List AccessUnit) → out ≡ units_at ms vs → vs ≡ us →
     ms ≡ map moment_of (moved base None (map (λ u. u.unit) us)) → out ≡ moved base None (map (λ u. u.unit) us)

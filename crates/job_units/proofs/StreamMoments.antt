@@ -2,13 +2,13 @@
 use Rattle.std.proofs.Common.{◌≡◌, ◌∙◌, ◌<◌, ◌^◌, ℕ, Bool, true, false, None, List, map, Result, Ok, sym, ap, subst}
 use Rattle.pes_packet.specs.AccessUnits.{AccessUnit}
 use Rattle.demux.specs.Views.{FindingView}
-use Rattle.es_units.specs.CarriedUnits.{CarriedUnit, carried_units}
-use Rattle.es_units.specs.Stamps.{first_fault, moved}
-use Rattle.es_units.specs.UnitMoments.{moment_of, units_at}
-use Rattle.es_units.specs.declared.unit_moments.UnitMoment.{UnitMoment}
-use Rattle.es_units.proofs.ApartUnits.{apart_contents}
-use Rattle.es_units.proofs.MadeDts.{made_contents}
-use Rattle.es_units.proofs.UnitMoments.{at_own, contents}
+use Rattle.es_units.specs.CarriedUnits.{carried_units}
+use Rattle.es_moments.specs.Stamps.{first_fault, moved}
+use Rattle.es_moments.specs.UnitMoments.{moment_of, units_at}
+use Rattle.es_moments.specs.declared.unit_moments.UnitMoment.{UnitMoment}
+use Rattle.es_moments.proofs.ApartUnits.{apart_contents}
+use Rattle.es_moments.proofs.MadeDts.{made_contents}
+use Rattle.es_moments.proofs.UnitMoments.{at_own, contents}
 use Rattle.job_units.specs.declared.moved_streams.FirstDts.{FirstDts}
 use Rattle.job_programs.specs.declared.refusal.JobRefusal.{JobRefusal}
 use Rattle.job_programs.specs.Answers.{unless}
@@ -16,6 +16,7 @@ use Rattle.job_programs.specs.FoundUnits.{AreFound, source_of, IsCarried, IsMove
 use Rattle.job_programs.specs.JobPrograms.{JobProgramView, clock_in}
 use Rattle.job_programs.specs.JobStreams.{TimedStreamView, WireStreamView}
 use Rattle.job_units.specs.Moments.{base_of, moved_by, moved_stream, pts_limit_of, wire_of, with_moments, StreamMomentsView, with_units, timed_stream}
+use Rattle.es_moments.specs.WireUnits.{CarriedUnit}
 
 source_contents : (made : Bool) (pid : ℕ) (findings : List FindingView) → contents (source_of made pid findings) ≡ contents (carried_units pid findings)
 unfolding source_of

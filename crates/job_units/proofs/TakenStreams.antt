@@ -4,13 +4,14 @@ use Rattle.std.proofs.lemmas.Bool.{eqb-true}
 use Rattle.std.proofs.lemmas.Bool.Decides.{nat_tests}
 use Rattle.std.proofs.lemmas.List.{append_assoc, append-nil}
 use Rattle.demux.specs.Views.{FindingView}
-use Rattle.es_units.specs.CarriedUnits.{CarriedUnit, carried_units}
+use Rattle.es_units.specs.CarriedUnits.{carried_units}
 use Rattle.es_units.specs.TakenUnits.{OthersStay}
 use Rattle.es_units.proofs.TakenUnits.{others_carried}
 use Rattle.job_programs.specs.JobOptions.{is_among}
 use Rattle.job_programs.specs.JobStreams.{TimedStreamView}
 use Rattle.job_units.specs.TakenStreams.{StayCarried}
 use Rattle.job_units.specs.Moments.{StreamMomentsView, with_units, timed_stream}
+use Rattle.es_moments.specs.WireUnits.{CarriedUnit}
 
 pub stay_same : (pids : List ℕ) (old : List FindingView) → StayCarried pids old old
 stay_same pids old pid among = refl

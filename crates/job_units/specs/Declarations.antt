@@ -20,13 +20,15 @@ use Rattle.stream_coding.specs.Buffers.{buffers_of, coding_holding, given_buffer
 use Rattle.stream_coding.specs.Codings.{coding_of}
 use Rattle.stream_coding.specs.FrameHeaders.{frame_kind}
 use Rattle.stream_coding.specs.Frames.{no_frames, all_frames}
+use Rattle.stream_coding.specs.Profiles.{profile_level}
+use Rattle.stream_coding.specs.declared.profiles.ProfileLevel.{ProfileLevel}
 use Rattle.stream_coding.specs.declared.frames.UnitFrames.{UnitFrames}
 use Rattle.stream_coding.specs.declared.coding.Coding.{Coding}
 use Rattle.stream_coding.specs.declared.buffers.Buffers.{Buffers}
 use Rattle.stream_coding.specs.declared.buffers.PidBuffers.{PidBuffers}
-use Rattle.es_units.specs.UnitRuns.{UnitRunsView, runs_burst}
-use Rattle.es_units.specs.CountedUnits.{CountedUnitsView, counted_units, row_packets}
-use Rattle.es_units.specs.Declaration.{CountedPacketsView}
+use Rattle.es_moments.specs.UnitRuns.{UnitRunsView, runs_burst}
+use Rattle.es_moments.specs.CountedUnits.{CountedUnitsView, counted_units, row_packets}
+use Rattle.es_moments.specs.Declaration.{CountedPacketsView}
 use Rattle.job_units.specs.declared.declarations.StreamChoice.{StreamChoice}
 use Rattle.job_programs.specs.declared.refusal.GreaterBuffers.{GreaterBuffers}
 use Rattle.job_programs.specs.declared.refusal.JobRefusal.{JobRefusal}
@@ -69,6 +71,10 @@ pub record MeasuredView : Type 0 where
 unfoldable pub first_bytes : List AccessUnit → List ℕ
 first_bytes [] = []
 first_bytes (u ∷ us) = u.bytes
+
+-- what the first unit says of the profile and level of a stream
+unfoldable pub said_profile : TimedStreamView → ProfileLevel
+said_profile s = profile_level s.stream_type (first_bytes s.units)
 
 -- the access units of a stream's units, if it is sound whose units are whole frames
 unfoldable pub framing_of : UnitFrames → Option Framing

@@ -4,10 +4,10 @@ use Rattle.std.specs.Prelude.{unwrap_or, None, option_map, Result, Ok, Option, S
 use Rattle.std.specs.List.{list_any}
 use Rattle.pes_packet.specs.AccessUnits.{AccessUnit}
 use Rattle.demux.specs.Views.{FindingView}
-use Rattle.es_units.specs.CarriedUnits.{CarriedUnit, carried_units}
-use Rattle.es_units.specs.MadeDts.{dts_fault, pts_of}
-use Rattle.es_units.specs.Stamps.{constant_of, first_fault, moved}
-use Rattle.es_units.specs.declared.stamps.StampFault.{StampFault}
+use Rattle.es_units.specs.CarriedUnits.{carried_units}
+use Rattle.es_moments.specs.MadeDts.{dts_fault, pts_of}
+use Rattle.es_moments.specs.Stamps.{constant_of, first_fault, moved}
+use Rattle.es_moments.specs.declared.stamps.StampFault.{StampFault}
 use Rattle.job_units.specs.declared.moved_streams.FirstDts.{FirstDts}
 use Rattle.job_programs.specs.declared.program_clock.ProgramClock.{ProgramClock}
 use Rattle.job_programs.specs.declared.refusal.JobRefusal.{JobRefusal}
@@ -18,9 +18,10 @@ use Rattle.job_programs.specs.JobPrograms.{JobProgramView, clock_in}
 use Rattle.job_programs.specs.JobTables.{JobTableView}
 use Rattle.job_programs.specs.JobStreams.{TimedStreamView, WireStreamView, is_stream_of, JobStreamView}
 use Rattle.job_programs.specs.ProgramClocks.{is_same_clock}
-use Rattle.es_units.specs.UnitMoments.{units_at}
-use Rattle.es_units.specs.declared.unit_moments.UnitMoment.{UnitMoment}
-use Rattle.es_units.specs.Declaration.{max_pts_after}
+use Rattle.es_moments.specs.UnitMoments.{units_at}
+use Rattle.es_moments.specs.declared.unit_moments.UnitMoment.{UnitMoment}
+use Rattle.es_moments.specs.Declaration.{max_pts_after}
+use Rattle.es_moments.specs.WireUnits.{CarriedUnit}
 
 -- 1. When the first unit of a clock is due
 

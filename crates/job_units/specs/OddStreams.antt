@@ -2,8 +2,7 @@
 use Rattle.std.specs.Prelude.{◌≡◌, ⊤, ℕ, ◌-◌, ◌%◌, ◌^◌, if◌then◌else◌, List, [], ◌∷◌, None, Some, Option, option_map, Result, Ok, Err}
 use Rattle.demux.specs.Views.{FindingView}
 use Rattle.given_values.specs.declared.declare_by.DeclareBy.{DeclareBy}
-use Rattle.es_units.specs.CarriedUnits.{CarriedUnit}
-use Rattle.es_units.specs.Stamps.{first_fault}
+use Rattle.es_moments.specs.Stamps.{first_fault}
 use Rattle.job_programs.specs.declared.refusal.JobError.{JobError}
 use Rattle.job_programs.specs.declared.refusal.JobError.TheVariants.{Memory, Refused}
 use Rattle.job_programs.specs.declared.refusal.JobRefusal.{JobRefusal}
@@ -11,6 +10,7 @@ use Rattle.job_units.specs.Declarations.{MeasuredView, UnitCountsView, buffers_r
 use Rattle.job_programs.specs.JobOptions.{JobOptionsView}
 use Rattle.job_programs.specs.JobStreams.{TimedStreamView, WireStreamView}
 use Rattle.job_units.specs.Moments.{first_dts, pts_limit_of, stamps_refusal, wire_of, with_moments}
+use Rattle.es_moments.specs.WireUnits.{CarriedUnit}
 
 -- 1. Stamps that are no moments, whatever the clock shows as the run begins
 

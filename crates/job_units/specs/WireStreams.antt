@@ -5,10 +5,10 @@ use Rattle.std.specs.List.{list_any}
 use Rattle.demux.specs.Views.{FindingView}
 use Rattle.stream_coding.specs.Codings.{is_ac3}
 use Rattle.stream_programs.specs.Streams.{FoundStreamView}
-use Rattle.es_units.specs.ApartUnits.{apart_units}
-use Rattle.es_units.specs.CarriedUnits.{CarriedUnit, carried_units}
-use Rattle.es_units.specs.MadeDts.{dts_fault, made_units, pts_of}
-use Rattle.es_units.specs.StreamIds.{first_other_at, written_id}
+use Rattle.es_moments.specs.ApartUnits.{apart_units}
+use Rattle.es_units.specs.CarriedUnits.{carried_units}
+use Rattle.es_moments.specs.MadeDts.{dts_fault, made_units, pts_of}
+use Rattle.es_moments.specs.StreamIds.{first_other_at, written_id}
 use Rattle.es_units.specs.UnitWarnings.{unit_warnings}
 use Rattle.es_units.specs.declared.unit_warning.UnitWarning.{UnitWarning}
 use Rattle.es_units.specs.declared.unit_warning.UnitWarningCause.{UnitWarningCause}
@@ -22,6 +22,7 @@ use Rattle.job_units.specs.OddStreams.{odd_stream}
 use Rattle.job_programs.specs.Warnings.{pid_warnings}
 use Rattle.job_programs.specs.JobOptions.{JobOptionsView, is_selected_stream}
 use Rattle.job_programs.specs.JobStreams.{WireStreamView}
+use Rattle.es_moments.specs.WireUnits.{CarriedUnit}
 
 -- 1. The stream_id: that of the first unit, if all have it
 

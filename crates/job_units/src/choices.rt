@@ -10,7 +10,7 @@ use crate::declarations::{StreamChoice, UnitCounts};
 use crate::greater_buffers::buffers_refusal;
 use crate::stream_measures::StreamMeasures;
 use clock27::{LEAST_RATE, SLOT_UNITS_AT_1BPS};
-use es_units::UnitRuns;
+use es_moments::UnitRuns;
 use given_values::DeclareBy;
 use job_programs::JobError;
 use std::alloc::Global;

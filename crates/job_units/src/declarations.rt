@@ -6,7 +6,7 @@ ghost use Rattle.job_units.specs.Declarations as spec;
 ghost use Rattle.job_programs.specs.FoundUnits.{FitsQueue};
 
 use crate::stream_measures::StreamMeasures;
-use es_units::CountedPackets;
+use es_moments::CountedPackets;
 use job_programs::{JobError, JobRefusal, TimedStream};
 use pes_packet::greatest_size;
 use std::alloc::{AllocError, Global};

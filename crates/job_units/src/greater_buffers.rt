@@ -7,7 +7,7 @@ ghost use Rattle.job_units.specs.OddStreams as odd;
 use crate::choices::{groups_of, pace_of};
 use crate::declarations::UnitCounts;
 use crate::stream_measures::StreamMeasures;
-use es_units::UnitRuns;
+use es_moments::UnitRuns;
 use given_values::DeclareBy;
 use job_programs::{GreaterBuffers, JobRefusal};
 use std::alloc::{AllocError, Global};

@@ -10,9 +10,8 @@ ghost use Rattle.job_units.specs.Moments.{timed_stream};
 use crate::pts_limit::stream_limit;
 use clock27::STAMP_MODULUS;
 use demux::Finding;
-use es_units::{
-    DtsError, StampError, StampFault, constant, found_moments, found_units, units_with_made_dts,
-};
+use es_moments::{DtsError, StampError, StampFault, constant, found_moments, units_with_made_dts};
+use es_units::found_units;
 use job_programs::job_programs::clock_in;
 use job_programs::program_clock::is_same_clock;
 use job_programs::{JobError, JobProgram, JobRefusal, ProgramClock, StreamMoments, WireStream};

@@ -2,8 +2,8 @@
 
 ghost use Rattle.std.specs.Prelude.{◌≡◌, ◌<◌, ◌^◌, IfOk, IfErr, OnOk, None, map};
 ghost use Rattle.demux.specs.Shown.{finding_view};
-ghost use Rattle.es_units.specs.Stamps.{moved};
-ghost use Rattle.es_units.specs.UnitMoments.{moment_of};
+ghost use Rattle.es_moments.specs.Stamps.{moved};
+ghost use Rattle.es_moments.specs.UnitMoments.{moment_of};
 ghost use Rattle.job_units.specs.Declarations.{measured};
 ghost use Rattle.job_units.specs.Moments.{wire_of};
 ghost use Rattle.job_units.specs.OddStreams as spec;
@@ -15,7 +15,7 @@ use crate::pts_limit::stream_limit;
 use crate::stream_measures::{StreamMeasures, found_measured, measured};
 use clock27::STAMP_MODULUS;
 use demux::Finding;
-use es_units::{FoundUnit, StampError, UnitMoment, WireUnit, found_moments, units_at};
+use es_moments::{FoundUnit, StampError, UnitMoment, WireUnit, found_moments, units_at};
 use job_programs::{JobError, JobOptions, JobRefusal, TimedStream, WireStream};
 use pes_packet::Unit;
 use std::alloc::{AllocError, Global};

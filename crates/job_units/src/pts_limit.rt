@@ -3,7 +3,7 @@
 ghost use Rattle.std.specs.Prelude.{◌≡◌};
 ghost use Rattle.job_units.specs.Moments as spec;
 
-use es_units::max_pts_after;
+use es_moments::max_pts_after;
 use job_programs::{TimedStream, WireStream};
 use stream_coding::longest_stay;
 

@@ -1,20 +1,20 @@
 //! The measures of streams: what is said and counted of them, without the bytes of their units.
 
 ghost use Rattle.std.specs.Prelude.{◌≡◌, map, IfOk, None};
-ghost use Rattle.es_units.specs.Stamps.{moved};
-ghost use Rattle.es_units.specs.UnitMoments.{moment_of};
+ghost use Rattle.es_moments.specs.Stamps.{moved};
+ghost use Rattle.es_moments.specs.UnitMoments.{moment_of};
 ghost use Rattle.stream_coding.specs.Frames.{no_frames, all_frames};
 ghost use Rattle.stream_coding.specs.FrameHeaders.{frame_kind};
 ghost use Rattle.job_units.specs.Declarations as spec;
 ghost use Rattle.job_units.specs.Moments.{wire_of};
 ghost use Rattle.job_units.specs.OddStreams.{alone, first_carried, own_base};
 
-use es_units::{CountedUnits, UnitMoment};
+use es_moments::{CountedUnits, UnitMoment};
 use job_programs::{TimedStream, WireStream};
 use pes_packet::Unit;
 use std::alloc::{AllocError, Global};
 use std::marker::Model;
-use stream_coding::{FrameKind, UnitFrames, frame_kind, unit_frames};
+use stream_coding::{FrameKind, ProfileLevel, UnitFrames, frame_kind, profile_level, unit_frames};
 use unit_timing::framing::Framing;
 
 /// The measures of a stream: what its entry in the program map says, the bytes of its first unit, the access units of a
@@ -95,6 +95,14 @@ fn first_bytes(stream: &TimedStream) -> &[u8]
         Some(unit) => unit.bytes.as_slice(),
         None => &[],
     }
+}
+
+/// Returns what the first unit of a stream says of its profile and level.
+#[tactic(auto, unfolding(crate::specs::Declarations::said_profile))]
+pub fn said_profile(stream: &TimedStream) -> ProfileLevel
+    ensures { result ≡ spec.said_profile stream.now }
+{
+    profile_level(stream.stream_type, first_bytes(stream))
 }
 
 /// Returns the measures of a stream.

@@ -7,7 +7,8 @@ ghost use Rattle.job_units.specs.TakenStreams.{StayCarried};
 ghost use Rattle.es_units.specs.CarriedUnits.{carried_units};
 
 use demux::Finding;
-use es_units::{WireUnit, carried_units, taken_units, units_at};
+use es_moments::{WireUnit, units_at};
+use es_units::{carried_units, taken_units};
 use job_programs::job_options::is_among;
 use job_programs::{StreamMoments, TimedStream};
 use std::alloc::{AllocError, Global};

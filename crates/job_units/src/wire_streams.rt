@@ -12,10 +12,8 @@ ghost use Rattle.job_programs.specs.FoundUnits.{IsCarried};
 
 use crate::odd_streams::odd_stream;
 use demux::Finding;
-use es_units::{
-    DtsError, FoundUnit, UnitWarning, UnitWarningCause, apart_units, first_other, found_units,
-    unit_warnings, units_with_made_dts, written_id,
-};
+use es_moments::{DtsError, FoundUnit, apart_units, first_other, units_with_made_dts, written_id};
+use es_units::{UnitWarning, UnitWarningCause, found_units, unit_warnings};
 use job_programs::job_options::is_among;
 use job_programs::warnings::push_pid_warnings;
 use job_programs::{JobError, JobOptions, JobRefusal, Warning, WireStream};

@@ -180,9 +180,9 @@ begins_there q o first here line l w c is then_line =
       | inr within ↦ elim origin [
         | inl far ↦ absurd (let no : ⊥ = omega (arith, far, within) in no)
         | inr from ↦
-            let last : IfSome (Some from.before) (MeetsLast first q.clock.moment (Some line)) =
-            subst (λ (x : Option TimedSample). IfSome x (MeetsLast first q.clock.moment (Some line))) from.is
-            (subst (λ (x : Option Line). IfSome q.clock.clock.last (MeetsLast first q.clock.moment x)) known w.clock.meets) in
+            let last : IfSome (Some from.before) (MeetsLast 10 first q.clock.moment (Some line)) =
+            subst (λ (x : Option TimedSample). IfSome x (MeetsLast 10 first q.clock.moment (Some line))) from.is
+            (subst (λ (x : Option Line). IfSome q.clock.clock.last (MeetsLast 10 first q.clock.moment x)) known w.clock.meets) in
             inr (omega (arith, from.byte, last.0))
       ]
     ]
@@ -233,10 +233,10 @@ first_on (bytes ∷ packets) q first here line w is some =
 
 -- ---- all of it
 
-ref_at : (q : QueueState) (bytes : List ℕ) (r : ℕ × PcrSample) (first here : ℕ) → Waits q first here → reference_in q bytes ≡ Some r → IsAt here r.1
+ref_at : (q : QueueState) (bytes : List ℕ) (r : ℕ × PcrSample) (first here : ℕ) → Waits q first here → reference_in q bytes ≡ Some r → IsAt 10 here r.1
 ref_at q bytes r first here w is =
     let at = at_here q (reference_in q bytes) first here w (reference_at q.pid q.packets (packet_at bytes)) in
-    subst (λ (o : Option (ℕ × PcrSample)). IfSome o (λ r. IsAt here r.1)) is at
+    subst (λ (o : Option (ℕ × PcrSample)). IfSome o (λ r. IsAt 10 here r.1)) is at
 
 gone : (q : QueueState) (o : Option (ℕ × PcrSample)) (r : ℕ × PcrSample) (line : Line) → o ≡ Some r → line_to q.clock r.1 ≡ Some line → still_wait q o ≡ false
 unfolding line_by
@@ -312,9 +312,9 @@ between_law pid before a between b later r r' k i ra quiet few rb goes low high 
     let m : ℕ = n + 1 + length between in
     let wa = waits_all (no_packet pid) before 0 0 (waits_first pid) in
     let w1 = waits_one q a wa.first n wa.waits (still_wait q (reference_in q a)) refl in
-    let at_r : IsAt n r.1 = ref_at q a r wa.first n wa.waits ra in
+    let at_r : IsAt 10 n r.1 = ref_at q a r wa.first n wa.waits ra in
     let quieted = quiet_on between (b ∷ later) q1 w1.first (n + 1) w1.waits quiet few in
-    let at_r' : IsAt m r'.1 = ref_at q2 b r' w1.first m quieted.waits rb in
+    let at_r' : IsAt 10 m r'.1 = ref_at q2 b r' w1.first m quieted.waits rb in
     let clock2 : q2.clock ≡ clocks.after q.clock r.1 = quieted.clock ∙ one_clock q a r ra in
     let line : Line = line_through q1.clock.moment r.1 r'.1 in
     let there : line_to q2.clock r'.1 ≡ Some line =

@@ -122,3 +122,52 @@ packet_rest bytes packet whole e some = by (slice_index bytes 0 == 0x47) e
         let size = length-drop 4 bytes in
         omega (arith, size, whole, body_rest (header_of bytes) (slice_index bytes 3 / 16 % 4) (drop 4 bytes) packet e some (omega (arith, size, whole)))
     by false e = absurd (let no : ⊥ = cc in no)
+
+-- of any packet of 188 bytes the payload has 184 bytes at most
+field_left : (most : ℕ) (bytes : List ℕ) (field : AdaptationView × List ℕ) → field_at most bytes ≡ Ok field → length field.1 ≤ length bytes
+unfolding field_at
+field_left most [] field e = absurd (let no : ⊥ = cc in no)
+field_left most (n ∷ bytes) field e =
+    let within = guard_ok (nat_lt most n) FieldTooLong _ field e in
+    let read = bind_ok (adaptation_at (take n bytes)) _ field within.1 in
+    let same : (read.0, drop n bytes) ≡ field = let e1 = read.2 in cc in
+    let rest : drop n bytes ≡ field.1 = ap (λ (f : AdaptationView × List ℕ). f.1) same in
+    omega (arith, length-drop n bytes, ap (λ (l : List ℕ). length l) rest)
+
+body_left : (header : Header) (control : ℕ) (bytes : List ℕ) (packet : PacketView) → body_at header control bytes ≡ Ok packet →
+    length (unwrap_or packet.payload []) ≤ length bytes
+unfolding body_at
+body_left header control bytes packet e =
+    let zero = guard_ok (control == 0) ReservedControl _ packet e in
+    by (control == 1) (control == 2) zero.1
+  where
+    by : (a b : Bool) → (if a then Ok (record { header = header; adaptation = None; payload = Some bytes })
+        else (if b then (field_at 183 bytes >>= (λ field. Ok (record { header = header; adaptation = Some field.0; payload = None })))
+        else (field_at 182 bytes >>= (λ field. Ok (record { header = header; adaptation = Some field.0; payload = Some field.1 }))))) ≡ Ok packet →
+        length (unwrap_or packet.payload []) ≤ length bytes
+    by true b e =
+        let same : record { header = header; adaptation = None; payload = Some bytes } ≡ packet = cc in
+        let size : length bytes ≡ length (unwrap_or packet.payload []) = ap (λ (p : PacketView). length (unwrap_or p.payload [])) same in
+        omega (arith, size)
+    by false true e =
+        let read = bind_ok (field_at 183 bytes) _ packet e in
+        let e1 = read.2 in
+        let same : record { header = header; adaptation = Some read.0.0; payload = None } ≡ packet = cc in
+        let size : 0 ≡ length (unwrap_or packet.payload []) = ap (λ (p : PacketView). length (unwrap_or p.payload [])) same in
+        omega (arith, size)
+    by false false e =
+        let read = bind_ok (field_at 182 bytes) _ packet e in
+        let e1 = read.2 in
+        let same : record { header = header; adaptation = Some read.0.0; payload = Some read.0.1 } ≡ packet = cc in
+        let size : length read.0.1 ≡ length (unwrap_or packet.payload []) = ap (λ (p : PacketView). length (unwrap_or p.payload [])) same in
+        omega (arith, size, field_left 182 bytes read.0 read.1)
+
+pub packet_left : (bytes : List ℕ) (packet : PacketView) → length bytes ≡ 188 → packet_at bytes ≡ Ok packet →
+    length (unwrap_or packet.payload []) ≤ 184
+unfolding packet_at
+packet_left bytes packet whole e = by (slice_index bytes 0 == 0x47) e
+  where
+    by : (b : Bool) → (if b then body_at (header_of bytes) (slice_index bytes 3 / 16 % 4) (drop 4 bytes) else Err Sync) ≡ Ok packet →
+        length (unwrap_or packet.payload []) ≤ 184
+    by true e = omega (arith, length-drop 4 bytes, whole, body_left (header_of bytes) (slice_index bytes 3 / 16 % 4) (drop 4 bytes) packet e)
+    by false e = absurd (let no : ⊥ = cc in no)

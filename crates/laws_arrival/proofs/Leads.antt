@@ -70,10 +70,10 @@ reference_small q bytes whole = read_small q.pid q.packets (packet_at bytes) (λ
 
 -- ---- packets in which a byte stands: their payload comes after it
 
-abbrev HeadAt : ℕ → ℕ → List ℕ → Type 0
+abbrev pub HeadAt : ℕ → ℕ → List ℕ → Type 0
 HeadAt byte index bytes = 188 * index ≤ byte → byte < 188 * index + 188 → (byte + 1 - 188 * index) + payload_size bytes ≤ 188
 
-unfoldable AllHead : ℕ → ℕ → List (List ℕ) → Type 0
+unfoldable pub AllHead : ℕ → ℕ → List (List ℕ) → Type 0
 AllHead byte index [] = Unit {0}
 AllHead byte index (bytes ∷ packets) = HeadAt byte index bytes × AllHead byte (index + 1) packets
 
@@ -83,7 +83,7 @@ head_after byte index [] before = tt
 head_after byte index (bytes ∷ packets) before =
     (λ begun ends. absurd (let no : ⊥ = omega (arith, begun, before) in no), head_after byte (index + 1) packets (omega (arith, before)))
 
-head_one : (byte index : ℕ) (packets : List (List ℕ)) (bytes : List ℕ) → AllHead byte index packets → HeadAt byte (index + length packets) bytes →
+pub head_one : (byte index : ℕ) (packets : List (List ℕ)) (bytes : List ℕ) → AllHead byte index packets → HeadAt byte (index + length packets) bytes →
     AllHead byte index (packets ++ bytes ∷ [])
 unfolding AllHead
 head_one byte index [] bytes all one = let e : index + 0 ≡ index = omega arith in (rw e at one, tt)
@@ -91,7 +91,7 @@ head_one byte index (p ∷ packets) bytes all one =
     let e : index + length (p ∷ packets) ≡ index + 1 + length packets = omega arith in
     (all.0, head_one byte (index + 1) packets bytes all.1 (rw e at one))
 
-head_before : (byte index : ℕ) (packets : List (List ℕ)) → 188 * (index + length packets) ≤ byte → AllHead byte index packets
+pub head_before : (byte index : ℕ) (packets : List (List ℕ)) → 188 * (index + length packets) ≤ byte → AllHead byte index packets
 unfolding AllHead
 head_before byte index [] after = tt
 head_before byte index (p ∷ packets) after = (
@@ -128,7 +128,7 @@ unfolding AllLead lead_of
 unknown_leads index [] = tt
 unknown_leads index (bytes ∷ packets) = (λ some. absurd (let no : ⊥ = omega (arith, some) in no), unknown_leads (index + 1) packets)
 
-those_lead : (before line : Option Line) (index : ℕ) (packets : List (List ℕ)) → IfSome line (λ l. AllHead l.byte index packets) →
+pub those_lead : (before line : Option Line) (index : ℕ) (packets : List (List ℕ)) → IfSome line (λ l. AllHead l.byte index packets) →
     AllLead index (arriving_so (arrival_by before line) packets)
 unfolding arrival_by
 those_lead before None index packets all = unknown_leads index packets
@@ -144,10 +144,10 @@ lead_append index (p ∷ ps) qs all more =
 
 -- ---- what is so before each packet
 
-abbrev Heads : QueueState → ℕ → Type 0
+abbrev pub Heads : QueueState → ℕ → Type 0
 Heads q first = IfSome q.clock.clock.last (λ l. AllHead l.sample.byte first q.held)
 
-line_heads : (last : Option TimedSample) (line : Option Line) (first : ℕ) (held : List (List ℕ)) → IfSome last (λ l. AllHead l.sample.byte first held) →
+pub line_heads : (last : Option TimedSample) (line : Option Line) (first : ℕ) (held : List (List ℕ)) → IfSome last (λ l. AllHead l.sample.byte first held) →
     Origin last first line → IfSome line (λ l. AllHead l.byte first held)
 line_heads last None first held heads origin = tt
 line_heads last (Some line) first held heads (inl far) = head_after line.byte first held (omega (arith, far))
@@ -155,7 +155,7 @@ line_heads last (Some line) first held heads (inr from) = rw from.byte (rw from.
 
 -- the packet that comes, where those before wait still, and where it waits alone
 still_head : (q : QueueState) (o : Option (ℕ × PcrSample)) (bytes : List ℕ) (first here : ℕ) → Waits q first here → Heads q first →
-    IfSome o (λ r. IsAt here r.1) →
+    IfSome o (λ r. IsAt 10 here r.1) →
     IfSome o (λ r. payload_size bytes ≤ 176) → IfSome (clock_by q o).clock.last (λ l. AllHead l.sample.byte first (q.held ++ bytes ∷ []))
 unfolding clock_by
 still_head q None bytes first here w heads at small = kept q.clock.clock.last w.clock.placed heads
@@ -169,24 +169,24 @@ still_head q (Some r) bytes first here w heads at small =
     head_one r.1.byte first q.held bytes (head_before r.1.byte first q.held (omega (arith, at.byte, w.held)))
     (reference_head (first + length q.held) r.1 bytes (omega (arith, at.byte, w.held)) small)
 
-alone_head : (q : QueueState) (o : Option (ℕ × PcrSample)) (bytes : List ℕ) (here : ℕ) → IfSome o (λ r. IsAt here r.1) →
+alone_head : (q : QueueState) (o : Option (ℕ × PcrSample)) (bytes : List ℕ) (here : ℕ) → IfSome o (λ r. IsAt 10 here r.1) →
     IfSome o (λ r. payload_size bytes ≤ 176) →
     IfSome (begun_by (clock_by q o) o).clock.last (λ l. AllHead l.sample.byte here (bytes ∷ []))
 unfolding clock_by begun_by AllHead
 alone_head q None bytes here at small = tt
 alone_head q (Some r) bytes here at small = (reference_head here r.1 bytes at.byte small, tt)
 
-pub at_here : (q : QueueState) (o : Option (ℕ × PcrSample)) (first here : ℕ) → Waits q first here → IfSome o (λ r. IsAt q.packets r.1) →
-    IfSome o (λ r. IsAt here r.1)
+pub at_here : (q : QueueState) (o : Option (ℕ × PcrSample)) (first here : ℕ) → Waits q first here → IfSome o (λ r. IsAt 10 q.packets r.1) →
+    IfSome o (λ r. IsAt 10 here r.1)
 at_here q None first here w at = tt
-at_here q (Some r) first here w at = exact q.packets here r.1 w.count at
+at_here q (Some r) first here w at = exact 10 q.packets here r.1 w.count at
 
 -- ---- all of them
 
 abbrev LaterLead : QueueState → List (List ℕ) → Type 0
 LaterLead q packets = (first here : ℕ) → Waits q first here → Heads q first → AllLead first (timed_from q packets)
 
-those_first : (index here : ℕ) (a : Arrival) (held : List (List ℕ)) (o : Option Arrival) (rest : List Timed) → o ≡ Some a → index + length held ≡ here →
+pub those_first : (index here : ℕ) (a : Arrival) (held : List (List ℕ)) (o : Option Arrival) (rest : List Timed) → o ≡ Some a → index + length held ≡ here →
     AllLead index (arriving_so a held) → AllLead here rest → AllLead index (arrived o held ++ rest)
 unfolding arrived
 those_first index here a held o rest is place all after =

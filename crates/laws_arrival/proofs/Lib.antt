@@ -6,3 +6,5 @@ pub mod Waits
 pub mod TimedPackets
 pub mod Leads
 pub mod Between
+pub mod StampedPackets
+pub mod StampedLeads

@@ -14,9 +14,10 @@ use Rattle.arrival.proofs.Lines.{begins, ends}
 use Rattle.arrival.specs.ArrivalClocks.{ArrivalClockState, after, line_from, line_to, moment_anew, moment_by, tick_after}
 use Rattle.laws_arrival.proofs.Lines.{by_tick, tick_soon}
 
--- a reference of the packet at an index, in the first 2^40 bytes
-pub record IsAt (index : ℕ) (sample : PcrSample) : Type 0 where
-  pub byte : sample.byte ≡ 188 * index + 10
+-- a reference of the packet at an index, at byte d of it, in the first 2^40 bytes: a clock reference is at byte 10, a stamp at byte 0
+pub record IsAt (d index : ℕ) (sample : PcrSample) : Type 0 where
+  pub byte : sample.byte ≡ 188 * index + d
+  pub small : d ≤ 10
   pub near : sample.byte ≤ 2 ^ 40
 
 -- a line gives a byte no later time than this moment
@@ -24,15 +25,15 @@ abbrev pub Reaches : Line → ℕ → ℕ → Type 0
 Reaches line byte moment = (scale : ℕ) → arrival_at scale line byte ≤ scale * moment
 
 -- the last reference is that of the packet at index `first`, and the line before gives it no later time than its moment
-abbrev pub MeetsLast : ℕ → ℕ → Option Line → TimedSample → Type 0
-MeetsLast first moment line last = IfSome line (λ l. (last.sample.byte ≡ 188 * first + 10) × Reaches l last.sample.byte moment)
+abbrev pub MeetsLast : ℕ → ℕ → ℕ → Option Line → TimedSample → Type 0
+MeetsLast d first moment line last = IfSome line (λ l. (last.sample.byte ≡ 188 * first + d) × Reaches l last.sample.byte moment)
 
 -- a clock with that last reference, its moment, and that line, before the packet at index `here`, where the packets from `first` on wait: its
 -- line begins before these
-pub record Stands (last : Option TimedSample) (moment : ℕ) (line : Option Line) (first here : ℕ) : Type 0 where
+pub record Stands (d : ℕ) (last : Option TimedSample) (moment : ℕ) (line : Option Line) (first here : ℕ) : Type 0 where
   pub placed : IfSome last (λ l. IsMoment l.sample.byte moment × (l.sample.byte + 178 ≤ 188 * here))
   pub begun : IfSome line (λ l. IsClockLine l × (l.byte + 178 ≤ 188 * first))
-  pub meets : IfSome last (MeetsLast first moment line)
+  pub meets : IfSome last (MeetsLast d first moment line)
 
 -- where packets from `first` on arrive on one line and then on the next: both give these bytes times in order
 pub record MeetAt (before line : Line) (first : ℕ) : Type 0 where
@@ -98,16 +99,17 @@ reaches_anew line byte is le scale =
     let soon : tick_after line byte ≤ moment_anew (Some line) byte = omega (arith, tick_soon line byte is le) in
     omega (arith, by_tick scale line byte some, mul-le-mul_left scale soon)
 
-pub anew : (last : TimedSample) (sample : PcrSample) (line : Option Line) (first here k : ℕ) → last.sample ≡ sample → first ≤ here → IsAt here sample →
+pub anew : (d : ℕ) (last : TimedSample) (sample : PcrSample) (line : Option Line) (first here k : ℕ) → last.sample ≡ sample → first ≤ here →
+    IsAt d here sample →
     IfSome line (λ l. IsClockLine l × (l.byte + 178 ≤ 188 * first)) → IfSome line (λ l. k ≡ here) →
-    Stands (Some last) (moment_anew line sample.byte) line k (here + 1)
-anew last sample None first here k same le at is place = record {
-  placed = rw same (first_moment sample.byte, omega (arith, at.byte));
+    Stands d (Some last) (moment_anew line sample.byte) line k (here + 1)
+anew d last sample None first here k same le at is place = record {
+  placed = rw same (first_moment sample.byte, omega (arith, at.byte, at.small));
   begun = tt;
   meets = tt;
 }
-anew last sample (Some line) first here k same le at is place = record {
-  placed = rw same (later_moment line sample.byte, omega (arith, at.byte));
+anew d last sample (Some line) first here k same le at is place = record {
+  placed = rw same (later_moment line sample.byte, omega (arith, at.byte, at.small));
   begun = (is.0, omega (arith, is.1, le, place));
   meets = rw (same, place) (at.byte, reaches_anew line sample.byte is.0 (omega (arith, is.1, le, at.byte)));
 }
@@ -123,9 +125,10 @@ line_with before sample moment = record {
   ticks = elapsed before.sample.ticks sample.ticks;
 }
 
-is_line : (before : TimedSample) (sample : PcrSample) (moment here : ℕ) → GoesOnFrom before sample → IsAt here sample → IsMoment before.sample.byte moment →
+is_line : (d : ℕ) (before : TimedSample) (sample : PcrSample) (moment here : ℕ) → GoesOnFrom before sample → IsAt d here sample →
+    IsMoment before.sample.byte moment →
     IsClockLine (line_with before sample moment)
-is_line before sample moment here on at is = record {
+is_line d before sample moment here on at is = record {
   begun = is.begun;
   soon = is.soon;
   whole = omega (arith, on.apart);
@@ -145,22 +148,22 @@ reaches_end before sample moment on scale =
     let end = rw e at (ends scale (line_with before sample moment) (omega (arith, on.apart))) in
     omega (arith, end)
 
-pub goes_on_line : (last before : TimedSample) (sample : PcrSample) (moment first here : ℕ) → last.sample ≡ sample → IsAt here sample →
+pub goes_on_line : (d : ℕ) (last before : TimedSample) (sample : PcrSample) (moment first here : ℕ) → last.sample ≡ sample → IsAt d here sample →
     GoesOnFrom before sample →
     IsMoment before.sample.byte moment → before.sample.byte + 178 ≤ 188 * here →
-    Stands (Some last) (moment + elapsed before.sample.ticks sample.ticks) (Some (line_with before sample moment)) here (here + 1)
-goes_on_line last before sample moment first here same at on is le = record {
-  placed = rw same (goes_moment before sample moment on is, omega (arith, at.byte));
-  begun = (is_line before sample moment here on at is, le);
+    Stands d (Some last) (moment + elapsed before.sample.ticks sample.ticks) (Some (line_with before sample moment)) here (here + 1)
+goes_on_line d last before sample moment first here same at on is le = record {
+  placed = rw same (goes_moment before sample moment on is, omega (arith, at.byte, at.small));
+  begun = (is_line d before sample moment here on at is, le);
   meets = rw same (at.byte, reaches_end before sample moment on);
 }
 
 -- it meets the line before
-pub meets_before : (before : TimedSample) (sample : PcrSample) (line : Option Line) (moment first here : ℕ) → GoesOnFrom before sample →
-    IfSome line (λ l. IsClockLine l × (l.byte + 178 ≤ 188 * first)) → MeetsLast first moment line before →
+pub meets_before : (d : ℕ) (before : TimedSample) (sample : PcrSample) (line : Option Line) (moment first here : ℕ) → GoesOnFrom before sample →
+    IfSome line (λ l. IsClockLine l × (l.byte + 178 ≤ 188 * first)) → MeetsLast d first moment line before →
     Meet line (Some (line_with before sample moment)) first
-meets_before before sample None moment first here on is meets = (omega (arith, on.apart), tt)
-meets_before before sample (Some line) moment first here on is meets =
+meets_before d before sample None moment first here on is meets = (omega (arith, on.apart), tt)
+meets_before d before sample (Some line) moment first here on is meets =
     let some : 0 < (line_with before sample moment).bytes = omega (arith, on.apart) in (
       some,
       record {
@@ -194,30 +197,32 @@ pub origin_before : (last : Option TimedSample) (first : ℕ) (line : Option Lin
 origin_before last first None is = tt
 origin_before last first (Some line) is = inl is.1
 
-pub record Next (clock : ArrivalClockState) (sample : PcrSample) (first here : ℕ) : Type 0 where
+pub record Next (d : ℕ) (clock : ArrivalClockState) (sample : PcrSample) (first here : ℕ) : Type 0 where
   pub stands : (k : ℕ) → IfSome (line_to clock sample) (λ l. k ≡ here) →
-      Stands (after clock sample).clock.last (after clock sample).moment (line_to clock sample) k (here + 1)
+      Stands d (after clock sample).clock.last (after clock sample).moment (line_to clock sample) k (here + 1)
   pub meets : Meet clock.line (line_to clock sample) first
   pub none : line_to clock sample ≡ None → clock.line ≡ None
   pub origin : Origin clock.clock.last first (line_to clock sample)
 
-next_anew : (clock : ArrivalClockState) (sample : PcrSample) (first here : ℕ) → Stands clock.clock.last clock.moment clock.line first here → first ≤ here →
-    IsAt here sample →
-    Anew clock.clock.last sample → Next clock sample first here
-next_anew clock sample first here s le at n =
+next_anew : (d : ℕ) (clock : ArrivalClockState) (sample : PcrSample) (first here : ℕ) → Stands d clock.clock.last clock.moment clock.line first here →
+    first ≤ here →
+    IsAt d here sample →
+    Anew clock.clock.last sample → Next d clock sample first here
+next_anew d clock sample first here s le at n =
     let same : line_to clock sample ≡ clock.line = rw (n.none clock.moment) refl in
     record {
       stands = λ k place. rw (same, n.moment clock.moment clock.line)
-          (anew (timed_after clock.clock.last sample) sample clock.line first here k refl le at s.begun (rw same at place));
+          (anew d (timed_after clock.clock.last sample) sample clock.line first here k refl le at s.begun (rw same at place));
       meets = rw same (meets_itself clock.line first s.begun);
       none = λ e. sym same ∙ e;
       origin = rw same (origin_before clock.clock.last first clock.line s.begun);
     }
 
-next_on : (clock : ArrivalClockState) (sample : PcrSample) (first here : ℕ) → Stands clock.clock.last clock.moment clock.line first here → IsAt here sample →
-    OnLine clock.clock.last sample → Next clock sample first here
+next_on : (d : ℕ) (clock : ArrivalClockState) (sample : PcrSample) (first here : ℕ) → Stands d clock.clock.last clock.moment clock.line first here →
+    IsAt d here sample →
+    OnLine clock.clock.last sample → Next d clock sample first here
 unfolding line_from moment_by
-next_on clock sample first here s at o =
+next_on d clock sample first here s at o =
     let line : Line = line_with o.before sample clock.moment in
     let last = rw o.is at s.placed in
     let same : line_to clock sample ≡ Some line = rw o.step refl in
@@ -225,25 +230,26 @@ next_on clock sample first here s at o =
       stands = λ k place.
           let here_is : k ≡ here = rw same at place in
           rw (same, o.step, here_is)
-          (goes_on_line (record { sample = sample; moment = clock_moment (GoesOn (clock_line o.before sample)) sample }) o.before sample clock.moment first
+          (goes_on_line d (record { sample = sample; moment = clock_moment (GoesOn (clock_line o.before sample)) sample }) o.before sample clock.moment first
           here refl at o.goes last.0 last.1);
-      meets = rw same (meets_before o.before sample clock.line clock.moment first here o.goes s.begun (rw o.is at s.meets));
+      meets = rw same (meets_before d o.before sample clock.line clock.moment first here o.goes s.begun (rw o.is at s.meets));
       none = λ e. absurd (let no : ⊥ = cc in no);
       origin = rw same (inr (record { before = o.before; is = o.is; byte = refl }));
     }
 
-pub next : (clock : ArrivalClockState) (sample : PcrSample) (first here : ℕ) → Stands clock.clock.last clock.moment clock.line first here → first ≤ here →
-    IsAt here sample →
-    Next clock sample first here
-next clock sample first here s le at = elim (either clock.clock.last sample) [
-  | inl on ↦ next_on clock sample first here s at on
-  | inr new ↦ next_anew clock sample first here s le at new
+pub next : (d : ℕ) (clock : ArrivalClockState) (sample : PcrSample) (first here : ℕ) → Stands d clock.clock.last clock.moment clock.line first here →
+    first ≤ here →
+    IsAt d here sample →
+    Next d clock sample first here
+next d clock sample first here s le at = elim (either clock.clock.last sample) [
+  | inl on ↦ next_on d clock sample first here s at on
+  | inr new ↦ next_anew d clock sample first here s le at new
 ]
 
 -- and none for too long
-pub stands_without : (clock : ArrivalClockState) (first here : ℕ) → Stands clock.clock.last clock.moment clock.line first here → first ≤ here →
-    Stands None clock.moment clock.line here (here + 1)
-stands_without clock first here s le = record { placed = tt; begun = later clock.line s.begun; meets = tt }
+pub stands_without : (d : ℕ) (clock : ArrivalClockState) (first here : ℕ) → Stands d clock.clock.last clock.moment clock.line first here → first ≤ here →
+    Stands d None clock.moment clock.line here (here + 1)
+stands_without d clock first here s le = record { placed = tt; begun = later clock.line s.begun; meets = tt }
   where
     later : (line : Option Line) → IfSome line (λ l. IsClockLine l × (l.byte + 178 ≤ 188 * first)) →
         IfSome line (λ l. IsClockLine l × (l.byte + 178 ≤ 188 * here))
@@ -251,9 +257,9 @@ stands_without clock first here s le = record { placed = tt; begun = later clock
     later (Some line) is = (is.0, omega (arith, is.1, le))
 
 -- nor yet
-pub stands_later : (last : Option TimedSample) (moment : ℕ) (line : Option Line) (first here : ℕ) → Stands last moment line first here →
-    Stands last moment line first (here + 1)
-stands_later last moment line first here s = record { placed = later last s.placed; begun = s.begun; meets = s.meets }
+pub stands_later : (d : ℕ) (last : Option TimedSample) (moment : ℕ) (line : Option Line) (first here : ℕ) → Stands d last moment line first here →
+    Stands d last moment line first (here + 1)
+stands_later d last moment line first here s = record { placed = later last s.placed; begun = s.begun; meets = s.meets }
   where
     later : (l : Option TimedSample) → IfSome l (λ l. IsMoment l.sample.byte moment × (l.sample.byte + 178 ≤ 188 * here)) →
         IfSome l (λ l. IsMoment l.sample.byte moment × (l.sample.byte + 178 ≤ 188 * (here + 1)))

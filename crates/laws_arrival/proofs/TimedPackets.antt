@@ -21,7 +21,7 @@ use Rattle.laws_arrival.proofs.Waits.{Comes, Waits, alone_waits, comes_with, one
 
 -- ---- each packet once
 
-bytes_of : (arrival : Arrival) (packets : List (List ℕ)) → map (λ p. p.bytes) (arriving_so arrival packets) ≡ packets
+pub bytes_of : (arrival : Arrival) (packets : List (List ℕ)) → map (λ p. p.bytes) (arriving_so arrival packets) ≡ packets
 bytes_of arrival [] = refl
 bytes_of arrival (bytes ∷ packets) = ap (λ (l : List (List ℕ)). bytes ∷ l) (bytes_of arrival packets)
 
@@ -29,7 +29,7 @@ pub many_arrive : (arrival : Arrival) (packets : List (List ℕ)) → length (ar
 many_arrive arrival [] = refl
 many_arrive arrival (bytes ∷ packets) = let e = many_arrive arrival packets in omega (arith, e)
 
-all_of : (a : Option Arrival) (held packets : List (List ℕ)) (bytes : List ℕ) (rest : List Timed) → map (λ p. p.bytes) rest ≡ (waiting a held ++ bytes ∷ [])
+pub all_of : (a : Option Arrival) (held packets : List (List ℕ)) (bytes : List ℕ) (rest : List Timed) → map (λ p. p.bytes) rest ≡ (waiting a held ++ bytes ∷ [])
     ++ packets →
     map (λ p. p.bytes) (arrived a held ++ rest) ≡ held ++ bytes ∷ packets
 unfolding arrived waiting
@@ -47,7 +47,7 @@ each_once pid packets = once_from (no_packet pid) packets
 -- ---- those that arrive on their lines
 
 -- when the first byte of the packet at an index comes on a line
-unfoldable bound : ℕ → ℕ → Option Line → ℕ
+unfoldable pub bound : ℕ → ℕ → Option Line → ℕ
 bound drain index None = 0
 bound drain index (Some line) = arrival_at drain line (188 * index)
 
@@ -69,7 +69,7 @@ on_lines lines chosen drain index packets meet begun =
     rw (first_time lines index drain meet, sym (last_time lines drain (188 * (index + length packets)) begun))
     (packets_between (OnLines lines) chosen drain index packets (lines_in_order lines index drain meet))
 
-those_between : (before line : Option Line) (chosen : ℕ → List ℕ → Bool) (drain index : ℕ) (packets : List (List ℕ)) → Meet before line index →
+pub those_between : (before line : Option Line) (chosen : ℕ → List ℕ → Bool) (drain index : ℕ) (packets : List (List ℕ)) → Meet before line index →
     (line ≡ None → before ≡ None) →
     IfSome line (λ l. l.byte < 188 * (index + length packets)) →
     Between (bound drain index before) (bound drain (index + length packets) line)
@@ -87,7 +87,7 @@ those_between None (Some line) chosen drain index packets meet none begun =
 those_between (Some before) (Some line) chosen drain index packets meet none begun =
     on_lines (record { before = before; line = line }) chosen drain index packets meet.1 begun
 
-begun_by : (line : Option Line) (first here : ℕ) → IfSome line (λ l. IsClockLine l × (l.byte + 178 ≤ 188 * first)) → first ≤ here →
+pub begun_by : (line : Option Line) (first here : ℕ) → IfSome line (λ l. IsClockLine l × (l.byte + 178 ≤ 188 * first)) → first ≤ here →
     IfSome line (λ l. l.byte < 188 * here)
 begun_by None first here is le = tt
 begun_by (Some line) first here is le = omega (arith, is.1, le)
@@ -100,7 +100,7 @@ LaterRise q packets chosen drain = (first here : ℕ) → Waits q first here →
     Rises (bound drain first q.before) (times_among chosen drain first (timed_from q packets))
 
 -- packets that arrive so, and then others
-those_first : (chosen : ℕ → List ℕ → Bool) (drain first here low middle : ℕ) (a : Arrival) (held : List (List ℕ)) (o : Option Arrival) (rest : List Timed) →
+pub those_first : (chosen : ℕ → List ℕ → Bool) (drain first here low middle : ℕ) (a : Arrival) (held : List (List ℕ)) (o : Option Arrival) (rest : List Timed) →
     o ≡ Some a →
     first + length held ≡ here → Between low middle (times_among chosen drain first (arriving_so a held)) → Rises middle (times_among chosen drain here rest) →
     Rises low (times_among chosen drain first (arrived o held ++ rest))

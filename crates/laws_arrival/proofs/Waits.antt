@@ -22,70 +22,80 @@ use Rattle.laws_arrival.proofs.Stands.{IsAt, Meet, Next, Origin, Stands, meets_i
 -- ---- the reference of a packet stands at its byte
 
 near_sample : (index : ℕ) (anew : Bool) (pcr : Reference) (b : Bool) → is_near index ≡ b →
-    IfSome (if b then Some (sample_of index anew pcr) else None) (IsAt index)
-near_sample index anew pcr true e = record { byte = refl; near = grind (arith, nat_tests) }
+    IfSome (if b then Some (sample_of index anew pcr) else None) (IsAt 10 index)
+near_sample index anew pcr true e = record { byte = refl; small = omega arith; near = grind (arith, nat_tests) }
 near_sample index anew pcr false e = tt
 
-sample_at : (index : ℕ) (anew : Bool) (pcr : Option Reference) → IfSome (sample_with index anew pcr) (IsAt index)
+sample_at : (index : ℕ) (anew : Bool) (pcr : Option Reference) → IfSome (sample_with index anew pcr) (IsAt 10 index)
 unfolding sample_with
 sample_at index anew None = tt
 sample_at index anew (Some pcr) = near_sample index anew pcr (is_near index) refl
 
-field_at : (index : ℕ) (field : Option AdaptationView) → IfSome (sample_in index field) (IsAt index)
+field_at : (index : ℕ) (field : Option AdaptationView) → IfSome (sample_in index field) (IsAt 10 index)
 unfolding sample_in
 field_at index None = tt
 field_at index (Some NoFlags) = tt
 field_at index (Some (WithFlags parts)) = sample_at index parts.discontinuity_indicator parts.pcr
 
-with_pid : (index pid : ℕ) (o : Option PcrSample) → IfSome o (IsAt index) →
-    IfSome {T = ℕ × PcrSample} (option_map (λ sample. (pid, sample)) o) (λ r. IsAt index r.1)
+with_pid : (index pid : ℕ) (o : Option PcrSample) → IfSome o (IsAt 10 index) →
+    IfSome {T = ℕ × PcrSample} (option_map (λ sample. (pid, sample)) o) (λ r. IsAt 10 index r.1)
 with_pid index pid None at = tt
 with_pid index pid (Some sample) at = at
 
-packet_reference : (clock : ClockPid) (index : ℕ) (packet : PacketView) → IfSome (reference_of clock index packet) (λ r. IsAt index r.1)
+packet_reference : (clock : ClockPid) (index : ℕ) (packet : PacketView) → IfSome (reference_of clock index packet) (λ r. IsAt 10 index r.1)
 packet_reference clock index packet = by (not packet.header.transport_error_indicator && is_of_clock clock packet.header.pid)
   where
     by : (b : Bool) → IfSome {T = ℕ × PcrSample} (if b then option_map (λ sample. (packet.header.pid, sample)) (pcr_sample index packet) else None)
-        (λ r. IsAt index r.1)
+        (λ r. IsAt 10 index r.1)
     by true = with_pid index packet.header.pid (pcr_sample index packet) (field_at index packet.adaptation)
     by false = tt
 
-pub reference_at : (clock : ClockPid) (index : ℕ) (r : Result PacketView PacketError) → IfSome (reference_read clock index r) (λ r. IsAt index r.1)
+pub reference_at : (clock : ClockPid) (index : ℕ) (r : Result PacketView PacketError) → IfSome (reference_read clock index r) (λ r. IsAt 10 index r.1)
 unfolding reference_read
 reference_at clock index (Err error) = tt
 reference_at clock index (Ok packet) = packet_reference clock index packet
 
 -- ---- what is so before a packet: those from index `first` on wait
 
-abbrev pub ClockStands : ArrivalClockState → ℕ → ℕ → Type 0
-ClockStands clock first here = Stands clock.clock.last clock.moment clock.line first here
+abbrev pub ClockStands : ℕ → ArrivalClockState → ℕ → ℕ → Type 0
+ClockStands d clock first here = Stands d clock.clock.last clock.moment clock.line first here
 
-pub record Waits (q : QueueState) (first here : ℕ) : Type 0 where
+pub record WaitsAt (d : ℕ) (q : QueueState) (first here : ℕ) : Type 0 where
   pub count : q.packets ≡ min here (2 ^ 64 - 1)
   pub held : first + length q.held ≡ here
   pub before : q.before ≡ q.clock.line
-  pub clock : ClockStands q.clock first here
+  pub clock : ClockStands d q.clock first here
+
+-- by clock references
+abbrev pub Waits : QueueState → ℕ → ℕ → Type 0
+Waits q first here = WaitsAt 10 q first here
+
+pub none_waits : (d : ℕ) (pid : ClockPid) → WaitsAt d (no_packet pid) 0 0
+none_waits d pid = record { count = refl; held = refl; before = refl; clock = record { placed = tt; begun = tt; meets = tt } }
 
 pub waits_first : (pid : ClockPid) → Waits (no_packet pid) 0 0
-waits_first pid = record { count = refl; held = refl; before = refl; clock = record { placed = tt; begun = tt; meets = tt } }
+waits_first pid = none_waits 10 pid
 
 -- ---- a packet comes
 
 -- a reference within the first 2^40 bytes is that of the packet at the index to which all are counted
-pub exact : (packets here : ℕ) (sample : PcrSample) → packets ≡ min here (2 ^ 64 - 1) → IsAt packets sample → IsAt here sample
-exact packets here sample count at =
+pub exact : (d packets here : ℕ) (sample : PcrSample) → packets ≡ min here (2 ^ 64 - 1) → IsAt d packets sample → IsAt d here sample
+exact d packets here sample count at =
     let e : packets ≡ here = omega (arith, count, at.byte, at.near) in
-    subst (λ (i : ℕ). IsAt i sample) e at
+    subst (λ (i : ℕ). IsAt d i sample) e at
 
 -- what it leaves: those that wait, from `first'` on, and how those before arrive
-pub record Comes (q : QueueState) (o : Option (ℕ × PcrSample)) (first here : ℕ) : Type 0 where
-  pub stays : still_wait q o ≡ true → ClockStands (clock_by q o) first (here + 1)
+pub record ComesAt (d : ℕ) (q : QueueState) (o : Option (ℕ × PcrSample)) (first here : ℕ) : Type 0 where
+  pub stays : still_wait q o ≡ true → ClockStands d (clock_by q o) first (here + 1)
   pub no_line : still_wait q o ≡ true → (clock_by q o).line ≡ q.clock.line
-  pub leaves : still_wait q o ≡ false → ClockStands (begun_by (clock_by q o) o) here (here + 1)
+  pub leaves : still_wait q o ≡ false → ClockStands d (begun_by (clock_by q o) o) here (here + 1)
   pub same_line : (begun_by (clock_by q o) o).line ≡ (clock_by q o).line
   pub meets : Meet q.clock.line (clock_by q o).line first
   pub none : (clock_by q o).line ≡ None → q.clock.line ≡ None
   pub origin : Origin q.clock.clock.last first (clock_by q o).line
+
+abbrev pub Comes : QueueState → Option (ℕ × PcrSample) → ℕ → ℕ → Type 0
+Comes q o first here = ComesAt 10 q o first here
 
 none_given : (o : Option Line) (b : Bool) → (not (is_some o) && b) ≡ true → o ≡ None
 none_given None b e = refl
@@ -98,22 +108,23 @@ if_here : (o : Option Line) (here : ℕ) → IfSome o (λ l. here ≡ here)
 if_here None here = tt
 if_here (Some line) here = refl
 
-pub comes : (q : QueueState) (o : Option (ℕ × PcrSample)) (first here : ℕ) → Waits q first here → IfSome o (λ r. IsAt q.packets r.1) → Comes q o first here
+pub comes : (d : ℕ) (q : QueueState) (o : Option (ℕ × PcrSample)) (first here : ℕ) → WaitsAt d q first here → IfSome o (λ r. IsAt d q.packets r.1) →
+    ComesAt d q o first here
 unfolding line_by clock_by begun_by
-comes q None first here w at =
+comes d q None first here w at =
     let le : first ≤ here = omega (arith, w.held) in
     record {
-      stays = λ e. stands_later q.clock.clock.last q.clock.moment q.clock.line first here w.clock;
+      stays = λ e. stands_later d q.clock.clock.last q.clock.moment q.clock.line first here w.clock;
       no_line = λ e. refl;
-      leaves = λ e. stands_without q.clock first here w.clock le;
+      leaves = λ e. stands_without d q.clock first here w.clock le;
       same_line = refl;
       meets = meets_itself q.clock.line first w.clock.begun;
       none = λ e. e;
       origin = origin_before q.clock.clock.last first q.clock.line w.clock.begun;
     }
-comes q (Some r) first here w at =
+comes d q (Some r) first here w at =
     let le : first ≤ here = omega (arith, w.held) in
-    let n : Next q.clock r.1 first here = next q.clock r.1 first here w.clock le (exact q.packets here r.1 w.count at) in
+    let n : Next d q.clock r.1 first here = next d q.clock r.1 first here w.clock le (exact d q.packets here r.1 w.count at) in
     let few : Bool = nat_lt (length q.held) 65536 in
     record {
       stays = λ e. n.stands first (if_none (line_to q.clock r.1) first here (none_given (line_to q.clock r.1) few e));
@@ -150,4 +161,4 @@ alone_waits q bytes first here w c h = record {
 }
 
 pub comes_with : (q : QueueState) (bytes : List ℕ) (first here : ℕ) → Waits q first here → Comes q (reference_in q bytes) first here
-comes_with q bytes first here w = comes q (reference_in q bytes) first here w (reference_at q.pid q.packets (packet_at bytes))
+comes_with q bytes first here w = comes 10 q (reference_in q bytes) first here w (reference_at q.pid q.packets (packet_at bytes))

@@ -2,3 +2,4 @@ pub mod TimedPackets
 pub mod Times
 pub mod Leads
 pub mod Between
+pub mod StampedPackets

@@ -2,6 +2,7 @@
 //! definitions of `specs/` alone, and a caller may cite it.
 ghost use Rattle.laws_arrival.specs.Between.{BetweenLaw};
 ghost use Rattle.laws_arrival.specs.Leads.{LeadLaw};
+ghost use Rattle.laws_arrival.specs.StampedPackets.{StampedLeadLaw, StampedOnceLaw, StampedRiseLaw};
 ghost use Rattle.laws_arrival.specs.TimedPackets.{EachOnceLaw};
 ghost use Rattle.laws_arrival.specs.Times.{RisesLaw};
 
@@ -11,6 +12,13 @@ pub fn arrivals_rise()
     ensures once { EachOnceLaw }
     ensures rises { RisesLaw }
     ensures leads { LeadLaw }
+{}
+
+/// States the same for a stream that arrives by the stamps before packets of 192 bytes.
+pub fn stamps_rise()
+    ensures once { StampedOnceLaw }
+    ensures rises { StampedRiseLaw }
+    ensures leads { StampedLeadLaw }
 {}
 
 /// States that all bytes between two clock references, if the clock continues, lie on the line through both.

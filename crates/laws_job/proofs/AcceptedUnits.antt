@@ -19,15 +19,16 @@ use Rattle.mux_core.specs.WholeJobs.{or_cause, unit_refused, cause_after, first_
 use Rattle.mux_core.specs.declared.multiplexing.MuxError.{MuxError}
 use Rattle.mux_core.proofs.KnownRanges.{parameters_known}
 use Rattle.mux_core.proofs.UnitCounts.{own_units, units_append}
-use Rattle.es_units.specs.ApartUnits.{apart_dts}
-use Rattle.es_units.specs.CarriedUnits.{RoleView, Ignored, Start, Continuation, Interruption, CarriedUnit, role_of, continuation, is_cut, is_split, with_more}
-use Rattle.es_units.specs.CarriedUnits.{whole_unit, units_from, units_in, unit_with, carried_units, wire_units}
-use Rattle.es_units.specs.MadeDts.{made_dts, pts_of, with_dts}
+use Rattle.es_moments.specs.ApartUnits.{apart_dts}
+use Rattle.es_units.specs.CarriedUnits.{RoleView, Ignored, Start, Continuation, Interruption, role_of, continuation, is_cut, is_split, with_more}
+use Rattle.es_units.specs.CarriedUnits.{whole_unit, units_from, units_in, carried_units, wire_units}
+use Rattle.es_moments.specs.MadeDts.{made_dts, pts_of, with_dts}
 use Rattle.es_units.specs.Laws.{UnitsAreKept, TakenOneByOne, Declares as LaneDeclares}
 use Rattle.stream_jobs.specs.Jobs.{AreUnits}
 use Rattle.job_programs.specs.FoundUnits.{AreFound, Declares, source_of}
 use Rattle.job_inputs.specs.JoinedInputs.{AreUnitsIn, IsStreamIn, findings_in}
 use Rattle.job_inputs.specs.declared.joined_inputs.Origin.{Origin}
+use Rattle.es_moments.specs.WireUnits.{CarriedUnit, unit_with}
 
 -- 1. Units have bytes
 

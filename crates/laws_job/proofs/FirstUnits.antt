@@ -8,10 +8,8 @@ use Rattle.std.proofs.lemmas.List.Elements.{All-nil, All-cons, All-head, All-tai
 use Rattle.pes_packet.specs.AccessUnits.{AccessUnit}
 use Rattle.demux.specs.Views.{FindingView}
 use Rattle.laws_run.specs.TablesFirst.{DueLate}
-use Rattle.es_units.specs.CarriedUnits.{CarriedUnit}
-use Rattle.es_units.specs.Laws.{after_half}
-use Rattle.es_units.specs.Stamps.{distance, dts_at, unit_at, moved, min_distance, constant_of, first_fault}
-use Rattle.es_units.proofs.StampMoments.{constant_least}
+use Rattle.es_moments.specs.Stamps.{distance, dts_at, unit_at, moved, min_distance, constant_of, first_fault, after_half}
+use Rattle.es_moments.proofs.StampMoments.{constant_least}
 use Rattle.job_programs.specs.declared.program_clock.ProgramClock.{ProgramClock}
 use Rattle.job_programs.specs.declared.program_clock.ProgramClock.TheVariants.{References, Own}
 use Rattle.job_programs.specs.JobPrograms.{JobProgramView, clock_in}
@@ -22,6 +20,7 @@ use Rattle.job_units.specs.Moments.{stamps_refusal, with_moments, moved_stream, 
 use Rattle.job_programs.specs.ProgramClocks.{is_same_clock}
 use Rattle.job_programs.proofs.Steps.{granted, same_value, each_all}
 use Rattle.laws_job.specs.FirstUnits.{head_stamp, stamps_beside, BeginsNear}
+use Rattle.es_moments.specs.WireUnits.{CarriedUnit}
 
 -- ---- the earliest of several
 

@@ -7,7 +7,7 @@ use Rattle.pes_packet.specs.AccessUnits.{AccessUnit}
 use Rattle.pes_packet.specs.Units.{units_of}
 use Rattle.mux_core.proofs.UnitCounts.{other_units}
 use Rattle.laws_run.specs.TablesFirst.{DueLate}
-use Rattle.es_units.specs.Merging.{AreMerged}
+use Rattle.es_moments.specs.Merging.{AreMerged}
 use Rattle.job_programs.specs.JobStreams.{TimedStreamView}
 use Rattle.job_inputs.proofs.MovedInputs.{moved_of}
 use Rattle.laws_job.specs.FirstUnits.{FirstUnitsLaw, TablesFirstLaw}

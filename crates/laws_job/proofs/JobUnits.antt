@@ -2,11 +2,10 @@
 use Rattle.std.proofs.Common.{ℕ, false, List, None, sym, subst}
 use Rattle.pes_packet.specs.AccessUnits.{AccessUnit}
 use Rattle.demux.specs.Views.{FindingView}
-use Rattle.es_units.specs.ApartUnits.{apart_wire_units}
-use Rattle.es_units.specs.Stamps.{moved}
-use Rattle.es_units.specs.Laws.{MovedByOneConstant}
+use Rattle.es_moments.specs.Stamps.{moved, MovedByOneConstant}
 use Rattle.job_programs.specs.FoundUnits.{AreFound, source_of}
 use Rattle.laws_job.specs.Laws.{AreTheSame, AreThose}
+use Rattle.es_units.specs.CarriedUnits.{apart_wire_units}
 
 moved_same : MovedByOneConstant → (base : ℕ) (wire : List AccessUnit) → AreTheSame wire base (moved base None wire)
 moved_same law base wire = let all = law base None wire in record { dts = all.0; pts = all.1; marks = all.2; bytes = all.3 }

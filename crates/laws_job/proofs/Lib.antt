@@ -9,3 +9,8 @@ pub mod TablesBefore
 pub mod JobTables
 pub mod TextsDescribed
 pub mod DeclaredBuffers
+pub mod NamedUnits
+pub mod LeftOut
+pub mod JobLines
+pub mod FoundOrNamed
+pub mod StrayPayload

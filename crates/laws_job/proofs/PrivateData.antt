@@ -13,17 +13,18 @@ use Rattle.description_parts.specs.Described.{Described, DescribedStream}
 use Rattle.demux.specs.Laws.{has_pid}
 use Rattle.demux.specs.Views.{FindingView, WhatView, IsDuplicate, BreaksCounter, IsScrambled, IsTruncated, IsSection, IsBadSection, IsPes, IsBadPes}
 use Rattle.demux.specs.Views.{IsBadPacket, IsErrored}
-use Rattle.es_units.specs.ApartUnits.{apart_dts}
-use Rattle.es_units.specs.CarriedUnits.{CarriedUnit, RoleView, carried_units, Ignored, Start, Continuation, Interruption, continuation, first_packet}
-use Rattle.es_units.specs.CarriedUnits.{is_access_point, is_cut, is_split, is_unstamped, pes_role, role_of, role_of_what, unit_with, units_from, units_in}
+use Rattle.es_moments.specs.ApartUnits.{apart_dts}
+use Rattle.es_units.specs.CarriedUnits.{RoleView, carried_units, Ignored, Start, Continuation, Interruption, continuation, first_packet}
+use Rattle.es_units.specs.CarriedUnits.{is_access_point, is_cut, is_split, is_unstamped, pes_role, role_of, role_of_what, units_from, units_in}
 use Rattle.es_units.specs.CarriedUnits.{with_more}
-use Rattle.es_units.specs.MadeDts.{made_dts, pts_of, with_dts}
-use Rattle.es_units.specs.Stamps.{dts_at, moved, unit_at}
+use Rattle.es_moments.specs.MadeDts.{made_dts, pts_of, with_dts}
+use Rattle.es_moments.specs.Stamps.{dts_at, moved, unit_at}
 use Rattle.job_programs.specs.FoundUnits.{AreFound, source_of}
 use Rattle.stream_jobs.specs.Jobs.{AreUnits}
 use Rattle.job_inputs.specs.JoinedInputs.{AreUnitsIn, findings_in}
 use Rattle.job_inputs.specs.declared.joined_inputs.Origin.{Origin}
 use Rattle.laws_job.proofs.AcceptedUnits.{somewhere}
+use Rattle.es_moments.specs.WireUnits.{CarriedUnit, unit_with}
 
 -- if a unit has PES_private_data, they are 16 bytes
 abbrev pub Sixteen : AccessUnit → Type 0

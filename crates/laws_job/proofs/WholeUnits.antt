@@ -18,12 +18,13 @@ use Rattle.unit_queue.specs.OwnedStreams.{OwnedStream, first_slot, end_slot, has
 use Rattle.laws_pid.specs.Sent.{Sending, Ending, next_of, if_sent, each_found}
 use Rattle.laws_pid.specs.Units.{carried_in, unit_header, unit_packets, unit_found}
 use Rattle.laws_run.specs.Placed.{units_placed}
-use Rattle.es_units.specs.CarriedUnits.{Start, CarriedUnit, pes_role, role_of_what, is_access_point, is_unstamped, first_packet, role_of, more_bytes}
+use Rattle.es_units.specs.CarriedUnits.{Start, pes_role, role_of_what, is_access_point, is_unstamped, first_packet, role_of, more_bytes}
 use Rattle.es_units.specs.CarriedUnits.{continued_by, continuation, end_of, is_cut, is_split, units_from, units_in, wire_units}
-use Rattle.es_units.specs.Stamps.{distance, dts_at, unit_at, moved}
+use Rattle.es_moments.specs.Stamps.{distance, dts_at, unit_at, moved}
 use Rattle.laws_job.specs.Laws.{later_by}
 use Rattle.laws_job.proofs.PrivateData.{Sixteen}
 use Rattle.laws_job.proofs.SentWhole.{IsWhole}
+use Rattle.es_moments.specs.WireUnits.{CarriedUnit}
 
 -- 1. One unit
 

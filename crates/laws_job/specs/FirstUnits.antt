@@ -11,7 +11,6 @@ use Rattle.demux.specs.Views.{FindingView}
 use Rattle.mux_core.specs.WholeJobs.{job_history, output_of}
 use Rattle.laws_run.specs.FollowedTables.{IsFollowed}
 use Rattle.laws_run.specs.TablesFirst.{DueLate}
-use Rattle.es_units.specs.Laws.{after_half}
 use Rattle.job_inputs.specs.JobInput.{JobInputView, job_input}
 use Rattle.job_programs.specs.JobOptions.{JobOptionsView}
 use Rattle.job_programs.specs.JobPrograms.{JobProgramView, clock_in}
@@ -19,6 +18,7 @@ use Rattle.stream_jobs.specs.Jobs.{AreUnits, IsJob}
 use Rattle.job_programs.specs.JobStreams.{WireStreamView}
 use Rattle.job_units.specs.Moments.{earliest, first_dts, firsts, stamps_of, moved_streams}
 use Rattle.laws_job.specs.Laws.{schedule_for}
+use Rattle.es_moments.specs.Stamps.{after_half}
 
 -- ---- when the first units are due
 

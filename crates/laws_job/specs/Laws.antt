@@ -16,8 +16,7 @@ use Rattle.mux_core.specs.FramesKept.{FramesKept}
 use Rattle.mux_core.specs.WholeJobs.{plan_schedule, first_refused, capacity_for, job_history, output_of}
 use Rattle.laws_run.specs.GivenBack.{GivenBack}
 use Rattle.laws_run.specs.Clean.{IsClean}
-use Rattle.es_units.specs.ApartUnits.{apart_wire_units}
-use Rattle.es_units.specs.CarriedUnits.{wire_units}
+use Rattle.es_units.specs.CarriedUnits.{wire_units, apart_wire_units}
 use Rattle.clock27.specs.Units.{slot_units_at_1bps}
 use Rattle.laws_pid.specs.Laws.{all_found}
 use Rattle.job_programs.specs.FoundUnits.{AreMoved}

@@ -8,10 +8,12 @@
 //!
 //! Definitions are in `specs/`: `Laws` says what is accepted, carried and found again, `DeclaredBuffers`
 //! what is kept of the buffers that were chosen for the streams, `JoinedLaws` what is so of a job of
-//! several streams, `FirstUnits` when the first units are due and what comes before them.
+//! several streams, `FirstUnits` when the first units are due and what comes before them, `LeftOut`,
+//! `JobLines` and `FoundOrNamed` where everything is that is found of a stream, `StrayPayload` what is not
+//! found.
 //!
 //! - [`laws`]: no unit of such a job is refused, its bytes give the units back, and these are the units of
-//!   the input or inputs; PAT and PMT precede them.
+//!   the input or inputs; PAT and PMT precede them; nothing found of a stream is without a line.
 #![tactic(auto)]
 
 pub mod laws;

@@ -1,9 +1,8 @@
 -- The counter breaks that are found in a stream are the continuity errors of its packets.
-use Rattle.std.proofs.Common.{◌≡◌, ◌∙◌, ℕ, zero-add, ◌+◌, ◌-◌, ◌/◌, ◌^◌, ◌<◌, ◌==◌, Bool, true, false, cond, nat_eq, List, [], ◌∷◌, ◌++◌, length, map, filter}
+use Rattle.std.proofs.Common.{◌≡◌, ◌∙◌, ℕ, ◌+◌, ◌-◌, ◌/◌, ◌^◌, ◌<◌, ◌==◌, Bool, true, false, cond, nat_eq, List, [], ◌∷◌, ◌++◌, length, map, filter}
 use Rattle.std.proofs.Common.{Option, Some, None, Result, Ok, Err, refl, sym, ap, ap₂, subst, arith, append_assoc}
 use Rattle.std.specs.Prelude.{not, option_map, unwrap_or}
-use Rattle.std.specs.List.{cons_option, enumerate_from, filter_map, flat_map}
-use Rattle.std.specs.Map.{lookup}
+use Rattle.std.specs.List.{cons_option, enumerate_from, filter_map}
 use Rattle.std.proofs.lemmas.List.{append-nil}
 use Rattle.std.proofs.lemmas.List.Elements.{filter-append}
 use Rattle.indexmap.specs.IndexMap.{insert_entry}
@@ -11,29 +10,27 @@ use Rattle.ts_packet.specs.declared.packet.PacketError.{PacketError}
 use Rattle.ts_packet.specs.Views.{PacketView}
 use Rattle.ts_packet.specs.Reading.{packet_at}
 use Rattle.ts_packet.specs.PidList.{Entry, cut_packets, entry_of}
-use Rattle.demux.specs.Views.{FindingView, IsBadPacket, IsErrored}
+use Rattle.demux.specs.Views.{FindingView, IsErrored}
 use Rattle.demux.specs.Marks.{LastView, break_at, mark, seen}
-use Rattle.demux.specs.Machine.{PidState, found_by, fresh, step, step_marked}
+use Rattle.demux.specs.Machine.{PidState, found_by, step, step_marked}
 use Rattle.demux.specs.Shown.{with_pid}
 use Rattle.demux.specs.Findings.{ended}
 use Rattle.demux.specs.Stream.{States, StreamState, ended_found, findings_by, finished, found_in, next_packet, start, state_of, states_by, taken, with_state}
 use Rattle.demux.specs.Stream.{without_pid}
-use Rattle.demux.specs.Stream as stream
 use Rattle.demux.specs.FoundSoFar.{found_in_all, taken_all}
 use Rattle.tr101290.specs.Continuity.{Lasts, after, before_if, error_at, error_of, errors_from, last_of}
 use Rattle.tr101290.specs.declared.continuity.ContinuityError.{ContinuityError}
 use Rattle.monitor.specs.declared.fault.StreamFault.{StreamFault}
-use Rattle.monitor.specs.InOrder.{in_order, rule_number}
+use Rattle.monitor.specs.InOrder.{rule_number}
 use Rattle.monitor.specs.Faults.{faults_of}
 use Rattle.monitor.specs.ReportOf.{stream_report}
 use Rattle.monitor.proofs.FindingSteps.{faults_of_all, faults_on}
 use Rattle.monitor.proofs.FoundWhole.{ended_whole, found_whole, packet_count}
 use Rattle.monitor.proofs.GroupedFaults.{findings_alike}
-use Rattle.monitor.proofs.LateFaults.{alike}
 use Rattle.monitor.proofs.SameOrder.{has}
 use Rattle.laws_monitor.specs.Continuity.{CounterLaw, counter_fault, is_sound, sound_packets}
 use Rattle.laws_monitor.specs.FaultsByRule.{is_by}
-use Rattle.laws_monitor.proofs.FaultLists.{alike_filter, left_alone, part_in_order, right_alone}
+use Rattle.laws_monitor.proofs.FaultLists.{alike_filter, part_in_order}
 use Rattle.laws_monitor.proofs.PidEntries.{kept, same_number, turned_test}
 use Rattle.laws_monitor.proofs.FaultGroups.{counter_group, findings_part}
 use Rattle.laws_monitor.proofs.CounterFindings.{break_fault, counter_at, ended_quiet, faults_at, quiet_faults}

@@ -2,7 +2,6 @@
 use Rattle.std.proofs.Common.{◌≡◌, ◌∙◌, ℕ, zero, suc, ◌+◌, ◌-◌, ◌==◌, Bool, true, false, cond, List, [], ◌∷◌, ◌++◌, length, take, drop, map, filter, Option}
 use Rattle.std.proofs.Common.{Some, None, Result, Ok, Err, refl, sym, ap}
 use Rattle.std.specs.Prelude.{nat_lt}
-use Rattle.std.proofs.lemmas.List.Elements.{filter-append}
 use Rattle.psi_tables.specs.Views.{SectionView}
 use Rattle.psi_tables.specs.Reading.{section_at}
 use Rattle.psi_tables.specs.declared.error.SectionError.{SectionError}
@@ -11,9 +10,8 @@ use Rattle.pes_packet.specs.Reading.{header_at}
 use Rattle.pes_packet.specs.declared.reading.PesHeader.{PesHeader}
 use Rattle.pes_packet.specs.declared.refusal.PesError.{PesError}
 use Rattle.pes_packet.specs.declared.refusal.PesError.TheVariants as pes_errors
-use Rattle.demux.specs.Views.{Found, FindingView, WhatView, IsDuplicate, BreaksCounter, IsScrambled, IsTruncated, IsSection, IsBadSection, IsPes, IsBadPes}
-use Rattle.demux.specs.Views.{IsBadPacket, IsErrored}
-use Rattle.demux.specs.Marks.{LastView, Marked, break_at, is_repeat, mark, repeats}
+use Rattle.demux.specs.Views.{Found, WhatView, IsDuplicate, IsScrambled, IsTruncated, IsSection, IsBadSection, IsPes, IsBadPes}
+use Rattle.demux.specs.Marks.{LastView, Marked, break_at, is_repeat, mark}
 use Rattle.ts_packet.specs.PidList.{Entry}
 use Rattle.demux.specs.Roles.{Role, NoPayload, ScrambledPayload, PesStart, SectionStart, PointerPastEnd, Continuation, role}
 use Rattle.demux.specs.OpenUnits.{OpenUnit, about_within, appended, decided, max_unbounded_pes, of_header, of_pes, of_section, plain, section, sections_in}

@@ -1,6 +1,6 @@
 -- The faults of a stream by one rule: those of its group.
 use Rattle.std.proofs.Common.{◌≡◌, ◌∙◌, ℕ, ◌/◌, ◌%◌, ◌==◌, Bool, true, false, cond, List, [], ◌∷◌, ◌++◌, length, map, filter, Option, Some, None, Result, Ok}
-use Rattle.std.proofs.Common.{Err, refl, ap}
+use Rattle.std.proofs.Common.{Err, refl}
 use Rattle.std.specs.List.{enumerate_from, flat_map}
 use Rattle.psi_tables.specs.declared.error.SectionError.TheVariants as section_errors
 use Rattle.ts_packet.specs.declared.packet.PacketError.{PacketError}
@@ -120,7 +120,7 @@ none_of_pid p pid (x ∷ found) n c s =
     right_alone p (failing (Some pid) x.packet (finding_rule x.found.what)) (finding_faults pid found) (none_finding p pid x.packet x.found.what n c s)
     ∙ none_of_pid p pid found n c s
 
-none_of_pids : (p : StreamFault → Bool) (bytes pids : List ℕ) → Without p rules.Counter → Without p rules.Crc → Without p rules.Section →
+pub none_of_pids : (p : StreamFault → Bool) (bytes pids : List ℕ) → Without p rules.Counter → Without p rules.Crc → Without p rules.Section →
     filter p (flat_map (λ pid. finding_faults pid (found_on pid bytes)) pids) ≡ []
 none_of_pids p bytes [] n c s = refl
 none_of_pids p bytes (pid ∷ pids) n c s =
@@ -167,3 +167,22 @@ pcr_group p rate limit bytes h s q e =
     (on_each rules.Pcr (pcr_late rate limit bytes) (packet_pids bytes))
     (right_alone p (packet_faults (enumerate_from 0 (cut_packets bytes))) (cut_faults bytes) (none_of_packets p (enumerate_from 0 (cut_packets bytes)) s q e)
     ∙ none_cut p bytes h.cut)
+
+-- 15: the end
+pub cut_group : (rate limit : ℕ) (bytes : List ℕ) → filter (is_by 15) (faults_of rate limit bytes) ≡ cut_faults bytes
+unfolding faults_of rule_number
+cut_group rate limit bytes =
+    left_alone (is_by 15) (faults_of_packets rate limit bytes) (faults_of_findings rate bytes)
+    (findings_alone (is_by 15) rate bytes (λ o k. refl) (λ o k. refl) (λ o k. refl) (λ o k. refl) (λ o k. refl) (λ o k. refl) (λ o k. refl)
+    ∙ none_of_pids (is_by 15) bytes (packet_pids bytes) (λ o k. refl) (λ o k. refl) (λ o k. refl))
+    ∙ left_alone (is_by 15) (packet_faults (enumerate_from 0 (cut_packets bytes)) ++ cut_faults bytes)
+    (on_each rules.Pcr (pcr_late rate limit bytes) (packet_pids bytes))
+    (none_on_each (is_by 15) rules.Pcr (pcr_late rate limit bytes) (packet_pids bytes) (λ o k. refl))
+    ∙ right_alone (is_by 15) (packet_faults (enumerate_from 0 (cut_packets bytes))) (cut_faults bytes)
+    (none_of_packets (is_by 15) (enumerate_from 0 (cut_packets bytes)) (λ o k. refl) (λ o k. refl) (λ o k. refl))
+    ∙ all_of_cut (length bytes % 188 == 0)
+  where
+    all_of_cut : (t : Bool) → filter (is_by 15) (cond t [] (fault rules.Cut None (length bytes / 188) ∷ [])) ≡ cond t []
+        (fault rules.Cut None (length bytes / 188) ∷ [])
+    all_of_cut true = refl
+    all_of_cut false = refl

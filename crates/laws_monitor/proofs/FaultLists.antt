@@ -1,12 +1,11 @@
 -- Lists of faults: some of them, in order.
-use Rattle.std.proofs.Common.{◌≡◌, ◌∙◌, ◌⊎◌, inl, inr, ℕ, ◌==◌, Bool, true, false, cond, List, [], ◌∷◌, ◌++◌, map, filter, Option, Some, refl, sym, ap, ap₂}
-use Rattle.std.proofs.Common.{subst, arith}
+use Rattle.std.proofs.Common.{◌≡◌, ◌∙◌, ℕ, Bool, true, false, cond, List, [], ◌∷◌, ◌++◌, map, filter, Option, Some, refl, sym, ap}
+use Rattle.std.proofs.Common.{arith}
 use Rattle.std.specs.Prelude.{◌&&◌, ◌||◌}
-use Rattle.std.specs.List.{flat_map}
 use Rattle.std.proofs.lemmas.List.Elements.{filter-append}
 use Rattle.monitor.specs.declared.fault.StreamFault.{StreamFault}
 use Rattle.monitor.specs.declared.fault.Rule.{Rule}
-use Rattle.monitor.specs.InOrder.{in_order, is_before}
+use Rattle.monitor.specs.InOrder.{in_order}
 use Rattle.monitor.specs.Rules.{fault}
 use Rattle.monitor.specs.Faults.{on_each}
 use Rattle.monitor.proofs.LateFaults.{alike}

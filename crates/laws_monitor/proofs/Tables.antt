@@ -1,9 +1,8 @@
 -- Sections of a table that begin late.
-use Rattle.std.proofs.Common.{◌≡◌, ◌∙◌, ℕ, ◌-◌, ◌*◌, ◌<◌, ◌≤◌, ◌==◌, Bool, true, false, cond, nat_eq, List, [], ◌∷◌, ◌++◌, map, filter, Option, Some, None}
+use Rattle.std.proofs.Common.{◌≡◌, ◌∙◌, ℕ, ◌-◌, ◌*◌, ◌<◌, ◌≤◌, ◌==◌, Bool, true, false, cond, List, [], ◌∷◌, ◌++◌, map, filter, Option, Some, None}
 use Rattle.std.proofs.Common.{refl, sym, ap, ap₂, arith}
 use Rattle.std.specs.Prelude.{nat_lt, option_map}
 use Rattle.std.specs.List.{cons_option, filter_map}
-use Rattle.std.specs.Map.{lookup}
 use Rattle.std.specs.Option.{option_to_list}
 use Rattle.std.proofs.lemmas.Bool.Decides.{nat_tests}
 use Rattle.std.proofs.lemmas.Grind.{common_steps}
@@ -24,7 +23,7 @@ use Rattle.tr101290.specs.declared.intervals.TableTiming.{TableTiming}
 use Rattle.tr101290.specs.declared.intervals.TableTiming.TheVariants.{ConstantRate}
 use Rattle.tr101290.proofs.Entries.{time_law}
 use Rattle.monitor.specs.Begins.{table_begin, table_begins}
-use Rattle.monitor.specs.Gaps.{is_long, late}
+use Rattle.monitor.specs.Gaps.{is_long}
 use Rattle.monitor.proofs.LatePlaces.{after_all, step}
 use Rattle.monitor.proofs.LatePlaces as places
 use Rattle.laws_monitor.specs.Tables.{GapLaw, TableLaw, errors_from, sections_of}

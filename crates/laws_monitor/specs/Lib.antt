@@ -1,4 +1,11 @@
 pub mod FaultsByRule
+pub mod FaultPids
+pub mod PacketFaults
 pub mod Continuity
+pub mod CounterFaults
+pub mod ViewedFaults
+pub mod SharedRules
+pub mod References
 pub mod Tables
 pub mod Limits
+pub mod TableFaults

@@ -1,9 +1,11 @@
 //! Rules of `tsmux monitor` and `tsview`, with one meaning (ETSI TR 101 290): definitions and laws, no code.
 //!
-//! `specs/FaultsByRule` takes the faults of a rule from the report of the monitor. `Continuity` and `Tables` say that
-//! they are the errors that `tr101290` finds, as `tsview` does; `Limits` is the table of the limits of both.
+//! `specs/FaultsByRule` takes the faults of a rule from the report of the monitor. `PacketFaults`, `CounterFaults`,
+//! `TableFaults` and `References` say which packets it reports by each rule. `SharedRules` says that the events of
+//! `tsview` name the same; `Continuity` and `Tables`, that they are the errors that `tr101290` finds. `Limits` is the
+//! table of the limits of both.
 //!
-//! - [`laws`]: continuity, sections of tables, and the limits.
+//! - [`laws`]: the packets of each rule, errors that both find, and the limits.
 #![tactic(auto)]
 
 pub mod laws;

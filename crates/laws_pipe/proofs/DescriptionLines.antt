@@ -14,13 +14,13 @@ use Rattle.demux.specs.Views.{FindingView}
 use Rattle.job_text.specs.DescriptionParts.{EventPartView, HeadingView, NetworkPartView, ProgramPartView, StreamPartView, TablePartView}
 use Rattle.job_text.specs.Fields.{burst_numbers, drain_numbers, first_numbers, frame_numbers, group_numbers, last_numbers, leak_numbers, limit_numbers}
 use Rattle.job_text.specs.Fields.{pace_numbers, place_numbers, program_numbers, size_numbers, table_numbers, time_numbers}
-use Rattle.job_text.specs.KeyLines.{digits_of, header, hex_line, items_of, items_text, key_line, list_line, number_line, number_lines, table_header, value_text}
-use Rattle.job_text.specs.Notes.{is_shown, note_of}
+use Rattle.job_text.specs.KeyLines.{digits_of, header, hex_line, items_of, items_text, key_line, list_line, noted_line, number_line, number_lines, table_header, value_text}
+use Rattle.job_text.specs.Notes.{is_shown, note_of, type_note}
 use Rattle.job_text.proofs.NoteLines.{notes_are_shown}
 use Rattle.job_text.specs.Texts.{event_back, event_names, event_numbers, event_text, heading_text, network_if_any, program_front, program_service, program_text}
-use Rattle.job_text.specs.Texts.{stream_end, stream_front, stream_place, stream_text, stream_times, table_back, table_front, table_text}
-use Rattle.stream_programs.specs.NetworkInformation.{stream_network}
-use Rattle.stream_programs.specs.Services.{FoundServiceView, service}
+use Rattle.job_text.specs.Texts.{stream_end, stream_front, stream_place, stream_text, stream_times, table_back, table_front, table_text, type_line}
+use Rattle.ts_services.specs.NetworkInformation.{stream_network}
+use Rattle.ts_services.specs.Services.{FoundServiceView, service}
 use Rattle.service_information.specs.Events.{FoundEventView}
 use Rattle.job_programs.specs.Events.{event_part, job_events, events_text}
 use Rattle.job_programs.specs.Information.{JobInformationView, information_of, service_for}
@@ -43,7 +43,10 @@ IsOther key = (rest : List ℕ) → starts_with nat_eq (key ++ rest) first_plan_
 
 -- what stands beside a value has no end of a line
 note_flat : (key : List ℕ) (value : Data) → is_flat (note_of key value) ≡ true
-note_flat key value = flat_if is_shown (note_of key value) refl (notes_are_shown key value)
+note_flat key value = flat_if is_shown (note_of key value) refl (notes_are_shown.0 key value)
+
+type_flat : (s : StreamPartView) → is_flat (type_note s.stream_type s.said) ≡ true
+type_flat s = flat_if is_shown (type_note s.stream_type s.said) refl (notes_are_shown.1 s.stream_type s.said)
 
 key_passes : (key : List ℕ) (value : Data) → IsOther key → is_flat key ≡ true → is_flat (value_text value) ≡ true → Passes (key_line key value)
 unfolding key_line
@@ -64,6 +67,17 @@ key_passes key value other plain flat =
 -- of a number
 number_passes : (key : List ℕ) (n : ℕ) → IsOther key → is_flat key ≡ true → Passes (number_line (key, n))
 number_passes key n other plain = key_passes key (integer (pos n)) other plain (decimal_flat n)
+
+-- of a stream_type
+type_passes : (s : StreamPartView) → Passes (type_line s)
+unfolding noted_line
+type_passes s =
+    let note = type_note s.stream_type s.said in
+    let said = decimal s.stream_type ++ note in
+    let both = flat_both (decimal s.stream_type) note (decimal_flat s.stream_type) (type_flat s) in
+    let line : (codes "type = " ++ said) ++ 10 ∷ [] ≡ codes "type = " ++ (decimal s.stream_type ++ (note ++ codes "\n")) =
+    append_assoc (codes "type = ") said (10 ∷ []) ∙ ap (λ (t : List ℕ). codes "type = " ++ t) (append_assoc (decimal s.stream_type) note (10 ∷ [])) in
+    subst Passes line (line_passes (codes "type = " ++ said) (flat_both (codes "type = ") said refl both) (λ rest. refl))
 
 abbrev AreOther : List (List ℕ × ℕ) → Type 0
 AreOther [] = Unit {0}
@@ -234,8 +248,8 @@ stream_passes s =
     let limit = both_pass (number_lines (limit_numbers s.pts_limit)) _ (limit_passes s.pts_limit) leak in
     let pids = numbers_pass (place_numbers s) ((λ rest. refl), (refl, ((λ rest. refl), (refl, tt)))) in
     let place = both_pass (number_lines (place_numbers s)) _ pids limit in
-    let last = numbers_pass (last_numbers s) ((λ rest. refl), (refl, ((λ rest. refl), (refl, tt)))) in
-    let shared = both_pass (list_line (codes "shared_with") s.shared_with) (number_lines (last_numbers s)) (list_passes s.shared_with) last in
+    let last = both_pass (number_lines (last_numbers s)) (type_line s) (numbers_pass (last_numbers s) ((λ rest. refl), (refl, tt))) (type_passes s) in
+    let shared = both_pass (list_line (codes "shared_with") s.shared_with) (number_lines (last_numbers s) ++ type_line s) (list_passes s.shared_with) last in
     let back = both_pass (stream_place s) (stream_end s) place shared in
     both_pass (stream_front s) (stream_times s ++ (stream_place s ++ stream_end s)) front
     (both_pass (stream_times s) (stream_place s ++ stream_end s) middle back)

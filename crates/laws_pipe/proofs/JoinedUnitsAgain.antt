@@ -9,7 +9,7 @@ use Rattle.description_parts.specs.Ranges.{IsInRange}
 use Rattle.demux.specs.Views.{FindingView}
 use Rattle.slot_plan.specs.Conditions.{IsServing}
 use Rattle.es_units.specs.CarriedUnits.{wire_units}
-use Rattle.es_units.specs.Merging.{AreMerged}
+use Rattle.es_moments.specs.Merging.{AreMerged}
 use Rattle.job_programs.specs.FoundUnits.{AreMoved, source_of}
 use Rattle.job_programs.specs.JobStreams.{TimedStreamView}
 use Rattle.stream_jobs.specs.Jobs.{AllAgree}

@@ -3,11 +3,11 @@ use Rattle.std.proofs.Common.{◌≡◌, ◌∙◌, ◌&&◌, ℕ, Bool, true, f
 use Rattle.demux.specs.Laws.{found_of, has_pid}
 use Rattle.demux.specs.Views.{FindingView}
 use Rattle.data_times.specs.DataTimes.{is_unstamped, seen_in, timed}
-use Rattle.data_times.specs.declared.references.ClockReference.{ClockReference}
+use Rattle.packet_pcr.specs.declared.pcr_reading.FoundPcr.{FoundPcr}
 use Rattle.data_times.proofs.OtherPids.{others_stay}
 use Rattle.packet_sync.specs.Slips.{carried}
-use Rattle.es_units.specs.ApartUnits.{apart_units, apart_wire_units}
-use Rattle.es_units.specs.CarriedUnits.{CarriedUnit, Ignored, carried_units, role_of}
+use Rattle.es_moments.specs.ApartUnits.{apart_units}
+use Rattle.es_units.specs.CarriedUnits.{Ignored, carried_units, role_of, apart_wire_units}
 use Rattle.es_units.proofs.CarriedUnits.{same_units}
 use Rattle.es_feed.specs.EachStream.{if_start, next_starts, one_by_one, starts_next}
 use Rattle.given_marks.specs.Marking.{MarkingView, all_marked, is_aligned, type_of}
@@ -16,6 +16,7 @@ use Rattle.job_inputs.specs.AskedMarks.{marking_of}
 use Rattle.job_run.specs.Streams.{findings_of}
 use Rattle.tsjob_cli.specs.StreamedUnits.{access_of}
 use Rattle.laws_pipe.specs.StreamedUnits.{AreMarkedAlike, AskAlike}
+use Rattle.es_moments.specs.WireUnits.{CarriedUnit}
 
 -- 1. Whether units are one PES packet each is for the findings of the PID to say
 
@@ -71,21 +72,21 @@ wire_alike whole streamed pid fs alike =
 
 -- 3. Teletext without stamps is on other PIDs
 
-timed_alike : (references : List ClockReference) (pid : ℕ) (fs : List FindingView) → is_unstamped (seen_in fs) pid ≡ false →
+timed_alike : (references : List FoundPcr) (pid : ℕ) (fs : List FindingView) → is_unstamped (seen_in fs) pid ≡ false →
     found_of pid (timed references fs) ≡ found_of pid fs
 timed_alike references pid fs stamped = others_stay references fs pid stamped
 
-pub alone_timed : (references : List ClockReference) (pid : ℕ) (fs : List FindingView) → is_unstamped (seen_in fs) pid ≡ false →
+pub alone_timed : (references : List FoundPcr) (pid : ℕ) (fs : List FindingView) → is_unstamped (seen_in fs) pid ≡ false →
     one_by_one pid (timed references fs) ≡ one_by_one pid fs
 alone_timed references pid fs stamped =
     sym (own_alone pid (timed references fs)) ∙ ap (one_by_one pid) (timed_alike references pid fs stamped) ∙ own_alone pid fs
 
-carried_timed : (references : List ClockReference) (pid : ℕ) (fs : List FindingView) → is_unstamped (seen_in fs) pid ≡ false →
+carried_timed : (references : List FoundPcr) (pid : ℕ) (fs : List FindingView) → is_unstamped (seen_in fs) pid ≡ false →
     carried_units pid (timed references fs) ≡ carried_units pid fs
 carried_timed references pid fs stamped =
     sym (same_units pid (timed references fs)) ∙ ap (carried_units pid) (timed_alike references pid fs stamped) ∙ same_units pid fs
 
-pub wire_timed : (references : List ClockReference) (pid : ℕ) (fs : List FindingView) → is_unstamped (seen_in fs) pid ≡ false →
+pub wire_timed : (references : List FoundPcr) (pid : ℕ) (fs : List FindingView) → is_unstamped (seen_in fs) pid ≡ false →
     apart_wire_units pid (timed references fs) ≡ apart_wire_units pid fs
 wire_timed references pid fs stamped =
     ap (λ (us : List CarriedUnit). map (λ (u : CarriedUnit). u.unit) (apart_units us)) (carried_timed references pid fs stamped)

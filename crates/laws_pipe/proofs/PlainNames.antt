@@ -11,10 +11,10 @@ use Rattle.std.proofs.lemmas.List.Sums.{list_all-from_AllPass}
 use Rattle.std.proofs.lemmas.Str.{NoCharPasses-byte}
 use Rattle.clap.specs.Words.{Row, Text, first_of}
 use Rattle.demux.specs.Views.{FindingView}
-use Rattle.stream_programs.specs.NetworkInformation.{FoundNetworkView}
-use Rattle.stream_programs.specs.Services.{FoundServiceView}
-use Rattle.stream_programs.specs.Texts.{characters, decode_text}
-use Rattle.stream_programs.proofs.FittingText.{fitting_printable}
+use Rattle.ts_services.specs.NetworkInformation.{FoundNetworkView}
+use Rattle.ts_services.specs.Services.{FoundServiceView}
+use Rattle.dvb_texts.specs.Texts.{characters, decode_text}
+use Rattle.dvb_texts.proofs.FittingText.{fitting_printable}
 use Rattle.job_text.specs.DescriptionParts.{NetworkPartView}
 use Rattle.service_information.specs.CivilTimes.{civil_text, clock_text, date_text, day_of_month, month_of, two_digits, year_of}
 use Rattle.service_information.specs.Events.{FoundEventView}

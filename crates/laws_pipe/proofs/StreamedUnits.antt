@@ -13,19 +13,18 @@ use Rattle.description.proofs.Pids.{pid_positions, pids_apart}
 use Rattle.description_parts.specs.Tables.{table_count}
 use Rattle.demux.specs.Views.{FindingView}
 use Rattle.packet_sync.specs.Slips.{carried}
-use Rattle.data_times.specs.DataTimes.{is_unstamped, seen_in}
+use Rattle.data_times.specs.DataTimes.{is_unstamped, seen_in, timed}
 use Rattle.data_times.specs.References.{references_in}
-use Rattle.es_units.specs.ApartUnits.{apart_wire_units}
-use Rattle.es_units.specs.Stamps.{distance, dts_at, moved, unit_at}
+use Rattle.es_moments.specs.Stamps.{distance, dts_at, moved, unit_at}
 use Rattle.es_feed.specs.EachStream.{AreFirst, fed_stream, have_fault, one_by_one}
-use Rattle.es_feed.specs.Feeding.{Fed, FedStreamView}
+use Rattle.fed_streams.specs.Feeding.{Fed, FedStreamView}
 use Rattle.es_feed.specs.StreamFeeding.{fed_of}
 use Rattle.es_feed.proofs.MovedApart.{fed_apart}
 use Rattle.es_feed.specs.MovedApart.{AreWhole, after_time}
 use Rattle.es_feed.specs.FedLines.{fed_records, have_refusal}
-use Rattle.es_feed.specs.Passing.{EndsStream}
+use Rattle.es_records.specs.Passing.{EndsStream}
 use Rattle.es_feed.proofs.WatchedStreams.{clear_is_fed, refusal_told}
-use Rattle.es_units.specs.Merging.{AreMerged}
+use Rattle.es_moments.specs.Merging.{AreMerged}
 use Rattle.given_marks.specs.Marking.{MarkingView, all_marked}
 use Rattle.job_inputs.specs.AskedMarks.{marking_of}
 use Rattle.job_programs.specs.JobOptions.{JobOptionsView}
@@ -40,11 +39,12 @@ use Rattle.job_run.specs.declared.job_arguments.Subcommand.{Subcommand}
 use Rattle.job_run.specs.declared.job_arguments.Subcommand.TheVariants.{Units}
 use Rattle.job_run.specs.JobArguments.{JobArgumentsView}
 use Rattle.job_run.specs.Outcomes.{Gives, GivesUnits}
-use Rattle.job_run.specs.Streams.{asked_findings, findings_for, findings_of}
+use Rattle.job_run.specs.Streams.{asked_findings, findings_for, findings_of, parts_by, references_by}
 use Rattle.tsjob_cli.specs.StreamedUnits.{GoesBy, earliest, feed_of, maps_of, marking_by, pids_of, streams_from}
 use Rattle.laws_pipe.specs.StreamedUnits.{AreAlike, AreLaterByOne, AreMarkedAlike, TheSameUnits}
 use Rattle.laws_pipe.proofs.MarkedUnits.{alone_timed, wire_timed, alone_alike, wire_alike}
 use Rattle.laws_pipe.proofs.PipedRuns.{GivenOf, given_by_run, taken}
+use Rattle.es_units.specs.CarriedUnits.{apart_wire_units}
 
 -- 1. The streams of a description, before their first unit
 
@@ -216,11 +216,18 @@ stamps_of : (a : JobArgumentsView) (w : JobOptionsView) (d : Described) (bytes :
 stamps_of a w d bytes input k t alike at =
     at_place (λ t. is_unstamped (seen_in (asked_findings a.options bytes)) t.pid ≡ false) input.streams k t alike.stamped at
 
+-- the parts of a recording are not joined
+as_found : (a : JobArgumentsView) (bytes : List ℕ) → a.options.joined ≡ false →
+    findings_for a.options bytes ≡ timed (references_in (carried bytes)) (asked_findings a.options bytes)
+unfolding references_by parts_by
+as_found a bytes unjoined = rw unjoined refl
+
 same_wire : (a : JobArgumentsView) (w : JobOptionsView) (d : Described) (bytes : List ℕ) (input : JobInputView) (k : ℕ) (t : TimedStreamView) →
     AreAlike a w d bytes input →
     slice_get input.streams k ≡ Some t → apart_wire_units t.pid (findings_for a.options bytes) ≡ apart_wire_units t.pid (streamed_findings w d bytes)
 same_wire a w d bytes input k t alike at =
-    wire_timed (references_in (carried bytes)) t.pid (asked_findings a.options bytes) (stamps_of a w d bytes input k t alike at)
+    ap (λ (fs : List FindingView). apart_wire_units t.pid fs) (as_found a bytes alike.unjoined)
+    ∙ wire_timed (references_in (carried bytes)) t.pid (asked_findings a.options bytes) (stamps_of a w d bytes input k t alike at)
     ∙ wire_alike (whole_marking a bytes) (marking_by w d) t.pid (findings_of (carried bytes)) (marks_of a w d bytes input k t alike at)
 
 same_alone : (a : JobArgumentsView) (w : JobOptionsView) (d : Described) (bytes : List ℕ) (input : JobInputView) (k : ℕ) (t : TimedStreamView) →
@@ -229,6 +236,7 @@ same_alone : (a : JobArgumentsView) (w : JobOptionsView) (d : Described) (bytes 
 same_alone a w d bytes input k t alike at =
     sym (alone_alike (whole_marking a bytes) (marking_by w d) t.pid (findings_of (carried bytes)) (marks_of a w d bytes input k t alike at))
     ∙ sym (alone_timed (references_in (carried bytes)) t.pid (asked_findings a.options bytes) (stamps_of a w d bytes input k t alike at))
+    ∙ sym (ap (λ (fs : List FindingView). one_by_one t.pid fs) (as_found a bytes alike.unjoined))
     ∙ at_place (λ t. one_by_one t.pid (findings_for a.options bytes) ≡ true) input.streams k t alike.alone at
 
 -- 5. All are moved by the constant of their clock

@@ -9,9 +9,8 @@ use Rattle.description_parts.specs.Ranges.{IsInRange}
 use Rattle.demux.specs.Views.{FindingView}
 use Rattle.slot_plan.specs.Conditions.{IsServing}
 use Rattle.mux_core.specs.WholeJobs.{job_history, output_of}
-use Rattle.es_units.specs.ApartUnits.{apart_wire_units}
-use Rattle.es_units.specs.CarriedUnits.{wire_units}
-use Rattle.es_units.specs.Merging.{AreMerged}
+use Rattle.es_units.specs.CarriedUnits.{wire_units, apart_wire_units}
+use Rattle.es_moments.specs.Merging.{AreMerged}
 use Rattle.job_inputs.specs.ClockConstants.{HasConstants, IsMovedBy, clock_of}
 use Rattle.job_programs.specs.FoundUnits.{AreMoved, source_of}
 use Rattle.job_inputs.specs.JobInput.{JobInputView}

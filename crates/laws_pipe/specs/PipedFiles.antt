@@ -5,8 +5,7 @@ use Rattle.clap.specs.Words.{Text}
 use Rattle.description_parts.specs.Described.{DescribedStream}
 use Rattle.pes_packet.specs.AccessUnits.{AccessUnit}
 use Rattle.demux.specs.Views.{FindingView}
-use Rattle.es_units.specs.ApartUnits.{apart_wire_units}
-use Rattle.es_units.specs.CarriedUnits.{wire_units}
+use Rattle.es_units.specs.CarriedUnits.{wire_units, apart_wire_units}
 use Rattle.job_inputs.specs.JobInput.{JobInputView, job_input}
 use Rattle.job_programs.specs.JobOptions.{JobOptionsView}
 use Rattle.job_inputs.specs.JoinedInputs.{JoinedInputsView, findings_in}

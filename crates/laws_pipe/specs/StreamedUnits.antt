@@ -7,12 +7,12 @@ use Rattle.description_parts.specs.Described.{Described}
 use Rattle.description_parts.specs.Ranges.{IsInRange}
 use Rattle.packet_sync.specs.Slips.{carried}
 use Rattle.data_times.specs.DataTimes.{is_unstamped, seen_in}
-use Rattle.es_units.specs.Merging.{AreMerged}
+use Rattle.es_moments.specs.Merging.{AreMerged}
 use Rattle.es_feed.specs.EachStream.{one_by_one, units_fed}
-use Rattle.es_feed.specs.Feeding.{Fed}
+use Rattle.fed_streams.specs.Feeding.{Fed}
 use Rattle.es_feed.specs.MovedApart.{after_time}
 use Rattle.es_feed.specs.FedLines.{fed_records}
-use Rattle.es_feed.specs.Records.{records_of}
+use Rattle.es_records.specs.Records.{records_of}
 use Rattle.given_marks.specs.Marking.{MarkingView, is_aligned, type_of}
 use Rattle.job_inputs.specs.AskedMarks.{marking_of}
 use Rattle.job_inputs.specs.ClockConstants.{clock_of}
@@ -60,6 +60,8 @@ pub record AreAlike (a : JobArgumentsView) (w : JobOptionsView) (d : Described) 
   pub pids : map (λ s. s.pid) d.streams ≡ map (λ t. t.pid) input.streams
   -- the DTS are the stream's own, and the programs of the streams are on one clock
   pub own : a.options.make_dts ≡ false
+  -- no parts are joined
+  pub unjoined : a.options.joined ≡ false
   pub clock : ProgramClock
   pub one_clock : All (λ t. clock_of input.programs t ≡ clock) input.streams
   -- each unit is one PES packet that nothing interrupts

@@ -16,7 +16,8 @@ pub fn written_is_read()
 /// packets on the PID of each stream of the job are all units that it finds there in the input, and no other: in order,
 /// their bytes the same, with the marks that are asked for, their stamps later by a constant, modulo 2^33, which is one
 /// for all programs of a clock of the input. If units of a data stream in a row have one DTS, all but the last are
-/// decoded a little earlier. Teletext without stamps has in the input the moments at which it came.
+/// decoded a little earlier. Teletext without stamps has in the input the moments at which it came; with `--joined`, the
+/// parts of a joined recording have there the stamps that they have one after another.
 ///
 /// A device that fails, or memory that runs out, ends either program earlier, with status 3. The writer held nothing
 /// before, and its bytes are known; what a demultiplexer finds is said of jobs whose units are due within 2^40 units of
@@ -41,7 +42,8 @@ pub fn joined_is_read()
 /// that it finds in the input where the stream was found, on the PID that it had there, and no other: in order, their
 /// bytes the same, with the marks that are asked for, their stamps later by a constant, modulo 2^33, which is one for
 /// all programs of a clock of that input. If units of a data stream in a row have one DTS, all but the last are decoded
-/// a little earlier. Teletext without stamps has in the input the moments at which it came.
+/// a little earlier. Teletext without stamps has in the input the moments at which it came; with `--joined`, the parts of
+/// a joined recording have there the stamps that they have one after another.
 ///
 /// A device that fails, a file that can't be opened or read, or memory that runs out, ends `tsjob` with status 3. The
 /// writer held nothing before, and its bytes are known, the files' need not be; what a demultiplexer finds is said of
@@ -58,10 +60,10 @@ pub fn joined_goes_through()
 /// `tsjob units --stream` went by a description of the job's streams over the same bytes to their end and reported
 /// nothing (`same`).
 ///
-/// This is so for a job whose DTS are the stream's own and whose programs are on one clock, if its streams begin within
-/// three seconds of one another, none is teletext without stamps, each of their units is one PES packet that nothing
-/// interrupts, and both ways ask for the same marks. They do if neither asks for `--mark-access` and both ask for the
-/// same `--aligned`, or for none (`marks`).
+/// This is so for a job whose DTS are the stream's own (no `--make-dts`, no `--joined`) and whose programs are on one
+/// clock, if its streams begin within three seconds of one another, none is teletext without stamps, each of their
+/// units is one PES packet that nothing interrupts, and both ways ask for the same marks. They do if neither asks for
+/// `--mark-access` and both ask for the same `--aligned`, or for none (`marks`).
 pub fn streamed_as_whole()
     ensures same { TheSameUnits }
     ensures marks { AskAlike }

@@ -59,10 +59,10 @@ places es = map (λ (e : Entry). 188 * e.index + 10) es
 abbrev pub clock_packet : ℕ → ℕ → ℕ → ℕ → PacketView
 clock_packet rate base0 pid index = pcr_view pid (pcr_at rate base0 (188 * index + 10))
 
-ticks_again : (t : ℕ) → t < 2576980377600 → t / 300 % 8589934592 * 300 + t % 300 ≡ t
+pub ticks_again : (t : ℕ) → t < 2576980377600 → t / 300 % 8589934592 * 300 + t % 300 ≡ t
 ticks_again t low = omega (arith, low)
 
-ticks_low : (rate base0 i : ℕ) → pcr_ticks rate base0 i < 2576980377600
+pub ticks_low : (rate base0 i : ℕ) → pcr_ticks rate base0 i < 2576980377600
 ticks_low rate base0 i = omega arith
 
 pub sample_is : (rate base0 pid index : ℕ) (options : ViewOptions) → options.arrival ≡ AtRate rate → index < most_packets →
@@ -94,13 +94,13 @@ unfoldable pub ClockIs : ViewOptions → ℕ → ℕ → ℕ → ℕ → ℕ →
 ClockIs options rate base0 limit slots pid index clock es =
     (AreClocks rate base0 pid es × IsReference rate base0 limit slots index clock es) ⊎ ((clock ≡ None) × NoClocks options es)
 
-later_reference : (rate base0 limit slots index : ℕ) (clock : Option PcrSample) (es : List Entry) → IsReference rate base0 limit slots index clock es →
+pub later_reference : (rate base0 limit slots index : ℕ) (clock : Option PcrSample) (es : List Entry) → IsReference rate base0 limit slots index clock es →
     IsReference rate base0 limit slots (index + 1) clock es
 unfolding IsReference
 later_reference rate base0 limit slots index None es h = h
 later_reference rate base0 limit slots index (Some clock) es h = (h.0, (h.1.0, (omega (arith, h.1.1.0), h.1.1.1)))
 
-next_reference : (rate base0 limit slots index : ℕ) (clock : Option PcrSample) (e : Entry) (es : List Entry) → e.index ≡ index →
+pub next_reference : (rate base0 limit slots index : ℕ) (clock : Option PcrSample) (e : Entry) (es : List Entry) → e.index ≡ index →
     IsReference rate base0 limit slots index clock (e ∷ es) →
     IsReference rate base0 limit slots (index + 1) (Some (reference_at rate base0 index)) es
 unfolding IsReference Recur

@@ -1,13 +1,13 @@
 -- A multiplexing buffer whose bytes all find room has no excess.
-use Rattle.std.proofs.Common.{◌≡◌, ◌∙◌, sym, ℕ, ◌+◌, ◌-◌, ◌*◌, ◌≤◌, max, Bool, true, false, List, [], ◌∷◌, ◌++◌, Option, Some, None, if◌then◌else◌, refl, ap}
-use Rattle.std.proofs.Common.{subst, inl, inr, arith}
+use Rattle.std.proofs.Common.{◌≡◌, ◌∙◌, sym, ℕ, ◌+◌, ◌-◌, ◌*◌, max, Bool, true, false, List, [], ◌∷◌, ◌++◌, Option, Some, None, if◌then◌else◌, refl, ap}
+use Rattle.std.proofs.Common.{subst, inl, inr}
 use Rattle.std.specs.Prelude.{flat_map}
 use Rattle.std.proofs.lemmas.Bool.Decides.{eqb_tells}
 use Rattle.std.proofs.lemmas.List.{append_assoc, append-nil}
 use Rattle.clock27.specs.Departure.{last_left}
 use Rattle.arrival.specs.declared.arrival.Arrival.{Arrival}
 use Rattle.arrival.specs.Arrivals.{times_at}
-use Rattle.tstd_rows.specs.Excesses.{AreOver, excess_after, excesses_ended}
+use Rattle.tstd_rows.specs.Excesses.{AreOver, excesses_ended}
 use Rattle.tstd_rows.specs.declared.excess.Excess.{Excess}
 use Rattle.tstd_rows.specs.History.{Part, left_after, payload_left}
 use Rattle.tstd_rows.specs.declared.unit_seen.DueTime.{DueTime}

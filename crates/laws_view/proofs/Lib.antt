@@ -63,3 +63,10 @@ pub mod RateWindows
 pub mod ClockedTables
 pub mod FirstWindows
 pub mod ClockedWindows
+pub mod ViewedCounters
+pub mod MuxedTables
+pub mod ViewedFindings
+pub mod ViewedSections
+pub mod ReferenceReports
+pub mod WatchedReferences
+pub mod ViewedReferences

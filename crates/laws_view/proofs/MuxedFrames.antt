@@ -1,5 +1,5 @@
 -- The main buffers of a run that a multiplexer wrote, in a view by access units.
-use Rattle.std.proofs.Common.{◌≡◌, ◌∙◌, sym, ℕ, zero, suc, ◌+◌, ◌-◌, ◌*◌, ◌/◌, ◌≤◌, false, List, [], ◌∷◌, ◌++◌, length, map, take, drop, None, Some, refl, ap}
+use Rattle.std.proofs.Common.{◌≡◌, ◌∙◌, sym, ℕ, zero, suc, ◌-◌, ◌*◌, ◌/◌, ◌≤◌, false, List, [], ◌∷◌, ◌++◌, length, map, take, drop, None, Some, refl, ap}
 use Rattle.std.proofs.Common.{ap₂, subst, arith, All, length-take-le}
 use Rattle.std.specs.Prelude.{slice_get}
 use Rattle.std.specs.List.{sum_by}
@@ -73,7 +73,7 @@ chunk_sizes (suc k) bytes whole =
     All-cons (λ b. length b ≡ 188) (take 188 bytes) (first_chunks 188 k (drop 188 bytes)) (length-take-le 188 bytes (omega (arith, whole)))
     (chunk_sizes k (drop 188 bytes) (omega (arith, many, whole)))
 
-packet_sizes_are : (bytes : List ℕ) → All (λ b. length b ≡ 188) (cut_packets bytes)
+pub packet_sizes_are : (bytes : List ℕ) → All (λ b. length b ≡ 188) (cut_packets bytes)
 packet_sizes_are bytes = chunk_sizes (length bytes / 188) bytes (omega arith)
 
 -- the sizes of packets add up

@@ -1,6 +1,6 @@
 -- An elementary stream buffer that never holds more than its size has no excess.
-use Rattle.std.proofs.Common.{◌≡◌, ◌∙◌, sym, ℕ, ◌+◌, ◌-◌, ◌*◌, ◌≤◌, nat_lt, Bool, true, false, List, [], ◌∷◌, Option, Some, None, if◌then◌else◌, refl, ap}
-use Rattle.std.proofs.Common.{subst, inl, inr, arith}
+use Rattle.std.proofs.Common.{◌≡◌, ◌∙◌, ℕ, ◌+◌, ◌-◌, ◌*◌, ◌≤◌, nat_lt, Bool, true, false, List, [], ◌∷◌, Option, Some, None, if◌then◌else◌, refl, ap}
+use Rattle.std.proofs.Common.{inl, inr, arith}
 use Rattle.std.specs.Prelude.{flat_map}
 use Rattle.std.specs.Option.{option_to_list}
 use Rattle.std.proofs.lemmas.Bool.{le-ltb}
@@ -13,11 +13,10 @@ use Rattle.tstd_rows.specs.History.{Part}
 use Rattle.tstd_rows.specs.History.Part.{Passes, Carries, Begins}
 use Rattle.tstd_rows.specs.MainExcess.{ended_at}
 use Rattle.tstd_rows.specs.VideoViewed.{elementary_held, leaked_after}
-use Rattle.tstd_rows.specs.declared.unit_seen.DueTime.{DueTime}
 use Rattle.tstd_rows.specs.declared.arriving.Arriving.{Arriving}
 use Rattle.tstd_rows.specs.Held.{Held, carried, passed}
-use Rattle.tstd_rows.specs.HeldVideo.{VideoEnteredView, VideoSizes, elementary_found, elementary_under_way, last_entry, nothing_found, video_found}
-use Rattle.tstd_rows.specs.Entering.{after, after_begin, after_header, after_lead, after_payload, after_unit, lead_in, size_of, takes_in, with_packet}
+use Rattle.tstd_rows.specs.HeldVideo.{VideoSizes, elementary_found, elementary_under_way, last_entry, nothing_found, video_found}
+use Rattle.tstd_rows.specs.Entering.{after, after_header, after_lead, after_payload, after_unit, lead_in, size_of, takes_in, with_packet}
 use Rattle.tstd_rows.specs.EnteringVideo.{payload_video, video_of, video_with}
 use Rattle.laws_view.specs.StreamPackets.{after_each}
 use Rattle.laws_view.specs.VideoExcesses.{video_each}

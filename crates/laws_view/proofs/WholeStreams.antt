@@ -1,5 +1,5 @@
 -- The last events of a stream.
-use Rattle.std.proofs.Common.{◌≡◌, ◌∙◌, sym, ap, refl, ℕ, List, ◌++◌, ◌∷◌, [], Option, None}
+use Rattle.std.proofs.Common.{◌≡◌, ◌∙◌, sym, ap, refl, ℕ, List, ◌++◌, ◌∷◌, [], None}
 use Rattle.std.proofs.lemmas.List.{append_assoc}
 use Rattle.events.specs.declared.event.Event.{Event}
 use Rattle.es_view.specs.EntryEvents.{main_event, main_figures, transport_total, under_way_events}

@@ -7,6 +7,7 @@ pub mod MeasuredStreams
 pub mod MuxedStreams
 pub mod MainExcesses
 pub mod ViewedRuns
+pub mod ViewedReferences
 pub mod VideoExcesses
 pub mod FrameExcesses
 pub mod WindowLows
@@ -16,3 +17,6 @@ pub mod WindowHighs
 pub mod TransportHighs
 pub mod FirstHighs
 pub mod AsMeasured
+pub mod ViewedCounters
+pub mod MuxedTables
+pub mod ViewedSections

@@ -2,7 +2,7 @@
 --
 -- At a constant rate byte i of a stream arrives 8 i / rate seconds after its first. At buffers that are drained at `rx` bits a second times
 -- are in units of 8 / (rate * rx) seconds.
-use Rattle.std.specs.Prelude.{◌≡◌, ℕ, ◌<◌, ◌≤◌, List, [], ◌∷◌, ◌++◌, length, slice_get, count_by, flat_map, Some, None}
+use Rattle.std.specs.Prelude.{◌≡◌, ℕ, ◌<◌, ◌≤◌, List, ◌∷◌, ◌++◌, length, slice_get, count_by, flat_map, Some, None}
 use Rattle.std.specs.Option.{option_to_list}
 use Rattle.clock27.specs.Arrival.{arrivals}
 use Rattle.clock27.specs.Departure.{departures}

@@ -8,10 +8,14 @@ ghost use Rattle.laws_view.specs.HeldWindows.{FirstWindowLaw, HeldWindowLaw, Tim
 ghost use Rattle.laws_view.specs.MainExcesses.{NoMainExcessLaw, TimedNoExcessLaw};
 ghost use Rattle.laws_view.specs.MeasuredStreams.{MeasuredStreamLaw};
 ghost use Rattle.laws_view.specs.MuxedStreams.{JobNoExcessLaw, MuxedStreamLaw};
+ghost use Rattle.laws_view.specs.MuxedTables.{JobTablesLaw, RunTablesLaw};
 ghost use Rattle.laws_view.specs.TimedStreams.{ClockedStreamLaw, RateOrderLaw, TimedStreamLaw};
 ghost use Rattle.laws_view.specs.TransportHighs.{ClockedTransportLaw, RateTransportLaw, TimedTransportLaw, TransportHighLaw, TransportWithoutLaw, WindowTransportLaw};
 ghost use Rattle.laws_view.specs.VideoExcesses.{JobElementaryLaw, JobMultiplexingLaw, RunElementaryLaw, RunMultiplexingLaw};
+ghost use Rattle.laws_view.specs.ViewedCounters.{JobCountersLaw, RunCountersLaw, ViewedCountersLaw};
+ghost use Rattle.laws_view.specs.ViewedReferences.{JobReferencesLaw, RunReferencesLaw};
 ghost use Rattle.laws_view.specs.ViewedRuns.{JobFirstLaw, JobLateLaw, JobLateUnitsLaw, JobMainLaw, RunFirstLaw, RunLateLaw, RunLateUnitsLaw, RunMainLaw};
+ghost use Rattle.laws_view.specs.ViewedSections.{JobCheckWordsLaw, RunCheckWordsLaw};
 ghost use Rattle.laws_view.specs.WholeStreams.{LastEventsLaw, WholeStreamLaw};
 ghost use Rattle.laws_view.specs.WindowHighs.{ClockedHighLaw, HighWithoutLaw, RateHighLaw, TimedHighLaw, WholeHighLaw, WindowHighLaw, WindowMostLaw};
 ghost use Rattle.laws_view.specs.WindowLows.{WholeWindowLaw, WindowLeastLaw, WindowLowLaw, WindowWithoutLaw};
@@ -121,6 +125,13 @@ pub fn muxed_units()
     ensures jobs { JobLateLaw }
 {}
 
+/// States that no clock reference of it has an error (ETSI TR 101 290, 5.2.2, 2.3.a, 2.3.b and 2.4): each comes at most 100 ms after the one
+/// before it on its PID, with a value within a tick of its place.
+pub fn muxed_references()
+    ensures run { RunReferencesLaw }
+    ensures jobs { JobReferencesLaw }
+{}
+
 /// States that there is no excess of the elementary stream buffer of video there either (ISO/IEC 13818-1, 2.4.2.3),
 /// wherever the stream's buffers begin: its line says no more than its size, if that is the size of the description.
 /// Nor is there one of its multiplexing buffer, although the view rounds up the time that a byte takes to leave it.
@@ -153,4 +164,26 @@ pub fn muxed_as_measured()
     ensures jobs { JobAsMeasuredLaw }
     ensures late_run { RunLateAsMeasuredLaw }
     ensures late_jobs { JobLateAsMeasuredLaw }
+{}
+
+/// States that the events `continuity` of a view of any stream are the errors of continuity_counter in its bytes (ETSI
+/// TR 101 290, 5.2.1, 1.4), and that a view of the output of a multiplexer has none.
+pub fn viewed_counters()
+    ensures viewed { ViewedCountersLaw }
+    ensures run { RunCountersLaw }
+    ensures jobs { JobCountersLaw }
+{}
+
+/// States that in the output of a multiplexer, at its rate, no section of the PAT, of the NIT of the actual network, of
+/// the SDT of the actual stream and of the TDT is late by the rules of a view (ETSI TR 101 290, 1.3.a, 3.1.a, 3.5.a and
+/// 3.8).
+pub fn muxed_tables()
+    ensures run { RunTablesLaw }
+    ensures jobs { JobTablesLaw }
+{}
+
+/// States that no event of a view of this output is of a section with a wrong check word (ETSI TR 101 290, 5.2.2, 2.2).
+pub fn muxed_check_words()
+    ensures run { RunCheckWordsLaw }
+    ensures jobs { JobCheckWordsLaw }
 {}

@@ -8,7 +8,7 @@ use Rattle.slot_contents.specs.Contents.{Content, packet_of}
 use Rattle.counted_io.specs.Device.{Failed}
 use Rattle.slot_plan.specs.Schedule.{single, switched}
 use Rattle.plan_checker.specs.Served.{Served}
-use Rattle.plan_checker.specs.Followed.{Followed}
+use Rattle.switch_checker.specs.Followed.{Followed}
 use Rattle.unit_queue.specs.declared.refusal.FeedError.{FeedError}
 use Rattle.mux_core.specs.Scheduled.{Scheduled}
 use Rattle.mux_core.specs.Histories.{History, content_at}

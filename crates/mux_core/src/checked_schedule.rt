@@ -6,10 +6,11 @@ ghost use Rattle.slot_plan.specs.Schedule.{slot_of, repeated, single, switched};
 ghost use Rattle.plan_timing.specs.Promised.{Promised};
 ghost use Rattle.mux_core.specs.Scheduled.{scheduled_of};
 
-use plan_checker::{CheckedPlan, CheckedSwitch};
+use plan_checker::CheckedPlan;
 use slot_plan::{Description, Slot};
 use std::alloc::{Allocator, Global};
 use std::marker::Model;
+use switch_checker::CheckedSwitch;
 
 /// One plan over and over, or one plan for a number of its periods and then a second.
 #[derive(Drop)]

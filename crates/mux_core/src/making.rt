@@ -13,9 +13,10 @@ ghost use Rattle.mux_core.specs.NewMux.{first_queue, first_carousel, first_carou
 use crate::checked_schedule::CheckedSchedule;
 use crate::done::NewError;
 use crate::multiplexer::{MAX_SLOTS, Mux};
-use plan_checker::{CheckedPlan, CheckedSwitch};
+use plan_checker::CheckedPlan;
 use slot_plan::{Description, StreamDescription};
 use std::alloc::{AllocError, Allocator};
+use switch_checker::CheckedSwitch;
 use table_rounds::TableCarousel;
 use unit_queue::{StreamParameters, UnitQueue};
 

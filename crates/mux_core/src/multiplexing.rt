@@ -18,9 +18,10 @@ use crate::multiplexer::{MAX_SLOTS, Mux};
 use counted_io::Sink;
 use packet_output::{OutputFault, PacketOutput};
 use pes_packet::Unit;
-use plan_checker::{CheckedPlan, CheckedSwitch};
+use plan_checker::CheckedPlan;
 use std::alloc::Allocator;
 use std::collections::VecDeque;
+use switch_checker::CheckedSwitch;
 use thiserror::Error;
 use unit_queue::FeedError;
 

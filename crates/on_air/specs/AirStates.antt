@@ -6,7 +6,7 @@ use Rattle.pes_packet.specs.Units.{units_of}
 use Rattle.packet_output.specs.Buffer.{waiting_of, Buffered, IsOutput}
 use Rattle.unit_records.specs.Records.{head_size, size_at}
 use Rattle.plan_checker.specs.Served.{Served}
-use Rattle.plan_checker.specs.Followed.{Followed}
+use Rattle.switch_checker.specs.Followed.{Followed}
 use Rattle.plan_timing.specs.Promised.{Promised}
 use Rattle.mux_core.specs.Headline.{Headline}
 use Rattle.mux_core.specs.Histories.{History, bytes_of}

@@ -16,9 +16,10 @@ use crate::options::Terms;
 use clock27::Rate;
 use mux_core::{Mux, NewError};
 use packet_output::PacketOutput;
-use plan_checker::{CheckedPlan, CheckedSwitch};
+use plan_checker::CheckedPlan;
 use slot_plan::Description;
 use std::alloc::Allocator;
+use switch_checker::CheckedSwitch;
 
 impl<A: Allocator + Copy> OnAir<A> {
     /// Returns a run over a plan, before its first slot.

@@ -4,7 +4,7 @@ ghost use Rattle.std.specs.Prelude.{◌≡◌, option_map};
 ghost use Rattle.std.specs.List.{list_all};
 ghost use Rattle.option_lists.specs.JobValues as spec;
 
-use crate::moment::names_moment;
+use description_values::moments::moment_of;
 use devices::number_in;
 use given_values::{ClockBase, DeclareBy};
 
@@ -51,7 +51,7 @@ fn is_of_times(text: &str) -> bool
 fn is_moment(text: &str) -> bool
     ensures { result ≡ spec.is_moment text.now }
 {
-    is_of_times(text) && names_moment(text.as_bytes())
+    is_of_times(text) && moment_of(text.as_bytes()).is_some()
 }
 
 /// Returns the moment of the first slot, if it is given; none if a description can't name such a moment.

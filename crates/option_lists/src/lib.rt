@@ -2,14 +2,13 @@
 //!
 //! A list has parts with commas between them: numbers, or fields with colons between. Each list is empty if the option
 //! is not given; a list with a part that is not of its kind or out of its range is none (`specs/Lists`). `name_lists`
-//! reads the names of services and of the network (`specs/NameLists`); `job_values` reads a moment (by
-//! `moment`), the base of the clock, and by what packets are declared (`specs/JobValues`). `scaled` reads a number with
-//! a unit after it (`specs/Scaled`).
+//! reads the names of services and of the network (`specs/NameLists`); `job_values` reads a moment, the base of the
+//! clock, and by what packets are declared (`specs/JobValues`). `scaled` reads a number with a unit after it
+//! (`specs/Scaled`).
 #![tactic(auto)]
 
 mod job_values;
 mod lists;
-mod moment;
 mod name_lists;
 mod scaled;
 

@@ -5,7 +5,6 @@ use Rattle.page_charts.specs.Slots as slots
 use Rattle.page_charts.specs.declared.frame.ChartUnit.{ChartUnit}
 use Rattle.page_charts.specs.declared.frame.Frame.{Frame}
 use Rattle.page_charts.specs.declared.pid_curves.PidCurve.{PidCurve}
-use Rattle.page_charts.specs.Numbers.{grouped}
 use Rattle.page_charts.specs.PidLabels.{LabelsState, pid_text}
 use Rattle.page_charts.specs.Scale.{height_of}
 use Rattle.page_charts.specs.Frames.{scales_text, top_value, unit_name, value_text}
@@ -57,13 +56,13 @@ unfoldable pub limit_head : ℕ → List ℕ
 limit_head y = codes "\"/><path class=\"limit\" d=\"M900 " ++ (decimal y ++ (codes "H9500\"/><text class=\"end\" x=\"9490\" y=\"" ++ (decimal y
     ++ codes "\" dy=\"-.4em\">limit ")))
 
-unfoldable pub limit_line : ℕ → ℕ → List ℕ
-limit_line limit y = limit_head y ++ (grouped limit ++ codes "</text>\n")
+unfoldable pub limit_line : ChartUnit → ℕ → ℕ → List ℕ
+limit_line unit limit y = limit_head y ++ (value_text unit limit ++ codes "</text>\n")
 
 unfoldable pub limit : Frame → PidCurve → List ℕ
 limit f entry =
     codes "<path class=\"over\" d=\""
-    ++ (numbered (over f entry.limit entry.curve.span) 0 entry.curve.slots ++ limit_line entry.limit (height_of (top_value f) entry.limit))
+    ++ (numbered (over f entry.limit entry.curve.span) 0 entry.curve.slots ++ limit_line f.unit entry.limit (height_of (top_value f) entry.limit))
 
 abbrev pub limit_if : Frame → PidCurve → List ℕ
 limit_if f entry = if nat_lt 0 entry.limit then limit f entry else []
@@ -82,4 +81,4 @@ unfoldable pub picture : List ℕ → Frame → LabelsState → List PidCurve �
 picture name f labels order curves = picture_head name ++ (scales_text f ++ (flat_map (curve f labels order) curves ++ codes "</svg>\n"))
 
 abbrev pub chart : List ℕ → Frame → LabelsState → List PidCurve → List PidCurve → List ℕ
-chart name f labels order curves = keys f.unit labels order curves ++ (picture name f labels order curves ++ values.table f curves)
+chart name f labels order curves = keys f.unit labels order curves ++ (picture name f labels order curves ++ values.table (codes "PID") f curves)

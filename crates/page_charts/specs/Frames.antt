@@ -2,7 +2,7 @@
 use Rattle.std.specs.Prelude.{ℕ, ◌+◌, ◌-◌, ◌*◌, ◌/◌, ◌^◌, min, max, nat_lt, if◌then◌else◌, List, [], ◌++◌, codes, decimal, flat_map, Option, Some, None}
 use Rattle.page_charts.specs.declared.bounds.Bounds.{Bounds}
 use Rattle.page_charts.specs.declared.frame.ChartUnit.{ChartUnit}
-use Rattle.page_charts.specs.declared.frame.ChartUnit.TheVariants.{BitRate, Bytes, Time}
+use Rattle.page_charts.specs.declared.frame.ChartUnit.TheVariants.{BitRate, Bytes, Time, Nanoseconds}
 use Rattle.page_charts.specs.declared.frame.Frame.{Frame}
 use Rattle.page_charts.specs.declared.frame_text.TheConstants.{FIFTHS, STEP_COUNTS}
 use Rattle.page_charts.specs.declared.scale.TheConstants.{GREATEST_VALUE, LEFT, WIDTH}
@@ -17,6 +17,7 @@ unfoldable pub least_top : ChartUnit → ℕ
 least_top BitRate = 10000
 least_top Bytes = 10
 least_top Time = 10000
+least_top Nanoseconds = 10
 
 abbrev pub frame : ChartUnit → ℕ → ℕ → ℕ → Frame
 frame unit windows millis greatest = record { unit = unit; windows = windows; millis = millis; top = scale_for (max greatest (least_top unit)) }
@@ -44,6 +45,7 @@ unfoldable pub shown_of : ChartUnit → ℕ → Option Bounds → Option Bounds
 shown_of BitRate windows b = Some (with_absent b windows)
 shown_of Bytes windows b = b
 shown_of Time windows b = b
+shown_of Nanoseconds windows b = b
 
 abbrev pub shown : Frame → ℕ → ℕ → Option Bounds → Option Bounds
 shown f span slot b = shown_of f.unit (windows_in f span slot) b
@@ -53,16 +55,18 @@ slots_of f span = slots_in (window_count f) span
 
 -- 2. Its scales
 
--- bit rates in kbit/s, bytes, and times in ms
+-- bit rates in kbit/s, bytes, and times in ms or in ns
 unfoldable pub value_text : ChartUnit → ℕ → List ℕ
 value_text BitRate value = tenths value 1000
 value_text Bytes value = grouped value
 value_text Time value = tenths value 1000
+value_text Nanoseconds value = grouped value
 
 unfoldable pub unit_name : ChartUnit → List ℕ
 unit_name BitRate = codes "kbit/s"
 unit_name Bytes = codes "bytes"
 unit_name Time = codes "ms"
+unit_name Nanoseconds = codes "ns"
 
 unfoldable pub level_line : ℕ → List ℕ
 level_line y =

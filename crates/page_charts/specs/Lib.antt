@@ -13,3 +13,5 @@ pub mod ValueTables
 pub mod Charts
 pub mod Strips
 pub mod StripTables
+pub mod Stacks
+pub mod Branches

@@ -1,4 +1,4 @@
--- What PIDs carry, by the lines that have come: the program of each and a word for what it carries of it, and the names of programs' services.
+-- What PIDs carry, by the lines that have come: the program of each and a word for what it carries of it, the names of programs' services, and all PIDs.
 use Rattle.std.specs.Prelude.{ℕ, nat_eq, List, [], ◌++◌, codes, decimal, Option, Some, None}
 use Rattle.std.specs.Map.{lookup}
 use Rattle.indexmap.specs.IndexMap.{insert_entry}
@@ -6,20 +6,24 @@ use Rattle.events.specs.declared.pid_name.PidName.{PidName}
 use Rattle.page_charts.specs.declared.pid_labels.PidProgram.{PidProgram}
 use Rattle.events.specs.PidNames.{of_pid, word}
 
--- by PID, and by program; a name is text of a page
+-- by PID, by program, and by PID; a name of a service is text of a page
 pub record LabelsState : Type 0 where
   pub programs : List (ℕ × PidProgram)
   pub services : List (ℕ × List ℕ)
+  pub names : List (ℕ × PidName)
 
 abbrev pub no_labels : LabelsState
-no_labels = record { programs = []; services = [] }
+no_labels = record { programs = []; services = []; names = [] }
 
 -- the last one counts
 abbrev pub with_program : ℕ → PidProgram → LabelsState → LabelsState
-with_program pid p l = record { programs = insert_entry nat_eq l.programs pid p; services = l.services }
+with_program pid p l = record { programs = insert_entry nat_eq l.programs pid p; services = l.services; names = l.names }
 
 abbrev pub with_service : ℕ → List ℕ → LabelsState → LabelsState
-with_service program name l = record { programs = l.programs; services = insert_entry nat_eq l.services program name }
+with_service program name l = record { programs = l.programs; services = insert_entry nat_eq l.services program name; names = l.names }
+
+abbrev pub with_pid : ℕ → PidName → LabelsState → LabelsState
+with_pid pid name l = record { programs = l.programs; services = l.services; names = insert_entry nat_eq l.names pid name }
 
 -- the number of the program of a PID, 0 if none is known
 unfoldable pub number_of : Option PidProgram → ℕ

@@ -3,7 +3,7 @@ use Rattle.std.specs.Prelude.{ℕ, ◌-◌, ◌*◌, ◌/◌, ◌^◌, ◌==◌,
 use Rattle.std.specs.Prelude.{length, Option, Some, None}
 use Rattle.page_charts.specs.declared.bounds.Bounds.{Bounds}
 use Rattle.page_charts.specs.declared.frame.ChartUnit.{ChartUnit}
-use Rattle.page_charts.specs.declared.frame.ChartUnit.TheVariants.{BitRate, Bytes, Time}
+use Rattle.page_charts.specs.declared.frame.ChartUnit.TheVariants.{BitRate, Bytes, Time, Nanoseconds}
 use Rattle.page_charts.specs.declared.frame.Frame.{Frame}
 use Rattle.page_charts.specs.declared.pid_curves.PidCurve.{PidCurve}
 use Rattle.page_charts.specs.Numbers.{tenths}
@@ -15,11 +15,12 @@ use Rattle.page_charts.specs.Slots.{CurveView, slot_at}
 abbrev pub begin_of : Frame → ℕ → ℕ → ℕ
 begin_of f span slot = min (min (span * slot) (2 ^ 64 - 1) * f.millis) (2 ^ 64 - 1)
 
--- the least difference of two values that are written differently: tenths of kbit/s and of ms, and bytes
+-- the least difference of two values that are written differently: tenths of kbit/s and of ms, bytes, and ns
 unfoldable pub step_of : ChartUnit → ℕ
 step_of BitRate = 100
 step_of Bytes = 1
 step_of Time = 100
+step_of Nanoseconds = 1
 
 -- whether two slots have the same values, as they are written, or both have none
 abbrev pub is_alike : ℕ → Bounds → Bounds → Bool
@@ -58,10 +59,11 @@ last_row f entry = if nat_lt (length entry.curve.slots) (slots_of f entry.curve.
 abbrev pub rows : Frame → PidCurve → List ℕ
 rows f entry = numbered (row f entry) 0 entry.curve.slots ++ last_row f entry
 
-unfoldable pub head : List ℕ → List ℕ
-head unit = codes
-    "<details><summary>These numbers</summary><table><caption>A row is left out if its values are those of the row above.</caption><tr><th scope=col>PID<th scope=col>from, s<th scope=col>least, "
-    ++ (unit ++ (codes "<th scope=col>greatest, " ++ (unit ++ codes "\n")))
+unfoldable pub head : List ℕ → List ℕ → List ℕ
+head owner unit = codes
+    "<details><summary>These numbers</summary><table><caption>A row is left out if its values are those of the row above.</caption><tr><th scope=col>"
+    ++ (owner ++ (codes "<th scope=col>from, s<th scope=col>least, " ++ (unit ++ (codes "<th scope=col>greatest, " ++ (unit ++ codes "\n")))))
 
-unfoldable pub table : Frame → List PidCurve → List ℕ
-table f curves = head (unit_name f.unit) ++ (flat_map (rows f) curves ++ codes "</table></details>\n")
+-- after the name of what the curves are of
+unfoldable pub table : List ℕ → Frame → List PidCurve → List ℕ
+table owner f curves = head owner (unit_name f.unit) ++ (flat_map (rows f) curves ++ codes "</table></details>\n")

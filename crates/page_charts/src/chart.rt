@@ -4,7 +4,6 @@ ghost use Rattle.page_charts.specs.Charts as spec;
 
 use crate::frame::{ChartUnit, Frame};
 use crate::frame_text::{unit_name, write_value};
-use crate::numbers::write_grouped;
 use crate::paths::{write_lows_back, write_overs, write_points};
 use crate::pid_curves::PidCurve;
 use crate::pid_labels::{PidLabels, write_pid};
@@ -45,8 +44,12 @@ fn write_sample(text: &mut String, class: usize) -> Result<(), AllocError>
     )
 }
 
-// A value with its unit.
-fn write_with_unit(text: &mut String, unit: ChartUnit, value: u64) -> Result<(), AllocError>
+/// Appends a value with its unit.
+pub(crate) fn write_with_unit(
+    text: &mut String,
+    unit: ChartUnit,
+    value: u64,
+) -> Result<(), AllocError>
     ensures { OnOk result (string_bytes text.new ≡ string_bytes text.old ++ spec.with_unit unit value) }
 {
     write_value(text, unit, value)?;
@@ -165,11 +168,16 @@ fn write_limit_head(text: &mut String, y: u64) -> Result<(), AllocError>
 
 // A limit: a line across the picture, and its value.
 #[tactic(auto, unfolding(crate::specs::Charts::limit_line))]
-fn write_limit_line(text: &mut String, limit: u64, y: u64) -> Result<(), AllocError>
-    ensures { OnOk result (string_bytes text.new ≡ string_bytes text.old ++ spec.limit_line limit y) }
+fn write_limit_line(
+    text: &mut String,
+    unit: ChartUnit,
+    limit: u64,
+    y: u64,
+) -> Result<(), AllocError>
+    ensures { OnOk result (string_bytes text.new ≡ string_bytes text.old ++ spec.limit_line unit limit y) }
 {
     write_limit_head(text, y)?;
-    write_grouped(text, limit)?;
+    write_value(text, unit, limit)?;
     text.push_str("</text>\n")
 }
 
@@ -186,7 +194,8 @@ fn write_limit(text: &mut String, frame: &Frame, entry: &PidCurve) -> Result<(),
         entry.curve.span(),
         entry.curve.slots(),
     )?;
-    write_limit_line(text, entry.limit, height_of(frame.top_value(), entry.limit))
+    let y = height_of(frame.top_value(), entry.limit);
+    write_limit_line(text, frame.unit, entry.limit, y)
 }
 
 // The limit, if there is one.
@@ -250,8 +259,9 @@ fn write_curves(
     Ok(())
 }
 
+/// Appends how a picture begins, with its name.
 #[tactic(auto, unfolding(crate::specs::Charts::picture_head))]
-fn write_picture_head(text: &mut String, name: &str) -> Result<(), AllocError>
+pub(crate) fn write_picture_head(text: &mut String, name: &str) -> Result<(), AllocError>
     ensures { OnOk result (string_bytes text.new ≡ string_bytes text.old ++ spec.picture_head name.now) }
 {
     write!(
@@ -295,5 +305,5 @@ pub fn write_chart(
 {
     write_keys(text, frame.unit, labels, order, curves)?;
     write_picture(text, name, frame, labels, order, curves)?;
-    write_value_table(text, frame, curves)
+    write_value_table(text, "PID", frame, curves)
 }

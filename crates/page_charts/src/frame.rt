@@ -1,11 +1,13 @@
 //! The scales of a picture.
 /// What a picture's values are: bit rates, in bits a second, where a window without a value has none of them; numbers
-/// of bytes; or times in microseconds. A window without a byte or a unit says nothing of these.
+/// of bytes; times in microseconds; or times in nanoseconds. A window without a byte, a unit or a clock reference says
+/// nothing of these.
 #[derive(Clone, Copy)]
 pub enum ChartUnit {
     BitRate,
     Bytes,
     Time,
+    Nanoseconds,
 }
 
 /// The scales of a picture: at most 2^38 windows of at most 2^22 milliseconds each, and values from 0 to `top`, 10^15

@@ -25,6 +25,7 @@ pub(crate) fn write_value(text: &mut String, unit: ChartUnit, value: u64) -> Res
         ChartUnit::BitRate => write_tenths(text, value, 1_000),
         ChartUnit::Bytes => write_grouped(text, value),
         ChartUnit::Time => write_tenths(text, value, 1_000),
+        ChartUnit::Nanoseconds => write_grouped(text, value),
     }
 }
 
@@ -37,6 +38,7 @@ pub(crate) fn unit_name(unit: ChartUnit) -> &'static str
         ChartUnit::BitRate => "kbit/s",
         ChartUnit::Bytes => "bytes",
         ChartUnit::Time => "ms",
+        ChartUnit::Nanoseconds => "ns",
     }
 }
 
@@ -117,6 +119,7 @@ fn least_top(unit: ChartUnit) -> u64
         ChartUnit::BitRate => 10_000,
         ChartUnit::Bytes => 10,
         ChartUnit::Time => 10_000,
+        ChartUnit::Nanoseconds => 10,
     }
 }
 
@@ -175,6 +178,7 @@ impl Frame {
             ChartUnit::BitRate => Some(with_absent(bounds, self.windows_in(span, slot))),
             ChartUnit::Bytes => bounds,
             ChartUnit::Time => bounds,
+            ChartUnit::Nanoseconds => bounds,
         }
     }
 

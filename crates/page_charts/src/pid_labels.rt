@@ -17,13 +17,15 @@ pub struct PidProgram {
     pub name: PidName,
 }
 
-/// The programs of PIDs, and the names of programs' services as text of a page: of each the last that was said.
+/// The programs of PIDs, the names of programs' services as text of a page, and a word for what each PID carries: of each
+/// the last that was said.
 ///
 /// After an `AllocError` they describe no stream: drop them.
 #[derive(Drop)]
 pub struct PidLabels {
     programs: IndexMap<u16, PidProgram, BuildHasherDefault<FoldHasher>, Global>,
     services: IndexMap<u16, String, BuildHasherDefault<FoldHasher>, Global>,
+    pub(crate) names: IndexMap<u16, PidName, BuildHasherDefault<FoldHasher>, Global>,
 }
 
 impl Model for PidLabels {
@@ -35,6 +37,7 @@ impl Model for PidLabels {
     ghost view = { λ l. record {
       programs = l.programs.entries;
       services = map (λ e. (e.0, string_bytes e.1)) l.services.entries;
+      names = l.names.entries;
     } };
 }
 
@@ -46,7 +49,16 @@ impl PidLabels {
         PidLabels {
             programs: IndexMap::new(alloc),
             services: IndexMap::new(alloc),
+            names: IndexMap::new(alloc),
         }
+    }
+
+    /// Notes a PID, and what it carries.
+    pub fn take_pid(&mut self, pid: u16, name: PidName) -> Result<(), AllocError>
+        ensures { OnOk result (self.new ≡ spec.with_pid pid name self.old) }
+    {
+        self.names.insert(pid, name)?;
+        Ok(())
     }
 
     /// Notes that a PID is of a program.

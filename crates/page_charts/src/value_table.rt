@@ -43,6 +43,7 @@ fn step_of(unit: ChartUnit) -> u64
         ChartUnit::BitRate => 100,
         ChartUnit::Bytes => 1,
         ChartUnit::Time => 100,
+        ChartUnit::Nanoseconds => 1,
     }
 }
 
@@ -186,27 +187,28 @@ fn write_all_rows(text: &mut String, frame: &Frame, curves: &[PidCurve]) -> Resu
     Ok(())
 }
 
-// The head of a table of values in a unit.
+// The head of a table of values in a unit, and what the curves are of.
 #[tactic(auto, unfolding(crate::specs::ValueTables::head))]
-fn write_head(text: &mut String, unit: &str) -> Result<(), AllocError>
-    ensures { OnOk result (string_bytes text.new ≡ string_bytes text.old ++ spec.head unit.now) }
+fn write_head(text: &mut String, owner: &str, unit: &str) -> Result<(), AllocError>
+    ensures { OnOk result (string_bytes text.new ≡ string_bytes text.old ++ spec.head owner.now unit.now) }
 {
     write!(
         text,
-        "<details><summary>These numbers</summary><table><caption>A row is left out if its values are those of the row above.</caption><tr><th scope=col>PID<th scope=col>from, s<th scope=col>least, {unit}<th scope=col>greatest, {unit}\n"
+        "<details><summary>These numbers</summary><table><caption>A row is left out if its values are those of the row above.</caption><tr><th scope=col>{owner}<th scope=col>from, s<th scope=col>least, {unit}<th scope=col>greatest, {unit}\n"
     )
 }
 
-/// Appends the numbers of curves as a table that opens, a row where they change.
+/// Appends the numbers of curves as a table that opens, a row where they change; after the name of what they are of.
 #[tactic(auto, unfolding(crate::specs::ValueTables::table))]
 pub(crate) fn write_value_table(
     text: &mut String,
+    owner: &str,
     frame: &Frame,
     curves: &[PidCurve],
 ) -> Result<(), AllocError>
-    ensures { OnOk result (string_bytes text.new ≡ string_bytes text.old ++ spec.table frame.now curves.now) }
+    ensures { OnOk result (string_bytes text.new ≡ string_bytes text.old ++ spec.table owner.now frame.now curves.now) }
 {
-    write_head(text, unit_name(frame.unit))?;
+    write_head(text, owner, unit_name(frame.unit))?;
     write_all_rows(text, frame, curves)?;
     text.push_str("</table></details>\n")
 }

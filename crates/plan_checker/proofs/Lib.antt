@@ -1,10 +1,8 @@
 pub mod SpreadClaims
 pub mod Counts
-pub mod SwitchEntries
 pub mod FailingSearch
 pub mod FailingLists
 pub mod OwnMarks
 pub mod Rounds
-pub mod SwitchGaps
 pub mod Leaks
 pub mod EmptyWalks

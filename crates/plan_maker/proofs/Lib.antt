@@ -8,3 +8,7 @@ pub mod OwnSlotCounts
 pub mod LeastShares
 pub mod LoadSums
 pub mod ReasonProofs
+pub mod BoundedProducts
+pub mod JoinedNumbers
+pub mod PlacedSlots
+pub mod DemandLists

@@ -6,3 +6,9 @@ pub mod Loads
 pub mod Reasons
 pub mod Codes
 pub mod Failures
+pub mod Bounded
+pub mod Joined
+pub mod Recurrences
+pub mod StreamNeeds
+pub mod Demands
+pub mod Placements

@@ -25,7 +25,9 @@ fn tasks_of<A: Allocator>(
     alloc: A,
     demands: &[Demand<'_>],
     period: u64,
-) -> Result<Result<Vec<PlacementTask, A>, usize>, AllocError> {
+) -> Result<Result<Vec<PlacementTask, A>, usize>, AllocError>
+    requires { period ≤ 65536 }
+{
     let mut tasks = Vec::new(alloc);
     for (i, demand) in demands.iter().enumerate() {
         match PlacementTask::new(demand, period) {
@@ -44,6 +46,7 @@ fn attempt<A: Allocator + Clone>(
     demands: &[Demand<'_>],
     period: u64,
 ) -> Result<Option<usize>, AllocError>
+    requires { period ≤ 65536 }
     ensures { OnOk result (length slots.new.items ≤ period) }
 {
     slots.clear();
@@ -77,6 +80,7 @@ fn period_slots<A: Allocator + Clone>(
     description: &Description,
     period: u64,
 ) -> Result<Option<Vec<Slot, A>>, AllocError>
+    requires { period ≤ 65536 }
     ensures { IfOk result (λ slots. IfSome slots (λ s. length s.items ≤ period)) }
 {
     let Some(demands) = demands(alloc.clone()?, description, period)? else {

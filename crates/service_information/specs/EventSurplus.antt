@@ -4,7 +4,7 @@ use Rattle.std.specs.List.{list_all, list_any}
 use Rattle.std.specs.Str.{bytes_eq}
 use Rattle.dvb_tables.specs.EventEntries.{EventView}
 use Rattle.demux.specs.Views.{FindingView}
-use Rattle.stream_programs.specs.Texts.{decode_text, has_unread}
+use Rattle.dvb_texts.specs.Texts.{decode_text, has_unread}
 use Rattle.service_information.specs.EventSections.{EventSectionView, event_section_found}
 use Rattle.service_information.specs.Events.{FoundEventView, event_in, is_among}
 use Rattle.service_information.specs.FirstFindings.{first_packet, has_table_id}

@@ -3,7 +3,7 @@ use Rattle.std.specs.Prelude.{ℕ, ◌==◌, ◌&&◌, nat_lt, Bool, false, if�
 use Rattle.std.specs.Prelude.{option_and_then}
 use Rattle.std.specs.Option.{option_or}
 use Rattle.descriptor_loops.specs.Descriptors.{DescriptorView, descriptors_in}
-use Rattle.stream_programs.specs.Services.{length_prefixed}
+use Rattle.ts_services.specs.Services.{length_prefixed}
 use Rattle.service_information.specs.declared.short_events.ShortEvent.{ShortEvent}
 
 -- ISO_639_language_code, and the texts as they are coded there

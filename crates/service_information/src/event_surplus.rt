@@ -13,8 +13,8 @@ use crate::short_events::is_alone;
 use crate::table_sections::has_table_id;
 use demux::Finding;
 use dvb_tables::{EIT_TABLE_ID, EventEntries, EventEntry};
+use dvb_texts::{decode_text, has_unread};
 use std::alloc::{AllocError, Global};
-use stream_programs::{decode_text, has_unread};
 
 /// The most bytes of an event's name, as written in a descriptor.
 const LONGEST_NAME: usize = 100;

@@ -2,11 +2,11 @@
 
 ghost use Rattle.std.specs.Prelude.{◌≡◌, option_map};
 ghost use Rattle.descriptor_loops.specs.Descriptors.{descriptor_view, descriptors_in};
-ghost use Rattle.stream_programs.specs.Services.{length_prefixed};
+ghost use Rattle.ts_services.specs.Services.{length_prefixed};
 ghost use Rattle.service_information.specs.ShortEvents as spec;
 
 use descriptor_loops::{Descriptor, Descriptors};
-use stream_programs::length_prefixed;
+use ts_services::length_prefixed;
 
 // The tag of a short event descriptor.
 const SHORT_EVENT: u8 = 0x4d;

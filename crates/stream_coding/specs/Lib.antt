@@ -1,4 +1,5 @@
 pub mod Structures
+pub mod Profiles
 pub mod Rbsp
 pub mod Sequences
 pub mod Avc

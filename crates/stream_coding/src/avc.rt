@@ -9,9 +9,9 @@ use crate::rbsp::Element::{U, Ue};
 use crate::rbsp::{after, after_flagged, after_times, u, ue};
 use crate::structures::{Structure, bytes_of};
 
-// level_idc, 9 for level 1b where it is written as 11.
+/// Returns level_idc, 9 for level 1b if it is written as 11.
 #[tactic(auto, unfolding(crate::specs::Avc::level_idc))]
-fn level_idc(profile: u8, constraints: u8, level: u8) -> u8
+pub(crate) fn level_idc(profile: u8, constraints: u8, level: u8) -> u8
     ensures { result ≡ spec.level_idc profile constraints level }
 {
     let is_1b = level == 11 && constraints / 16 % 2 == 1;

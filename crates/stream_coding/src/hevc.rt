@@ -7,8 +7,8 @@ use crate::coding::HevcSequence;
 use crate::rbsp::rbsp_byte;
 use crate::structures::{Structure, bytes_of};
 
-// A byte of a NAL unit without its emulation prevention bytes.
-fn byte_or_zero(bytes: &[u8], number: usize) -> u8
+/// Returns a byte of a NAL unit without its emulation prevention bytes; 0 if it ends before.
+pub(crate) fn byte_or_zero(bytes: &[u8], number: usize) -> u8
     ensures { result ≡ spec.byte_or_zero bytes.now number }
 {
     rbsp_byte(number, bytes).unwrap_or(0)

@@ -5,7 +5,7 @@
 //! `Avc`, `Hevc`, `Adts`); the buffers are those of the standards (`specs/Video`, `Buffers`). The frames of units of
 //! sound are counted by their headers (`specs/FrameHeaders`, `Frames`), or found as the bytes of a unit come
 //! (`specs/FrameWalks`). The units at which a decoder may begin are those of `specs/AccessPoints`. `specs/Stays` says
-//! how long a byte of a stream may stay in a decoder.
+//! how long a byte of a stream may stay in a decoder, and `specs/Profiles` the profile and level by their numbers.
 #![tactic(auto)]
 
 mod ac3;
@@ -24,6 +24,7 @@ mod hevc;
 mod jpeg2000;
 mod layers;
 mod pcm;
+mod profiles;
 mod rbsp;
 mod sei;
 mod sequences;
@@ -41,4 +42,5 @@ pub use coding::{AvcSequence, Coding, HevcSequence, J2kLimits, MpegSequence, cod
 pub use frame_headers::{FrameKind, frame_kind};
 pub use frame_walk::{FramePart, FrameWalk};
 pub use frames::{UnitFrames, unit_frames};
+pub use profiles::{ProfileLevel, profile_level};
 pub use stays::longest_stay;

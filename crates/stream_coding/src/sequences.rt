@@ -30,9 +30,9 @@ fn vbv_buffer_size_value(header: &[u8]) -> u32
     }
 }
 
-// The profile_and_level_indication of a sequence extension.
+/// Returns the profile_and_level_indication of a sequence extension; 0 if it is cut.
 #[tactic(auto, unfolding(crate::specs::Sequences::profile_and_level))]
-fn profile_and_level(extension: &[u8]) -> u8
+pub(crate) fn profile_and_level(extension: &[u8]) -> u8
     ensures { result ≡ spec.profile_and_level extension.now }
 {
     match extension {

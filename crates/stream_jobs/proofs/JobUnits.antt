@@ -7,7 +7,7 @@ use Rattle.pes_packet.specs.AccessUnits.{AccessUnit}
 use Rattle.pes_packet.specs.Units.{units_of}
 use Rattle.demux.specs.Views.{FindingView}
 use Rattle.description_parts.specs.Described.{Described, DescribedStream}
-use Rattle.es_units.specs.Merging.{AreMerged}
+use Rattle.es_moments.specs.Merging.{AreMerged}
 use Rattle.stream_jobs.specs.Jobs.{Agrees, AllAgree, AreUnits, IsStream}
 use Rattle.job_inputs.specs.JobInput.{JobInputView}
 use Rattle.job_programs.specs.JobStreams.{TimedStreamView}

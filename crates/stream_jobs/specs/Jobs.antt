@@ -9,8 +9,8 @@ use Rattle.demux.specs.Views.{FindingView}
 use Rattle.description_parts.specs.Described.{Described, DescribedEntry, DescribedProgram, DescribedStream, DescribedTable}
 use Rattle.unit_timing.specs.declared.allowance.Allowance.{Allowance}
 use Rattle.unit_timing.specs.declared.allowance.Allowance.TheVariants.{Groups, Pace}
-use Rattle.es_units.specs.Declaration.{min_interval, max_unit_size, max_pts_after, group_packets, burst_packets}
-use Rattle.es_units.specs.Merging.{AreMerged}
+use Rattle.es_moments.specs.Declaration.{min_interval, max_unit_size, max_pts_after, group_packets, burst_packets}
+use Rattle.es_moments.specs.Merging.{AreMerged}
 use Rattle.job_programs.specs.JobPrograms.{JobProgramView}
 use Rattle.job_inputs.specs.JobInput.{JobInputView}
 use Rattle.job_programs.specs.FoundUnits.{AreFound, Declares}

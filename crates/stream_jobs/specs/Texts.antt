@@ -2,9 +2,9 @@
 use Rattle.std.specs.Prelude.{ℕ, ◌-◌, ◌^◌, min, List, ◌++◌, flat_map, zip}
 use Rattle.job_text.specs.DescriptionParts.{HeadingView, ProgramPartView, StreamPartView}
 use Rattle.job_text.specs.Texts.{heading_text, network_if_any, program_text, stream_text}
-use Rattle.stream_programs.specs.Services.{FoundServiceView}
+use Rattle.ts_services.specs.Services.{FoundServiceView}
 use Rattle.job_units.specs.declared.declarations.StreamChoice.{StreamChoice}
-use Rattle.job_units.specs.Declarations.{UnitCountsView, kept_framing}
+use Rattle.job_units.specs.Declarations.{UnitCountsView, kept_framing, said_profile}
 use Rattle.job_programs.specs.JobPrograms.{JobProgramView}
 use Rattle.job_inputs.specs.JobInput.{JobInputView}
 use Rattle.job_programs.specs.JobOptions.{JobOptionsView}
@@ -63,6 +63,7 @@ stream_part s = record {
   shared_with = s.0.shared_with;
   multiplexing = s.1.1.multiplexing;
   framing = kept_framing s.1.0 s.1.1.choice;
+  said = said_profile s.0;
 }
 
 -- 4. The whole: the lines of private tables (`JobTables` of `job_programs`) come last

@@ -1,7 +1,7 @@
 //! Whether a description has the programs of a job and declares what the units of its streams need.
 
 ghost use Rattle.std.specs.Prelude.{◌≡◌, ◌==◌, ◌&&◌, IfNone, IfOk, IsTrue};
-ghost use Rattle.es_units.specs.Declaration.{AllowsUnits};
+ghost use Rattle.es_moments.specs.Declaration.{AllowsUnits};
 ghost use Rattle.es_units.specs.Laws.{FirstDue};
 ghost use Rattle.stream_jobs.specs.Jobs.{AgreeInTurn, Agrees, AllAgree, AreInTurn, IsEntry, IsProgram};
 ghost use Rattle.stream_jobs.specs.Jobs as spec;
@@ -10,7 +10,7 @@ ghost use Rattle.job_programs.specs.FoundUnits.{Declares};
 use crate::table_check::first_other_table;
 use description::Description;
 use description_parts::{ProgramDescription, StreamDescription};
-use es_units::{CountedPackets, UnitRuns, max_pts_after, max_unit_size, min_interval};
+use es_moments::{CountedPackets, UnitRuns, max_pts_after, max_unit_size, min_interval};
 use job_inputs::JobInput;
 use job_programs::{JobProgram, TimedStream};
 use pes_packet::Unit;

@@ -16,6 +16,7 @@ use job_programs::job_network::write_network;
 use job_programs::{JobError, JobOptions, JobProgram, JobRefusal, NamedService, TimedStream};
 use job_text::{Heading, ProgramPart, StreamPart};
 use job_units::pts_limit::declared_limit;
+use job_units::stream_measures::said_profile;
 use job_units::{StreamChoice, UnitCounts};
 use std::alloc::{AllocError, Global};
 use stream_choice::{Choice, keeps_framing};
@@ -164,6 +165,7 @@ fn write_stream(
         shared_with: &stream.shared_with,
         multiplexing: choice.multiplexing,
         framing: kept_framing(unit_counts, choice.choice),
+        said: said_profile(stream),
     };
     entry.write_text(text)
 }

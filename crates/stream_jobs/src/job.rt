@@ -4,7 +4,7 @@ ghost use Rattle.std.specs.Prelude.{◌≡◌, ◌≤◌, All, Bool, IfErr, IfOk
 ghost use Rattle.std.specs.List.{AllZip};
 ghost use Rattle.demux.specs.Views.{FindingView};
 ghost use Rattle.slot_plan.specs.Conditions.{IsServing};
-ghost use Rattle.es_units.specs.Merging.{AreMerged};
+ghost use Rattle.es_moments.specs.Merging.{AreMerged};
 ghost use Rattle.stream_jobs.specs.Jobs.{AllAgree, AreUnits, IsDescription, IsJob, IsText, IsUnplanned};
 ghost use Rattle.job_inputs.specs.JoinedInputs.{AreUnitsIn, IsFoundIn};
 ghost use Rattle.job_inputs.specs.declared.joined_inputs.Origin.{Origin};
@@ -18,7 +18,7 @@ use crate::declaration_check::disagreeing;
 use crate::description_draft::{DescriptionDraft, described};
 use crate::rates::{PlannedDescription, first_plan, first_rate, plan_draft};
 use description::Description;
-use es_units::merged;
+use es_moments::merged;
 use job_inputs::JobInput;
 use job_programs::{JobError, JobOptions, JobRefusal, TimedStream};
 use pes_packet::Unit;

@@ -8,16 +8,11 @@ pub mod MapKeys
 pub mod MapPlaces
 pub mod KnownSteps
 pub mod NotedChanges
-pub mod LastServices
-pub mod FirstNetworks
-pub mod NetworkSteps
 pub mod ProgramSteps
 pub mod PidLists
 pub mod TakenPids
 pub mod LeastFreePid
 pub mod AssignedPids
-pub mod FittingText
-pub mod CharacterSteps
 pub mod Sharers
 pub mod NumberPairs
 pub mod DistinctPids

@@ -26,11 +26,11 @@ places_end view es i fs over = rw (done view i fs over) refl
 
 -- 2. The finding at a place
 
-record IsAt (all : List FindingView) (at : ℕ) (f : FindingView) (fs : List FindingView) : Type 0 where
+pub record IsAt (all : List FindingView) (at : ℕ) (f : FindingView) (fs : List FindingView) : Type 0 where
   pub here : slice_get all at ≡ Some f
   pub later : drop (suc at) all ≡ fs
 
-at_front : (all : List FindingView) (at : ℕ) (f : FindingView) (fs : List FindingView) → drop at all ≡ f ∷ fs → IsAt all at f fs
+pub at_front : (all : List FindingView) (at : ℕ) (f : FindingView) (fs : List FindingView) → drop at all ≡ f ∷ fs → IsAt all at f fs
 at_front [] zero f fs is = absurd cc
 at_front [] (suc at) f fs is = absurd cc
 at_front (x ∷ xs) zero f fs is =

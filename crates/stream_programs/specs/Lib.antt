@@ -13,10 +13,4 @@ pub mod PidLists
 pub mod StrayPids
 pub mod PesCounts
 pub mod PidAssignment
-pub mod ServiceDescriptions
-pub mod Services
-pub mod Networks
-pub mod NetworkInformation
-pub mod CharacterTables
-pub mod Texts
 pub mod Laws

@@ -31,7 +31,7 @@ pub fn section_on<'f, A: Allocator>(pid: u16, finding: &'f Finding<'_, A>) -> Op
 
 /// Returns whether a finding is of a PID: one that is not has no section of it.
 #[tactic(auto, unfolding(crate::specs::Sections::section_on))]
-pub(crate) fn is_on<A: Allocator>(pid: u16, finding: &Finding<'_, A>) -> bool
+pub fn is_on<A: Allocator>(pid: u16, finding: &Finding<'_, A>) -> bool
     ensures { result ≡ false → spec.section_on pid (finding_view finding.now) ≡ None }
 {
     finding.pid == Some(pid)

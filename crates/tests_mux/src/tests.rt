@@ -15,9 +15,10 @@ mod runs;
 mod services;
 mod texts;
 
-use plan_checker::{CheckedPlan, CheckedSwitch, check, check_switch};
+use plan_checker::{CheckedPlan, check};
 use slot_plan::{Description, Plan};
 use std::alloc::{Allocator, Global};
+use switch_checker::{CheckedSwitch, check_switch};
 
 /// Returns the text with `other` in place of each `part`.
 fn edited(alloc: Global, text: &str, part: &str, other: &str) -> Option<String> {

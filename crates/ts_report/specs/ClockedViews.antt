@@ -2,7 +2,8 @@
 use Rattle.std.specs.Prelude.{◌≡◌, ℕ, Bool, List, [], ◌∷◌, ◌++◌, length, Option, Some, None}
 use Rattle.arrival.specs.declared.arrival.Arrival.{Arrival}
 use Rattle.arrival.specs.declared.arrival.Arrival.TheVariants.{Unknown, AtRate, OnLines}
-use Rattle.clocked_packets.specs.Waiting.{QueueState, last_arrival, no_packet, released, stepped, with_held}
+use Rattle.arrival.specs.declared.clock.PcrSample.{PcrSample}
+use Rattle.clocked_packets.specs.Waiting.{QueueState, last_arrival, no_packet, released, released_with, stepped, stepped_with, with_held}
 use Rattle.clocked_packets.specs.declared.packet_queue.ClockPid.{ClockPid}
 use Rattle.clocked_packets.specs.declared.packet_queue.ClockPid.TheVariants.{OfFirst, OfProgram}
 use Rattle.events.specs.declared.event.Event.{Event}
@@ -84,6 +85,27 @@ after_all s (bytes ∷ packets) = after_all (after_packet s bytes) packets
 unfoldable pub events_all : ClockedState → List (List ℕ) → List Event
 events_all s [] = []
 events_all s (bytes ∷ packets) = events_at s bytes ++ events_all (after_packet s bytes) packets
+
+-- the same of a packet that comes with a sample of another clock, by which the stream arrives in place of clock references, or with none
+abbrev pub queue_with : QueueState → Option PcrSample → List ℕ → QueueState
+queue_with q sample bytes = with_held (stepped_with q sample) (held_after (stepped_with q sample) (released_with q sample) ++ bytes ∷ [])
+
+unfoldable pub sampled_in : ViewState → Option QueueState → Option PcrSample → List ℕ → ClockedState
+sampled_in v None sample bytes = record { view = views.after_packet v bytes; queue = None }
+sampled_in v (Some q) sample bytes = record {
+  view = view_after v (stepped_with q sample) (released_with q sample);
+  queue = Some (queue_with q sample bytes);
+}
+
+unfoldable pub sampled_events_in : ViewState → Option QueueState → Option PcrSample → List ℕ → List Event
+sampled_events_in v None sample bytes = views.events_at v bytes
+sampled_events_in v (Some q) sample bytes = events_after v (stepped_with q sample) (released_with q sample)
+
+abbrev pub after_sampled : ClockedState → Option PcrSample → List ℕ → ClockedState
+after_sampled s sample bytes = sampled_in s.view s.queue sample bytes
+
+abbrev pub sampled_events : ClockedState → Option PcrSample → List ℕ → List Event
+sampled_events s sample bytes = sampled_events_in s.view s.queue sample bytes
 
 -- 3. At the end: those that wait are viewed, and then the last events come
 

@@ -32,6 +32,8 @@ use Rattle.events.specs.declared.event.Event.TheVariants as found
 use Rattle.es_view.specs.declared.view_options.ViewOptions.{ViewOptions}
 use Rattle.es_view.specs.Clocks.{ClockEntries, clocks_after, no_clocks}
 use Rattle.ts_watch.specs.ClockEvents.{clock_events, errors_in, report_events_if}
+use Rattle.ts_watch.specs.ClockWindows.{ClocksState}
+use Rattle.ts_watch.specs.ClockWindows as clocks_by_window
 use Rattle.ts_watch.specs.Choices.{ChoiceView}
 use Rattle.ts_watch.specs.ReferenceEvents.{reference_events}
 use Rattle.ts_watch.specs.RuleEvents.{RuleState, accuracy_count, accuracy_events, judge_after, no_rule, packet_events, with_judge}
@@ -39,11 +41,11 @@ use Rattle.ts_watch.specs.RuleEvents as rules
 use Rattle.ts_watch.specs.SystemEvents.{excess_events}
 use Rattle.ts_watch.specs.TableEvents.{TablesState, has_table, no_tables, table_events}
 use Rattle.ts_watch.specs.TableEvents as tables
-use Rattle.ts_watch.specs.WindowEvents.{pid_events, window_of}
+use Rattle.ts_watch.specs.WindowEvents.{pid_events, window_events, window_of}
 
 -- the number of packets, and of those that are refused or have transport_error_indicator; the window of the last packet that is not; the packets of each PID;
--- the last clock reference of each, and what all of them came to, by the rate, with the number of their errors; time stamps, scrambled packets and the judge of
--- the rate; the sections of tables; the buffers of programs' tables; the streams that are named; and the names of their services
+-- the last clock reference of each, and what all of them came to, by the rate, with the number of their errors, and by window; time stamps, scrambled packets
+-- and the judge of the rate; the sections of tables; the buffers of programs' tables; the streams that are named; and the names of their services
 pub record SeenState : Type 0 where
   pub options : ViewOptions
   pub packets : ℕ
@@ -54,6 +56,7 @@ pub record SeenState : Type 0 where
   pub clocks : ClockEntries
   pub watches : WatchesState
   pub errors : ℕ
+  pub references : ClocksState
   pub rules : RuleState
   pub tables : TablesState
   pub systems : Option (List ProgramState)
@@ -84,6 +87,7 @@ nothing_seen options = record {
   clocks = no_clocks;
   watches = watching.no_packet (timing_of options.arrival);
   errors = 0;
+  references = clocks_by_window.no_reference;
   rules = no_rule (table_timing options.arrival);
   tables = no_tables (table_timing options.arrival);
   systems = None;
@@ -141,9 +145,18 @@ refused_events s cause = found.Refused (record { packet = s.packets; cause = cau
 abbrev pub report_on : SeenState → PacketView → Option PcrReport
 report_on s packet = report_at s.watches s.packets packet
 
--- what the reference leaves of the judge of the rate, and how many errors of accuracy count with it
+abbrev pub next_window : SeenState → ℕ
+next_window s = window_of s.options s.packets
+
+-- what the reference leaves in its window and of the judge of the rate, and how many errors of accuracy count with it
 abbrev pub with_accuracy : SeenState → ℕ → Option PcrReport → SeenState
-with_accuracy s pid report = record s { rules = with_judge s.rules (judge_after (timing_of s.options.arrival) s.rules.judge pid report) }
+with_accuracy s pid report = record s {
+  references = clocks_by_window.taken s.references (next_window s) pid report;
+  rules = with_judge s.rules (judge_after (timing_of s.options.arrival) s.rules.judge pid report);
+}
+
+abbrev pub references_on : SeenState → PacketView → ClocksState
+references_on s packet = clocks_by_window.taken s.references (next_window s) packet.header.pid (report_on s packet)
 
 abbrev pub judge_on : SeenState → PacketView → JudgeState
 judge_on s packet = judge_after (timing_of s.options.arrival) s.rules.judge packet.header.pid (report_on s packet)
@@ -153,7 +166,11 @@ inaccurate_on s packet = accuracy_count (timing_of s.options.arrival) s.rules.ju
 
 -- the reference alone, with its errors
 abbrev pub with_reference : SeenState → PacketView → SeenState
-with_reference s packet = record s { watches = watching.taken s.watches s.packets packet; rules = with_judge s.rules (judge_on s packet) }
+with_reference s packet = record s {
+  watches = watching.taken s.watches s.packets packet;
+  references = references_on s packet;
+  rules = with_judge s.rules (judge_on s packet);
+}
 
 abbrev pub reference_errors : SeenState → PacketView → List Event
 reference_errors s packet = report_events_if packet.header.pid (report_on s packet)
@@ -163,6 +180,7 @@ abbrev pub with_clock : SeenState → PacketView → SeenState
 with_clock s packet = record s {
   clocks = clocks_after s.clocks s.options.arrival s.packets packet;
   watches = watching.taken s.watches s.packets packet;
+  references = references_on s packet;
   rules = rules.taken (with_judge s.rules (judge_on s packet)) s.options.arrival s.packets packet;
   errors = min (min (s.errors + errors_in (report_on s packet)) (2 ^ 64 - 1) + inaccurate_on s packet) (2 ^ 64 - 1);
 }
@@ -171,9 +189,6 @@ abbrev pub clock_errors : SeenState → PacketView → List Event
 clock_errors s packet = report_events_if packet.header.pid (report_on s packet)
     ++ (accuracy_events (timing_of s.options.arrival) s.rules.judge s.packets packet.header.pid (report_on s packet)
     ++ packet_events s.rules s.options.arrival s.packets s.named packet)
-
-abbrev pub next_window : SeenState → ℕ
-next_window s = window_of s.options s.packets
 
 abbrev pub counted : SeenState → PacketView → SeenState
 counted s packet = record s {
@@ -221,6 +236,10 @@ counter_events s bytes (Ok packet) =
 -- what 188 bytes name counts from the next packet on
 abbrev pub with_named : SeenState → List ℕ → SeenState
 with_named s bytes = record s { named = naming.taken s.named bytes; services = naming_services.taken s.services (naming.taken s.named bytes) bytes }
+
+-- when a window ends: each PID in it, and its clock references
+abbrev pub window_ends : SeenState → List Event
+window_ends s = window_events s.options s.named s.services.names s.window ++ clocks_by_window.window_events s.references s.window.number
 
 -- at the end: clock references by PID, tables, all packets by PID, which of these are not named or have none, and what is held of accuracy
 abbrev pub pid_ends : SeenState → List Event

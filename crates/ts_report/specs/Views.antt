@@ -10,13 +10,12 @@ use Rattle.arrival.specs.declared.arrival.Arrival.{Arrival}
 use Rattle.ts_watch.specs.Choices.{RequestView}
 use Rattle.events.specs.declared.packet_fault.RefusalCause.TheVariants as causes
 use Rattle.ts_report.specs.Seen.{SeenState, cause_of, clock_errors, counted, counter_events, section_events, end_event, next_window, nothing_seen, pid_ends}
-use Rattle.ts_report.specs.Seen.{refused_events, system_excesses, with_clock, with_counter_read}
+use Rattle.ts_report.specs.Seen.{refused_events, system_excesses, window_ends, with_clock, with_counter_read}
 use Rattle.ts_watch.specs.RuleEvents.{holds_none}
 use Rattle.ts_report.specs.Seen as seeing
 use Rattle.ts_report.specs.StreamTables.{IsTable, TableState, begin_events, begun, has_stream, events_of, no_streams, table_end, table_units, taken}
 use Rattle.ts_report.specs.StreamTables as tables
 use Rattle.ts_watch.specs.SystemEvents.{all_fit, system_events}
-use Rattle.ts_watch.specs.WindowEvents.{window_events}
 use Rattle.system_tables.specs.Programs.{known}
 
 -- what is kept: what was seen, and the streams whose buffers have begun
@@ -63,9 +62,9 @@ unfoldable pub after_read : ViewState → Result PacketView PacketError → View
 after_read s (Err error) = without s
 after_read s (Ok packet) = if packet.header.transport_error_indicator then without s else with_packet s packet
 
--- what is found in the last packet's window: bit rates by PID, and units by stream
+-- what is found in the last packet's window: bit rates and clock references by PID, and units by stream
 abbrev pub all_window_events : ViewState → List Event
-all_window_events s = window_events s.seen.options s.seen.named s.seen.services.names s.seen.window ++ table_units s.seen.options s.seen.window.number s.table
+all_window_events s = window_ends s.seen ++ table_units s.seen.options s.seen.window.number s.table
 
 -- a packet of another window settles them
 abbrev pub last_window : ViewState → List Event
@@ -128,7 +127,7 @@ events_all s (bytes ∷ packets) = events_at s bytes ++ events_all (after_packet
 
 -- the events at the end of a stream
 abbrev pub end_events : ViewState → ℕ → List Event
-end_events s left = window_events s.seen.options s.seen.named s.seen.services.names s.seen.window
+end_events s left = window_ends s.seen
     ++ (table_end s.seen.options s.seen.packets s.seen.window.number s.table
     ++ (system_events s.seen.options s.table.choice s.seen.packets (known s.seen.systems) ++ (pid_ends s.seen ++ end_event s.seen left ∷ [])))
 

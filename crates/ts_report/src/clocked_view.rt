@@ -1,6 +1,7 @@
 //! A stream, packet by packet, whose packets wait until it is known when they arrive.
-ghost use Rattle.std.specs.Prelude.{◌≡◌, ◌++◌, [], IfOk, OnOk, false};
-ghost use Rattle.clocked_packets.specs.Waiting.{last_arrival, released, stepped, with_held};
+ghost use Rattle.std.specs.Prelude.{◌≡◌, ◌++◌, [], IfOk, IfSome, OnOk, false};
+ghost use Rattle.arrival.specs.Clock.{IsInRange};
+ghost use Rattle.clocked_packets.specs.Waiting.{last_arrival, released, released_with, stepped, stepped_with, with_held};
 ghost use Rattle.ts_report.specs.ClockedViews as spec;
 ghost use Rattle.ts_report.specs.ClockedViews.{ClockedState, IsClocked};
 ghost use Rattle.ts_report.specs.Crowding.{is_crowded};
@@ -8,7 +9,7 @@ ghost use Rattle.ts_report.specs.Views.{IsView, ViewState};
 
 use crate::moments::{has_moments, moment_at};
 use crate::view::View;
-use arrival::Arrival;
+use arrival::{Arrival, PcrSample};
 use clocked_packets::{ClockPid, PacketQueue};
 use events::Event;
 use std::alloc::{AllocError, Global};
@@ -100,6 +101,26 @@ fn take_waiting(
     queue.push(bytes)
 }
 
+// A packet comes with a sample of the clock by which it arrives, or with none, and waits.
+fn take_sampled_waiting(
+    view: &mut View,
+    queue: &mut PacketQueue,
+    sample: Option<PcrSample>,
+    bytes: &[u8; 188],
+    events: &mut Vec<Event>,
+) -> Result<(), AllocError>
+    requires { IfSome sample IsInRange }
+    ensures view { (v : ViewState) → IsView view.old v → OnOk result
+        (IsView view.new (spec.view_after v (stepped_with queue.old sample) (released_with queue.old sample))) }
+    ensures found { (v : ViewState) → IsView view.old v → OnOk result (events.new.items
+        ≡ events.old.items ++ spec.events_after v (stepped_with queue.old sample) (released_with queue.old sample)) }
+    ensures queue { OnOk result (queue.new ≡ spec.queue_with queue.old sample bytes.now) }
+{
+    let arrival = queue.take_sample(sample);
+    view_if(view, queue, arrival, events)?;
+    queue.push(bytes)
+}
+
 impl ClockedView {
     /// Returns the state before the first packet.
     pub fn new(alloc: Global, request: ViewRequest) -> ClockedView
@@ -124,6 +145,27 @@ impl ClockedView {
         match &mut self.queue {
             None => self.view.take(bytes, events),
             Some(queue) => take_waiting(&mut self.view, queue, bytes, events),
+        }
+    }
+
+    /// Takes the next packet with a sample of the clock by which the stream arrives in place of clock references, or
+    /// with none, and appends the events that the packet settles.
+    #[tactic(auto, unfolding(crate::specs::ClockedViews::sampled_in, crate::specs::ClockedViews::sampled_events_in))]
+    pub fn take_sampled(
+        &mut self,
+        sample: Option<PcrSample>,
+        bytes: &[u8; 188],
+        events: &mut Vec<Event>,
+    ) -> Result<(), AllocError>
+        requires { IfSome sample IsInRange }
+        ensures view { (s : ClockedState) → IsClocked self.old s →
+            OnOk result (IsClocked self.new (spec.after_sampled s sample bytes.now)) }
+        ensures found { (s : ClockedState) → IsClocked self.old s →
+            OnOk result (events.new.items ≡ events.old.items ++ spec.sampled_events s sample bytes.now) }
+    {
+        match &mut self.queue {
+            None => self.view.take(bytes, events),
+            Some(queue) => { take_sampled_waiting(&mut self.view, queue, sample, bytes, events) }
         }
     }
 

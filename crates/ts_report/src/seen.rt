@@ -10,7 +10,6 @@ ghost use Rattle.ts_watch.specs.ClockEvents.{errors_in};
 ghost use Rattle.ts_watch.specs.RuleEvents.{accuracy_count, accuracy_events};
 ghost use Rattle.ts_report.specs.Seen as spec;
 ghost use Rattle.ts_report.specs.Seen.{timing_of};
-ghost use Rattle.ts_watch.specs.WindowEvents.{window_events};
 
 use arrival::Arrival;
 use es_view::clocks::Clocks;
@@ -26,6 +25,7 @@ use tr101290::{
 use ts_packet::{Packet, PacketError, has_pcr};
 use ts_tables::{NamedStreams, ServiceNames};
 use ts_watch::clock_events::{errors_in, push_clocks, push_report};
+use ts_watch::clock_windows::ClockWindows;
 use ts_watch::reference_events::push_references;
 use ts_watch::rule_watch::RuleWatch;
 use ts_watch::system_events::push_excesses;
@@ -35,8 +35,8 @@ use ts_watch::window_events::{push_pids, push_window, window_of};
 
 /// The state of a stream beside its buffers: the number of packets, and of refused packets; the last packet of each
 /// PID; the window of the last packet; the packets of each PID; the last clock reference of each, and the counts of all
-/// of them, with the number of their errors; the sections of tables; time stamps and scrambled packets; the buffers of
-/// programs' tables; the streams that are named; and the names of their services.
+/// of them, with the number of their errors, and by window; the sections of tables; time stamps and scrambled packets;
+/// the buffers of programs' tables; the streams that are named; and the names of their services.
 #[derive(Drop)]
 pub struct Seen {
     alloc: Global,
@@ -49,6 +49,7 @@ pub struct Seen {
     pub clocks: Clocks,
     pub watches: PcrWatches<Global>,
     pub errors: u64,
+    pub references: ClockWindows,
     pub rules: RuleWatch,
     pub tables: TableWatch,
     pub systems: SystemTables,
@@ -71,6 +72,7 @@ impl Model for Seen {
       clocks = s.clocks;
       watches = s.watches;
       errors = s.errors;
+      references = s.references;
       rules = s.rules;
       tables = s.tables;
       systems = s.systems;
@@ -187,6 +189,7 @@ impl Seen {
             clocks: Clocks::new(alloc),
             watches: PcrWatches::new(alloc, timing_of(&options.arrival)),
             errors: 0,
+            references: ClockWindows::new(alloc),
             rules: RuleWatch::new(alloc, table_timing(&options.arrival)),
             tables: TableWatch::new(alloc, table_timing(&options.arrival)),
             systems: SystemTables::new(alloc),
@@ -330,7 +333,7 @@ impl Seen {
     }
 
     // The same, if the packet has a clock reference.
-    #[tactic(auto, unfolding(tr101290::specs::PidWatches::taken_if, tr101290::specs::PidWatches::report_if, ts_watch::specs::ClockEvents::report_events_if, ts_watch::specs::ClockEvents::errors_in, ts_watch::specs::RuleEvents::judge_after, ts_watch::specs::RuleEvents::accuracy_events, ts_watch::specs::RuleEvents::accuracy_count))]
+    #[tactic(auto, unfolding(tr101290::specs::PidWatches::taken_if, tr101290::specs::PidWatches::report_if, ts_watch::specs::ClockEvents::report_events_if, ts_watch::specs::ClockEvents::errors_in, ts_watch::specs::RuleEvents::judge_after, ts_watch::specs::RuleEvents::accuracy_events, ts_watch::specs::RuleEvents::accuracy_count, ts_watch::specs::ClockWindows::taken))]
     fn take_reference_if(
         &mut self,
         packet: &Packet<'_>,
@@ -348,7 +351,8 @@ impl Seen {
         }
     }
 
-    // Takes the report on a reference, and appends the errors of accuracy that count now. Returns their number.
+    // Takes the report on a reference into its window, and appends the errors of accuracy that count now. Returns their
+    // number.
     fn take_accuracy(
         &mut self,
         pid: u16,
@@ -362,6 +366,8 @@ impl Seen {
             ≡ accuracy_count (timing_of self.old.options.arrival) self.old.rules.judge pid report.now) }
     {
         let timing = timing_of(&self.options.arrival);
+        let window = self.next_window();
+        self.references.take(window, pid, report)?;
         self.rules
             .take_report(timing, self.packets, pid, report, events)
     }
@@ -435,10 +441,9 @@ impl Seen {
         self.services.take(&self.named, bytes)
     }
 
-    /// Appends the events of each PID in the last packet's window.
+    /// Appends the events of each PID in the last packet's window, and of its clock references.
     pub fn push_window(&self, events: &mut Vec<Event>) -> Result<(), AllocError>
-        ensures { OnOk result (events.new.items ≡ events.old.items
-            ++ window_events self.now.options self.now.named self.now.services.names self.now.window) }
+        ensures { OnOk result (events.new.items ≡ events.old.items ++ spec.window_ends self.now) }
     {
         push_window(
             self.alloc,
@@ -447,7 +452,8 @@ impl Seen {
             &self.named,
             &self.services,
             &self.window,
-        )
+        )?;
+        self.references.push(self.window.number(), events)
     }
 
     /// Appends the last events of clock references by PID, of tables, of all packets by PID, and of PIDs that are not

@@ -1,3 +1,3 @@
 pub mod Grows
-pub mod Wanting
+pub mod MappedPrograms
 pub mod First

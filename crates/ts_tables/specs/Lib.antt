@@ -1,4 +1,4 @@
 pub mod NamedStreams
-pub mod Wanting
+pub mod Mapped
 pub mod Laws
 pub mod ServiceNames

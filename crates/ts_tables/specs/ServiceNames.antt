@@ -5,8 +5,8 @@ use Rattle.demux.specs.Views.{FindingView}
 use Rattle.demux.specs.Stream.{StreamState, start, pushed}
 use Rattle.demux.specs.FoundSoFar.{with_found}
 use Rattle.stream_programs.specs.Programs.{FoundProgramView}
-use Rattle.stream_programs.specs.Services.{FoundServiceView, service}
-use Rattle.stream_programs.specs.Texts.{decode_text}
+use Rattle.ts_services.specs.Services.{FoundServiceView, service}
+use Rattle.dvb_texts.specs.Texts.{decode_text}
 use Rattle.ts_tables.specs.NamedStreams.{NamedView}
 
 -- a program, and the name of its service in UTF-8, where one is known

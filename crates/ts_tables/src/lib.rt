@@ -8,10 +8,10 @@
 #![tactic(auto)]
 
 pub mod laws;
+mod mapped;
 mod named_streams;
 mod service_name;
 mod service_names;
-mod unmapped;
 
 pub use named_streams::{FIRST_PACKETS, NamedStreams};
 pub use service_name::ServiceName;

@@ -1,20 +1,18 @@
 //! The streams that the tables name.
-ghost use Rattle.std.specs.Prelude.{◌≡◌, ◌≤◌, None, Some, IfOk, OnErr, OnOk, length, map, option_map, take};
+ghost use Rattle.std.specs.Prelude.{◌≡◌, ◌==◌, ◌||◌, ◌&&◌, [], None, IfOk, OnErr, OnOk, is_some, length};
+ghost use Rattle.std.specs.Prelude.{map, option_map};
 ghost use Rattle.demux.specs.Shown.{finding_view};
-ghost use Rattle.demux.specs.Stream.{pushed};
-ghost use Rattle.stream_programs.specs.Association.{association};
-ghost use Rattle.stream_programs.specs.Programs.{programs_of};
+ghost use Rattle.demux.specs.Stream.{pushed, start};
+ghost use Rattle.stream_programs.specs.KnownTables.{known_in};
 ghost use Rattle.ts_tables.specs.NamedStreams as spec;
-ghost use Rattle.ts_tables.specs.Wanting.{AreUnknown, HaveMapsBefore, Lacks};
+ghost use Rattle.ts_tables.specs.NamedStreams.{have_maps};
+ghost use Rattle.ts_tables.specs.Mapped.{AreTables};
 
-use crate::unmapped::{Unmapped, first_unmapped, has_wanting, place_of};
+use crate::mapped::mapped_programs;
 use demux::{Demux, Finding};
-use psi_tables::Program;
 use std::alloc::{AllocError, Global};
 use std::marker::Model;
-use stream_programs::{
-    Association, FoundProgram, FoundPrograms, FoundStream, found_programs, named_programs,
-};
+use stream_programs::{FoundProgram, FoundPrograms, FoundStream, KnownTables, found_programs};
 
 /// The number of packets that are looked at at most.
 pub const FIRST_PACKETS: u32 = 32_768;
@@ -29,125 +27,83 @@ pub struct NamedStreams {
     demux: Demux,
     packets: u32,
     found: Option<FoundPrograms>,
-    // while the streams are not known: the first program that has no map; none where there is no association table
-    unmapped: Option<Unmapped>,
+    // while the streams are not known: what the tables say, and how many of their programs from the first on have maps
+    tables: KnownTables,
+    mapped: usize,
 }
 
 impl Model for NamedStreams {
-    ghost use Rattle.stream_programs.specs.Association.{association};
     ghost use Rattle.ts_tables.specs.NamedStreams.{NamedView};
-    ghost use Rattle.ts_tables.specs.Wanting.{AreUnknown};
+    ghost use Rattle.ts_tables.specs.Mapped.{AreUnknown};
 
     ghost Value = { NamedView };
 
     ghost view = { λ n. record { demux = n.demux; packets = n.packets; streams = n.found } };
 
-    ghost invariant = { λ n. AreUnknown n.found n.demux.found (association n.demux.found) n.unmapped };
+    ghost invariant = { λ n. AreUnknown n.found n.tables n.demux.found n.mapped };
 }
 
-// The programs and their streams.
-fn streams_named(
-    alloc: Global,
-    findings: &[Finding<'_>],
-    programs: &[Program],
-) -> Result<(Option<FoundPrograms>, Option<Unmapped>), AllocError>
-    ensures { IfOk result (λ r. r.0 ≡ Some (programs_of programs.now (map finding_view findings.now))) }
+// Whether the streams are known, or it is the last packet that is looked at, if so many programs have maps.
+fn is_known(last: bool, mapped: usize, tables: &KnownTables) -> bool
+    ensures { result ≡ (last || (is_some tables.now.version && (mapped == length tables.now.programs))) }
 {
-    let found = found_programs(alloc, programs, findings)?;
-    Ok((Some(found), None))
+    last || tables.has_association() && mapped == tables.programs().len()
 }
 
-// The streams by a table.
-#[tactic(auto, unfolding(crate::specs::NamedStreams::streams_by, crate::specs::Wanting::AreUnknown, crate::specs::Wanting::Lacks, crate::specs::Wanting::HaveMapsBefore))]
-fn streams_of(
-    alloc: Global,
-    last: bool,
-    place: usize,
-    findings: &[Finding<'_>],
-    table: &Association,
-) -> Result<(Option<FoundPrograms>, Option<Unmapped>), AllocError>
-    requires { HaveMapsBefore place (map finding_view findings.now) (Some table.now) }
-    ensures streams { IfOk result (λ r. r.0 ≡ spec.streams_by last (map finding_view findings.now) (Some table.now)) }
-    ensures unknown { IfOk result (λ r. AreUnknown r.0 (map finding_view findings.now) (Some table.now) r.1) }
-{
-    match first_unmapped(place, findings, &table.programs) {
-        None => streams_named(alloc, findings, &table.programs),
-        Some(first) => {
-            if last {
-                streams_named(alloc, findings, &table.programs)
-            } else {
-                Ok((None, Some(first)))
-            }
-        }
-    }
-}
-
-// The streams, if they are known by what is found and this table, or it is the last packet that is looked at; else what
-// is wanting. The programs before a place have maps.
-#[tactic(auto, unfolding(crate::specs::NamedStreams::streams_by, crate::specs::Wanting::AreUnknown, crate::specs::Wanting::Lacks))]
+// The streams, if they are known by what is found, or it is the last packet that is looked at. So many programs from
+// the first on have maps, and no more.
 fn streams_by(
     alloc: Global,
     last: bool,
-    place: usize,
+    mapped: usize,
+    tables: &KnownTables,
     findings: &[Finding<'_>],
-    table: &Option<Association>,
-) -> Result<(Option<FoundPrograms>, Option<Unmapped>), AllocError>
-    requires { HaveMapsBefore place (map finding_view findings.now) table.now }
-    ensures streams { IfOk result (λ r. r.0 ≡ spec.streams_by last (map finding_view findings.now) table.now) }
-    ensures unknown { IfOk result (λ r. AreUnknown r.0 (map finding_view findings.now) table.now r.1) }
+) -> Result<Option<FoundPrograms>, AllocError>
+    requires tables { AreTables tables.now (map finding_view findings.now) mapped }
+    requires all { (mapped == length tables.now.programs)
+        ≡ have_maps (map finding_view findings.now) tables.now.programs }
+    ensures { IfOk result (λ found. found ≡ spec.streams_at last (map finding_view findings.now)) }
 {
-    match table {
-        None => {
-            if last {
-                streams_named(alloc, findings, &[])
-            } else {
-                Ok((None, None))
-            }
-        }
-        Some(table) => streams_of(alloc, last, place, findings, table),
+    if !is_known(last, mapped, tables) {
+        return Ok(None);
     }
+    Ok(Some(found_programs(alloc, tables.programs(), findings)?))
 }
 
-// The same by what is found. In the first findings this was wanting: without it in the others, nothing is looked for.
-fn streams_after(
-    alloc: Global,
-    last: bool,
-    before: usize,
-    first: Option<Unmapped>,
-    findings: &[Finding<'_>],
-) -> Result<(Option<FoundPrograms>, Option<Unmapped>), AllocError>
-    requires within { before ≤ length findings.now }
-    requires unknown { Lacks (take before (map finding_view findings.now))
-        (association (take before (map finding_view findings.now))) first }
-    ensures streams { IfOk result (λ r. r.0 ≡ spec.streams_at last (map finding_view findings.now)) }
-    ensures unknown { IfOk result (λ r. AreUnknown r.0 (map finding_view findings.now)
-        (association (map finding_view findings.now)) r.1) }
-{
-    if !last && !has_wanting(alloc, first, &findings[before..])? {
-        return Ok((None, first));
-    }
-    let table = named_programs(alloc, findings)?;
-    streams_by(alloc, last, place_of(first), findings, &table)
-}
-
-// The streams with another packet, where they are not known without it, or what is wanting.
+// The streams with another packet, where they are not known without it.
 fn streams_with(
     alloc: Global,
-    demux: &mut Demux,
     last: bool,
-    first: Option<Unmapped>,
     bytes: &[u8; 188],
-) -> Result<(Option<FoundPrograms>, Option<Unmapped>), AllocError>
-    requires { Lacks demux.old.found (association demux.old.found) first }
+    demux: &mut Demux,
+    tables: &mut KnownTables,
+    mapped: &mut usize,
+) -> Result<Option<FoundPrograms>, AllocError>
+    requires { AreTables tables.old demux.old.found mapped.old }
     ensures demux { OnOk result (demux.new ≡ pushed demux.old bytes.now) }
-    ensures streams { IfOk result (λ r. r.0 ≡ spec.streams_at last demux.new.found) }
-    ensures unknown { IfOk result (λ r. AreUnknown r.0 demux.new.found (association demux.new.found) r.1) }
+    ensures tables { OnOk result (AreTables tables.new demux.new.found mapped.new) }
+    ensures streams { IfOk result (λ found. found ≡ spec.streams_at last demux.new.found) }
 {
     let before = demux.findings().len();
     let Ok(()) = demux.push(bytes) else {
         return Err(AllocError);
     };
-    streams_after(alloc, last, before, first, demux.findings())
+    let findings = demux.findings();
+    tables.take(before, findings)?;
+    *mapped = mapped_programs(*mapped, tables, findings);
+    let found = streams_by(alloc, last, *mapped, tables, findings)?;
+    Ok(found)
+}
+
+// Forgets what was taken. It stays a call of its own: the new tables are large, and would else be made ready for each
+// packet.
+#[inline(never)]
+fn forget(alloc: Global, demux: &mut Demux, tables: &mut KnownTables)
+    ensures demux { demux.new ≡ start }
+    ensures tables { tables.new ≡ known_in [] }
+{
+    *demux = Demux::new(alloc);
+    *tables = KnownTables::new(alloc);
 }
 
 // The stream of a PID.
@@ -186,7 +142,8 @@ impl NamedStreams {
             demux: Demux::new(alloc),
             packets: 0,
             found: None,
-            unmapped: None,
+            tables: KnownTables::new(alloc),
+            mapped: 0,
         }
     }
 
@@ -198,17 +155,24 @@ impl NamedStreams {
     {
         let packets = self.packets.saturating_add(1);
         let last = packets >= FIRST_PACKETS;
-        match streams_with(self.alloc, &mut self.demux, last, self.unmapped, bytes) {
-            Ok((found, unmapped)) => {
+        let known = streams_with(
+            self.alloc,
+            last,
+            bytes,
+            &mut self.demux,
+            &mut self.tables,
+            &mut self.mapped,
+        );
+        match known {
+            Ok(found) => {
                 self.packets = packets;
                 self.found = found;
-                self.unmapped = unmapped;
                 Ok(())
             }
             Err(error) => {
-                self.demux = Demux::new(self.alloc);
+                forget(self.alloc, &mut self.demux, &mut self.tables);
                 self.packets = 0;
-                self.unmapped = None;
+                self.mapped = 0;
                 Err(error)
             }
         }

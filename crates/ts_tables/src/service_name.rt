@@ -1,13 +1,15 @@
 //! The name of one program's service.
 ghost use Rattle.std.specs.Prelude.{◌≡◌, IfOk, OnOk, map, option_map, string_bytes};
 ghost use Rattle.demux.specs.Shown.{finding_view};
-ghost use Rattle.stream_programs.specs.Services.{found_service_view};
+ghost use Rattle.ts_services.specs.Services.{found_service_view};
 ghost use Rattle.ts_tables.specs.ServiceNames as spec;
 
 use demux::Finding;
+use dvb_texts::decode_text;
 use std::alloc::{AllocError, Global};
 use std::marker::Model;
-use stream_programs::{FoundProgram, FoundService, decode_text, last_service};
+use stream_programs::FoundProgram;
+use ts_services::{FoundService, FoundServices, last_service};
 
 // The most bytes of a name: those that a service descriptor has room for.
 const MOST_BYTES: usize = 255;
@@ -62,14 +64,14 @@ impl ServiceName {
     /// Returns what the first packets say of a program.
     pub(crate) fn first(
         alloc: Global,
-        findings: &[Finding<'_>],
+        services: &FoundServices<'_, '_>,
         program: &FoundProgram,
     ) -> Result<ServiceName, AllocError>
-        ensures { IfOk result (λ name. name ≡ spec.first_name (map finding_view findings.now) program.now) }
+        ensures { IfOk result (λ name. name ≡ spec.first_name services.now program.now) }
     {
         Ok(ServiceName {
             program: program.number,
-            name: name_in(alloc, findings, program.number)?,
+            name: name_of(alloc, services.of(program.number))?,
         })
     }
 

@@ -11,6 +11,7 @@ use demux::{Demux, Finding};
 use std::alloc::{AllocError, Global};
 use std::marker::Model;
 use stream_programs::FoundProgram;
+use ts_services::{FoundServices, found_services};
 
 /// The names of the services of the programs of a stream's first tables, as its service description tables say them.
 ///
@@ -31,6 +32,21 @@ impl Model for ServiceNames {
     ghost view = { λ n. record { demux = n.demux; names = option_map (λ names. names.items) n.names } };
 }
 
+// What is said of the service of each program.
+fn names_by(
+    alloc: Global,
+    services: &FoundServices<'_, '_>,
+    programs: &[FoundProgram],
+) -> Result<Vec<ServiceName>, AllocError>
+    ensures { IfOk result (λ names. names.items ≡ map (spec.first_name services.now) programs.now) }
+{
+    let mut names = Vec::new(alloc);
+    for program in programs {
+        names.push(ServiceName::first(alloc, services, program)?)?;
+    }
+    Ok(names)
+}
+
 // What the first packets say of programs.
 fn first_names(
     alloc: Global,
@@ -39,11 +55,8 @@ fn first_names(
 ) -> Result<Vec<ServiceName>, AllocError>
     ensures { IfOk result (λ names. names.items ≡ map (spec.first_name (map finding_view findings.now)) programs.now) }
 {
-    let mut names = Vec::new(alloc);
-    for program in programs {
-        names.push(ServiceName::first(alloc, findings, program)?)?;
-    }
-    Ok(names)
+    let services = found_services(alloc, findings)?;
+    names_by(alloc, &services, programs)
 }
 
 // What is found later, of each.

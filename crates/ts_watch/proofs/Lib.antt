@@ -1,3 +1,4 @@
 pub mod Sections
 pub mod HeaderTables
 pub mod TablePackets
+mod ClockCounts

@@ -18,11 +18,12 @@ pub record ChoiceView : Type 0 where
   pub programs : List ℕ
   pub buffers : List PidBuffers
 
--- with how a stream is viewed, and which part of it
+-- with how a stream is viewed, which part of it, and whether packets of 192 bytes arrive by the stamps before them
 pub record RequestView : Type 0 where
   pub options : ViewOptions
   pub choice : ChoiceView
   pub span : ViewSpan
+  pub stamps : Bool
 
 unfoldable pub is_among : ℕ → List ℕ → Bool
 is_among number numbers = list_any (λ other. other == number) numbers

@@ -2,7 +2,9 @@ pub mod PidLabels
 pub mod WindowEvents
 pub mod Choices
 pub mod ClockEvents
+pub mod ClockWindows
 pub mod ReferenceEvents
 pub mod TableEvents
 pub mod RuleEvents
 pub mod SystemEvents
+pub mod Laws

@@ -3,6 +3,8 @@
 #![tactic(auto)]
 
 pub mod clock_events;
+pub mod clock_windows;
+pub mod laws;
 mod pid_labels;
 pub mod reference_events;
 pub mod rule_watch;

@@ -17,6 +17,8 @@ pub struct ViewRequest {
     pub options: ViewOptions,
     pub choice: ViewChoice,
     pub span: ViewSpan,
+    /// Whether packets of 192 bytes arrive by the stamps before them.
+    pub stamps: bool,
 }
 
 impl Model for ViewRequest {
@@ -24,5 +26,5 @@ impl Model for ViewRequest {
 
     ghost Value = { RequestView };
 
-    ghost view = { λ r. record { options = r.options; choice = r.choice; span = r.span } };
+    ghost view = { λ r. record { options = r.options; choice = r.choice; span = r.span; stamps = r.stamps } };
 }

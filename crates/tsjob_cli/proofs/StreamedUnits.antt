@@ -8,7 +8,7 @@ use Rattle.clap.specs.Words.{Text}
 use Rattle.checked_jobs.specs.Jobs.{described}
 use Rattle.description_parts.specs.Described.{Described, DescribedStream}
 use Rattle.description_keys.specs.declared.fault.DescError.TheVariants as refused_by
-use Rattle.es_feed.specs.Feeding.{FedStreamView}
+use Rattle.fed_streams.specs.Feeding.{FedStreamView}
 use Rattle.devices.specs.Devices.{Device, HasFailed, IsUntouched, Port}
 use Rattle.devices.specs.Files.{Files, IsOpened}
 use Rattle.devices.specs.Lines.{Reports, line_text}

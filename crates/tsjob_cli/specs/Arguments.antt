@@ -59,8 +59,8 @@ reporting_in rows = record {
 -- 2. All of them
 
 -- with empty lists
-abbrev pub plain : Subcommand → Option Text → Reporting → Option ℕ → Option Text → ℕ → ℕ → DeclareBy → Bool → Bool → Bool → ClockBase → JobArgumentsView
-plain subcommand stream reporting rate start pcr_limit lead declare_by make_dts mark_access strict base = record {
+abbrev pub plain : Subcommand → Option Text → Reporting → Option ℕ → Option Text → ℕ → ℕ → DeclareBy → Bool → Bool → Bool → Bool → ClockBase → JobArgumentsView
+plain subcommand stream reporting rate start pcr_limit lead declare_by make_dts mark_access joined strict base = record {
   subcommand = subcommand;
   stream = stream;
   reporting = reporting;
@@ -80,6 +80,7 @@ plain subcommand stream reporting rate start pcr_limit lead declare_by make_dts 
     buffers = [];
     mark_access = mark_access;
     aligned = [];
+    joined = joined;
   };
 }
 
@@ -96,6 +97,7 @@ values_of rows =
     given (base_of (first_of (codes "base") rows)) (λ base.
     Some (plain subcommand stream (reporting_in rows) rate start pcr_limit lead declare_by (is_given (first_of (codes "make-dts") rows))
     (is_given (first_of (codes "mark-access") rows))
+    (is_given (first_of (codes "joined") rows))
     (is_given (first_of (codes "strict") rows)) base)))))))))
 
 -- with lists

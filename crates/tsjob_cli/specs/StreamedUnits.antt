@@ -3,10 +3,10 @@ use Rattle.std.specs.Prelude.{◌≡◌, ◌⊎◌, ℕ, ◌+◌, ◌==◌, List
 use Rattle.description_parts.specs.Described.{Described, DescribedProgram, DescribedStream}
 use Rattle.description_keys.specs.declared.fault.DescError.TheVariants as refused_by
 pub use Rattle.es_feed.specs.EachStream.{fed_stream}
-use Rattle.es_feed.specs.Feeding.{FeedView, FedStreamView, feed_first}
-use Rattle.es_feed.specs.Maps.{MapView}
-use Rattle.es_feed.specs.declared.fed_map.NamedStream.{NamedStream}
-use Rattle.es_feed.specs.Passing.{RunsStream}
+use Rattle.fed_streams.specs.Feeding.{FeedView, FedStreamView, feed_first}
+use Rattle.fed_streams.specs.Maps.{MapView}
+use Rattle.fed_streams.specs.declared.fed_map.NamedStream.{NamedStream}
+use Rattle.es_records.specs.Passing.{RunsStream}
 use Rattle.checked_jobs.specs.Jobs.{described}
 use Rattle.description_keys.specs.Codes.{fault_code, fault_item}
 use Rattle.description_keys.specs.declared.fault.DescFault.{DescFault}

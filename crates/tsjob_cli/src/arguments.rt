@@ -161,6 +161,7 @@ fn values_of<'a>(alloc: Global, matches: &ArgMatches<'a>) -> Option<JobArguments
         buffers: Vec::new(alloc),
         mark_access: is_given(text_of(matches, "mark-access")),
         aligned: Vec::new(alloc),
+        joined: is_given(text_of(matches, "joined")),
     })
 }
 

@@ -6,14 +6,14 @@ ghost use Rattle.word_faults.specs.KnownWords.{known_of};
 use crate::arguments::subcommand_of;
 use crate::file_mark::has_mark;
 use crate::rows::{
-    ALIGNED, BASE, BUFFERS, DECLARE, HELP, LEAD, MAKE_DTS, MARK_ACCESS, NAME, NETWORK, OUTPUT, PCR,
-    PROGRAM, PROGRESS, QUIET, RATE, START, STRICT, VERBOSE, VERSION, WITHOUT,
+    ALIGNED, BASE, BUFFERS, DECLARE, HELP, JOINED, LEAD, MAKE_DTS, MARK_ACCESS, NAME, NETWORK,
+    OUTPUT, PCR, PROGRAM, PROGRESS, QUIET, RATE, START, STRICT, VERBOSE, VERSION, WITHOUT,
 };
 use job_run::Subcommand;
 use word_faults::{KnownWords, OptionRow, ValueKind, word_beside};
 
 /// The options, and the word beside them. What is read, which word is a fault, and the usage follow these rows.
-pub(crate) const OPTIONS: [OptionRow; 24] = [
+pub(crate) const OPTIONS: [OptionRow; 25] = [
     OptionRow {
         name: "subcommand",
         value: ValueKind::Word,
@@ -34,6 +34,7 @@ pub(crate) const OPTIONS: [OptionRow; 24] = [
     NETWORK,
     NAME,
     MAKE_DTS,
+    JOINED,
     MARK_ACCESS,
     ALIGNED,
     STRICT,
@@ -81,6 +82,7 @@ const USAGE: &str = "usage: tsjob [describe|units|why] [OPTIONS] [FILE..|-] [-o 
   --network ID:NAME[:ORIGINAL]   the network, and original_network_id
   --name N:NAME[:PROVIDER],..    the names of the services of programs
   --make-dts                     DTS are made from PTS
+  --joined                       a recording that was joined from several: its parts come one after another
   --mark-access                  units at which a decoder may begin have random_access_indicator
   --aligned PID,..               PIDs whose units have data_alignment_indicator
   --strict                       a stream that cannot be carried refuses the input; else it is left out

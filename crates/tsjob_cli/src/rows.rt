@@ -138,6 +138,16 @@ pub const MAKE_DTS: OptionRow = OptionRow {
     help: "DTS are made from PTS",
 };
 
+/// Whether the parts of a recording that was joined from several come one after another.
+pub const JOINED: OptionRow = OptionRow {
+    name: "joined",
+    value: ValueKind::Flag,
+    form: "",
+    unit: "",
+    apart: "",
+    help: "a recording that was joined from several: its parts come one after another",
+};
+
 /// Whether the units at which a decoder may begin are marked.
 pub const MARK_ACCESS: OptionRow = OptionRow {
     name: "mark-access",

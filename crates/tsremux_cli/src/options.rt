@@ -4,8 +4,8 @@ ghost use Rattle.tsremux_cli.specs.Options as spec;
 ghost use Rattle.word_faults.specs.KnownWords.{known_of};
 
 use tsjob_cli::rows::{
-    ALIGNED, BASE, BUFFERS, DECLARE, HELP, LEAD, MAKE_DTS, MARK_ACCESS, NAME, NETWORK, OUTPUT, PCR,
-    PROGRAM, PROGRESS, QUIET, RATE, START, STRICT, VERBOSE, VERSION, WITHOUT,
+    ALIGNED, BASE, BUFFERS, DECLARE, HELP, JOINED, LEAD, MAKE_DTS, MARK_ACCESS, NAME, NETWORK,
+    OUTPUT, PCR, PROGRAM, PROGRESS, QUIET, RATE, START, STRICT, VERBOSE, VERSION, WITHOUT,
 };
 use word_faults::{KnownWords, OptionRow, ValueKind};
 
@@ -40,7 +40,7 @@ const RECORDS: OptionRow = OptionRow {
 };
 
 /// The options. Which word is a fault, and the usage, follow these rows.
-pub(crate) const OPTIONS: [OptionRow; 24] = [
+pub(crate) const OPTIONS: [OptionRow; 25] = [
     RATE,
     PROGRAM,
     WITHOUT,
@@ -53,6 +53,7 @@ pub(crate) const OPTIONS: [OptionRow; 24] = [
     NETWORK,
     NAME,
     MAKE_DTS,
+    JOINED,
     MARK_ACCESS,
     ALIGNED,
     STRICT,
@@ -96,6 +97,7 @@ const USAGE: &str = "usage: tsremux [OPTIONS] [FILE..|-] -o OUT
   --network ID:NAME[:ORIGINAL]   the network, and original_network_id
   --name N:NAME[:PROVIDER],..    the names of the services of programs
   --make-dts                     DTS are made from PTS
+  --joined                       a recording that was joined from several: its parts come one after another
   --mark-access                  units at which a decoder may begin have random_access_indicator
   --aligned PID,..               PIDs whose units have data_alignment_indicator
   --strict                       a stream that cannot be carried refuses the input; else it is left out

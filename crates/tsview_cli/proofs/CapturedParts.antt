@@ -2,13 +2,13 @@
 use Rattle.std.proofs.Common.{◌≡◌, ◌<◌, ℕ, Bool, List, [], ◌∷◌, ◌++◌, length, map, refl, sym, ap, ap₂, subst, ◌∙◌, arith, append_assoc, append-nil, Option}
 use Rattle.std.proofs.Common.{Some, None, Result, Ok, Err}
 use Rattle.std.specs.Prelude.{OnOk, IfOk}
-use Rattle.capture.specs.Captures.{Capture, IsPacket, IsSize, IsSlip, Part, capture_of, with_parts}
+use Rattle.capture.specs.Captures.{Capture, IsPacket, IsSize, IsSlip, IsStamped, Part, capture_of, with_parts}
 use Rattle.capture.specs.Reading.{ReaderView, Takes, TakesLast, capture_by, capture_left, no_bytes}
 use Rattle.capture.specs.declared.reader.CaptureEnd.{CaptureEnd}
 use Rattle.events.specs.declared.event.Event.{Event}
 use Rattle.events.specs.declared.timed_event.TimedEvent.{TimedEvent}
 use Rattle.events.specs.declared.input_event.FileForm.{FileForm}
-use Rattle.analysis.specs.Analysis.{AnalysisState, IsAnalysed, after_all, after_packet, events_all, events_at, timed, with_event}
+use Rattle.analysis.specs.Analysis.{AnalysisState, IsAnalysed, after_all, after_packet, after_stamped, events_all, events_at, stamped_events, timed, with_event}
 use Rattle.analysis.specs.declared.analyser.Analyser.{Analyser}
 use Rattle.packet_sync.specs.declared.packet_sizes.OtherPackets.{OtherPackets}
 use Rattle.packet_sync.specs.declared.slip.Slip.{Slip}
@@ -61,6 +61,22 @@ pub packets_more : (first before now : ViewedParts) (s : AnalysisState) (parts :
 packets_more first before now s parts packets h view events =
     has_more first before now s parts (map IsPacket packets) h (subst (IsAnalysed now.view) (sym (after_packets (after_parts s parts) packets)) view)
     (events ∙ ap (λ (l : List TimedEvent). before.events.items ++ l) (sym (events_of_packets (after_parts s parts) packets)))
+
+stamped_state : (s : AnalysisState) (head : ℕ) (bytes : List ℕ) → after_parts s (IsStamped head bytes ∷ []) ≡ after_stamped s head bytes
+unfolding after_parts after_part
+stamped_state s head bytes = refl
+
+found_stamped : (s : AnalysisState) (head : ℕ) (bytes : List ℕ) → events_of s (IsStamped head bytes ∷ []) ≡ stamped_events s head bytes
+unfolding events_of part_events
+found_stamped s head bytes = append-nil (stamped_events s head bytes)
+
+pub stamped_more : (first before now : ViewedParts) (s : AnalysisState) (parts : List Part) (head : ℕ) (bytes : List ℕ) → HasParts first before s parts →
+    IsAnalysed now.view (after_stamped (after_parts s parts) head bytes) →
+    now.events.items ≡ before.events.items ++ stamped_events (after_parts s parts) head bytes →
+    HasParts first now s (parts ++ IsStamped head bytes ∷ [])
+stamped_more first before now s parts head bytes h view events =
+    has_more first before now s parts (IsStamped head bytes ∷ []) h (subst (IsAnalysed now.view) (sym (stamped_state (after_parts s parts) head bytes)) view)
+    (events ∙ ap (λ (l : List TimedEvent). before.events.items ++ l) (sym (found_stamped (after_parts s parts) head bytes)))
 
 slip_state : (s : AnalysisState) (slip : Slip) → after_parts s (IsSlip slip ∷ []) ≡ with_event s (slip_event slip)
 unfolding after_parts after_part

@@ -1,16 +1,16 @@
 -- What the command line asks for.
-use Rattle.std.specs.Prelude.{ℕ, Bool, if◌then◌else◌, List, Option, Some, None, codes, map, option_and_then, option_map}
+use Rattle.std.specs.Prelude.{ℕ, Bool, false, if◌then◌else◌, List, Option, Some, None, codes, map, option_and_then, option_map}
 use Rattle.std.specs.Borrow.{Bor}
 use Rattle.std.specs.Str.{bytes_eq}
 use Rattle.clap.specs.Words.{Row, Text, first_of}
 use Rattle.devices.specs.Options.{is_given}
 use Rattle.arrival.specs.declared.arrival.Arrival.{Arrival}
-use Rattle.arrival.specs.declared.arrival.Arrival.TheVariants.{Unknown, AtRate}
+use Rattle.arrival.specs.declared.arrival.Arrival.TheVariants.{Unknown, AtRate, OnLines}
 use Rattle.option_lists.specs.Lists.{buffer_list}
 use Rattle.stream_coding.specs.declared.buffers.PidBuffers.{PidBuffers}
 use Rattle.es_view.specs.declared.view_options.ViewOptions.{ViewOptions}
 use Rattle.ts_watch.specs.declared.view_request.ViewSpan.{ViewSpan}
-use Rattle.ts_watch.specs.Choices.{RequestView}
+use Rattle.ts_watch.specs.Choices.{ChoiceView, RequestView}
 use Rattle.word_faults.specs.GivenOptions.{given_options, number_if, number_of, numbers_of}
 use Rattle.tsview_cli.specs.declared.request.Request.{Request}
 use Rattle.tsview_cli.specs.declared.request.Request.TheVariants.{Lines, Page}
@@ -46,23 +46,49 @@ span_of rows =
     (number_if options (codes "to") rows))
     (number_if options (codes "from") rows)
 
--- which streams are viewed, and with which buffers
-abbrev pub request : ViewOptions → ViewSpan → List ℕ → List PidBuffers → RequestView
-request given span programs buffers = record { options = given; choice = record { programs = programs; buffers = buffers }; span = span }
+-- which programs are viewed, with which buffers
+abbrev pub choice : List ℕ → List PidBuffers → ChoiceView
+choice programs buffers = record { programs = programs; buffers = buffers }
+
+unfoldable pub choice_of : List Row → Option ChoiceView
+choice_of rows =
+    option_and_then (λ programs.
+    option_and_then (λ buffers.
+    Some (choice programs buffers))
+    (buffer_list (first_of (codes "buffers") rows)))
+    (numbers_of options (codes "program") rows)
+
+-- whether by the stamps before packets of 192 bytes
+abbrev pub request : ViewOptions → ChoiceView → ViewSpan → Bool → RequestView
+request given viewed span stamps = record { options = given; choice = viewed; span = span; stamps = stamps }
+
+-- stamps are asked for; none where a rate is given too
+unfoldable pub stamps_beside : Arrival → Bool → Option Bool
+stamps_beside Unknown stamps = Some stamps
+stamps_beside (AtRate rate) stamps = if stamps then None else Some false
+stamps_beside (OnLines lines) stamps = Some stamps
+
+abbrev pub stamps_in : List Row → Arrival → Option Bool
+stamps_in rows arrival = stamps_beside arrival (is_given (first_of (codes "arrival-stamps") rows))
 
 -- the lines of its report, or the page of them: not both
 unfoldable pub requested : Bool → Bool → RequestView → Option Request
 requested page json request = if page then (if json then None else Some (Page request)) else Some (Lines request json)
 
+-- with the options that are lists
+unfoldable pub request_with : List Row → ViewOptions → ViewSpan → Bool → Option Request
+request_with rows given span stamps =
+    option_and_then (λ viewed.
+    requested (is_given (first_of (codes "page") rows)) (is_given (first_of (codes "json") rows)) (request given viewed span stamps))
+    (choice_of rows)
+
 unfoldable pub request_of : List Row → Option Request
 request_of rows =
     option_and_then (λ given.
     option_and_then (λ span.
-    option_and_then (λ programs.
-    option_and_then (λ buffers.
-    requested (is_given (first_of (codes "page") rows)) (is_given (first_of (codes "json") rows)) (request given span programs buffers))
-    (buffer_list (first_of (codes "buffers") rows)))
-    (numbers_of options (codes "program") rows))
+    option_and_then (λ stamps.
+    request_with rows given span stamps)
+    (stamps_in rows given.arrival))
     (span_of rows))
     (options_of rows)
 

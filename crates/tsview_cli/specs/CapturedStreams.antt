@@ -3,7 +3,7 @@ use Rattle.std.specs.Prelude.{◌≡◌, ◌<◌, ℕ, ◌+◌, ◌-◌, ◌/◌
 use Rattle.std.specs.Prelude.{Some, None}
 use Rattle.arrival.specs.declared.arrival.Arrival.{Arrival}
 use Rattle.arrival.specs.declared.arrival.Arrival.TheVariants.{Unknown, AtRate, OnLines}
-use Rattle.capture.specs.Captures.{Capture, IsPacket, IsSize, IsSlip, Part, capture_of, size_of, with_parts}
+use Rattle.capture.specs.Captures.{Capture, IsPacket, IsSize, IsSlip, IsStamped, Part, capture_of, size_of, with_parts}
 use Rattle.capture.specs.Reading.{capture_left}
 use Rattle.packet_sync.specs.declared.packet_sizes.OtherPackets.{OtherPackets}
 use Rattle.packet_sync.specs.declared.slip.Slip.{Slip}
@@ -16,8 +16,8 @@ use Rattle.events.specs.declared.input_event.InputEvent.{InputEvent}
 use Rattle.events.specs.declared.input_event.InputEvent.TheVariants as inputs
 use Rattle.events.specs.declared.timed_event.TimedEvent.{TimedEvent}
 use Rattle.ts_watch.specs.Choices.{RequestView}
-use Rattle.analysis.specs.Analysis.{AnalysisState, IsAnalysed, after_packet, all_timed, conclusion, ended, events_at, is_faultless, is_good, start, timed}
-use Rattle.analysis.specs.Analysis.{with_event, with_events}
+use Rattle.analysis.specs.Analysis.{AnalysisState, IsAnalysed, after_packet, after_stamped, all_timed, conclusion, ended, events_at, is_faultless}
+use Rattle.analysis.specs.Analysis.{is_good, stamped_events, start, timed, with_event, with_events}
 use Rattle.analysis.specs.Analysis as ending
 use Rattle.tsview_cli.specs.declared.captured.CapturedView.{CapturedView}
 use Rattle.tsview_cli.specs.declared.captured.ViewedParts.{ViewedParts}
@@ -33,11 +33,13 @@ size_event other = events.Input (inputs.PacketSize (size_of other))
 -- the events that a part settles, and what is kept of the stream after it
 unfoldable pub part_events : AnalysisState → Part → List TimedEvent
 part_events s (IsPacket bytes) = events_at s bytes
+part_events s (IsStamped head bytes) = stamped_events s head bytes
 part_events s (IsSlip slip) = timed s (slip_event slip)
 part_events s (IsSize other) = timed s (size_event other)
 
 unfoldable pub after_part : AnalysisState → Part → AnalysisState
 after_part s (IsPacket bytes) = after_packet s bytes
+after_part s (IsStamped head bytes) = after_stamped s head bytes
 after_part s (IsSlip slip) = with_event s (slip_event slip)
 after_part s (IsSize other) = with_event s (size_event other)
 

@@ -63,6 +63,23 @@ fn span_of(matches: &ArgMatches<'_>) -> Option<ViewSpan>
     Some(ViewSpan { from, to })
 }
 
+// Whether stamps are asked for; none where a rate is given too.
+#[tactic(auto, unfolding(crate::specs::Arguments::stamps_beside))]
+fn stamps_beside(arrival: &Arrival, stamps: bool) -> Option<bool>
+    ensures { result ≡ spec.stamps_beside arrival.now stamps }
+{
+    match arrival {
+        Arrival::Unknown | Arrival::OnLines(_) => Some(stamps),
+        Arrival::AtRate(_) => { if stamps { None } else { Some(false) } }
+    }
+}
+
+fn stamps_in(matches: &ArgMatches<'_>, arrival: &Arrival) -> Option<bool>
+    ensures { result ≡ spec.stamps_in (rows_of (found_of matches.now)) arrival.now }
+{
+    stamps_beside(arrival, is_given(text_of(matches, "arrival-stamps")))
+}
+
 // Its lines, or a page of them; none where both are asked for.
 #[tactic(auto, unfolding(crate::specs::Arguments::requested))]
 fn requested(page: bool, json: bool, request: ViewRequest) -> Option<Request>
@@ -78,7 +95,46 @@ fn requested(page: bool, json: bool, request: ViewRequest) -> Option<Request>
     Some(Request::Page(request))
 }
 
+// Which programs are viewed, with which buffers; none where one of the lists is not one.
+#[tactic(auto, unfolding(crate::specs::Arguments::choice_of))]
+fn choice_of(alloc: Global, matches: &ArgMatches<'_>) -> Result<Option<ViewChoice>, AllocError>
+    ensures { IfOk result (λ r. r ≡ spec.choice_of (rows_of (found_of matches.now))) }
+{
+    let Some(programs) = numbers_of(alloc, &OPTIONS, matches, "program")? else {
+        return Ok(None);
+    };
+    let Some(buffers) = buffer_list(alloc, text_of(matches, "buffers"))? else {
+        return Ok(None);
+    };
+    Ok(Some(ViewChoice { programs, buffers }))
+}
+
 // With the options that are lists.
+#[tactic(auto, unfolding(crate::specs::Arguments::request_with))]
+fn request_with(
+    alloc: Global,
+    matches: &ArgMatches<'_>,
+    options: ViewOptions,
+    span: ViewSpan,
+    stamps: bool,
+) -> Result<Option<Request>, AllocError>
+    ensures { IfOk result (λ r. r ≡ spec.request_with (rows_of (found_of matches.now)) options span stamps) }
+{
+    let Some(choice) = choice_of(alloc, matches)? else {
+        return Ok(None);
+    };
+    let page = is_given(text_of(matches, "page"));
+    let json = is_given(text_of(matches, "json"));
+    let request = ViewRequest {
+        options,
+        choice,
+        span,
+        stamps,
+    };
+    Ok(requested(page, json, request))
+}
+
+// All that the options ask for.
 #[tactic(auto, unfolding(crate::specs::Arguments::request_of))]
 fn request_of(alloc: Global, matches: &ArgMatches<'_>) -> Result<Option<Request>, AllocError>
     ensures { IfOk result (λ r. r ≡ spec.request_of (rows_of (found_of matches.now))) }
@@ -89,21 +145,10 @@ fn request_of(alloc: Global, matches: &ArgMatches<'_>) -> Result<Option<Request>
     let Some(span) = span_of(matches) else {
         return Ok(None);
     };
-    let Some(programs) = numbers_of(alloc, &OPTIONS, matches, "program")? else {
+    let Some(stamps) = stamps_in(matches, &options.arrival) else {
         return Ok(None);
     };
-    let Some(buffers) = buffer_list(alloc, text_of(matches, "buffers"))? else {
-        return Ok(None);
-    };
-    let choice = ViewChoice { programs, buffers };
-    let page = is_given(text_of(matches, "page"));
-    let json = is_given(text_of(matches, "json"));
-    let request = ViewRequest {
-        options,
-        choice,
-        span,
-    };
-    Ok(requested(page, json, request))
+    request_with(alloc, matches, options, span, stamps)
 }
 
 // The name of the file with the stream; none where the stream comes on the input.

@@ -63,6 +63,11 @@ impl PartTaker for ViewedParts {
         Ok(())
     }
 
+    fn take_stamped(&mut self, head: u32, packet: &[u8; 188]) -> Result<(), AllocError> {
+        self.view.take_stamped(head, packet, &mut self.events)?;
+        Ok(())
+    }
+
     fn take_slip(&mut self, slip: Slip) -> Result<(), AllocError> {
         self.view.take_event(slip_event(slip), &mut self.events)?;
         Ok(())

@@ -8,7 +8,7 @@ use word_faults::{KnownWords, OptionRow, ValueKind};
 
 /// The options, and the name of a file beside them. What is read, which word is a fault, and the usage follow these
 /// rows.
-pub(crate) const OPTIONS: [OptionRow; 13] = [
+pub(crate) const OPTIONS: [OptionRow; 14] = [
     OptionRow {
         name: "file",
         value: ValueKind::Word,
@@ -27,8 +27,16 @@ pub(crate) const OPTIONS: [OptionRow; 13] = [
         },
         form: "",
         unit: "bits a second, or with k or M",
-        apart: "",
+        apart: "--arrival-stamps",
         help: "the rate of the stream in bits a second; else by its clock references",
+    },
+    OptionRow {
+        name: "arrival-stamps",
+        value: ValueKind::Flag,
+        form: "",
+        unit: "",
+        apart: "--rate",
+        help: "packets of 192 bytes arrive by the stamps before them",
     },
     OptionRow {
         name: "window",
@@ -140,6 +148,7 @@ pub(crate) const OPTIONS: [OptionRow; 13] = [
 const USAGE: &str = "usage: tsview [OPTIONS] [FILE|-] < PACKETS
        tsview --plan < JOB
   --rate 100000..100000000       the rate of the stream in bits a second; else by its clock references
+  --arrival-stamps               packets of 192 bytes arrive by the stamps before them
   --window 10..3600000           the length of a window in ms; else 1000
   --from 0..1000000000           leave out faults and windows that end before this time in ms
   --to 0..1000000000             leave out faults and windows that begin after this time in ms

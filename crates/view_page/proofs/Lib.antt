@@ -1,1 +1,2 @@
 pub mod Events
+mod Settling

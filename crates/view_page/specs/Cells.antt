@@ -14,7 +14,8 @@ use Rattle.view_page.specs.declared.cells.CellWord.TheVariants.{Transport, Main,
 use Rattle.view_page.specs.declared.cells.CellWord.TheVariants.{ElementaryExcess, SystemExcess, SystemMainExcess, LateUnit, ElementaryLate, LateByMultiplex}
 use Rattle.view_page.specs.declared.cells.CellWord.TheVariants.{LateByFullBuffer, FarAhead, PcrRepetition, PcrDiscontinuity, PcrAccuracy, TableRepetition}
 use Rattle.view_page.specs.declared.cells.CellWord.TheVariants.{Unclocked, SyncByte, RefusedHeader, TransportError, Continuity, CheckWord, Slip, Rest}
-use Rattle.view_page.specs.declared.cells.CellWord.TheVariants.{PacketSize, EmptyInput, NoStream, OtherRate, Bytes, Packets, Millis, Nanos, BitRate}
+use Rattle.view_page.specs.declared.cells.CellWord.TheVariants.{PacketSize, EmptyInput, NoStream, OtherRate, NoStamps, StampJump, Bytes, Packets, Millis, Nanos}
+use Rattle.view_page.specs.declared.cells.CellWord.TheVariants.{BitRate}
 use Rattle.view_page.specs.declared.cells.CellWord.TheVariants.{Unreferenced, Missing, PtsRepetition, SectionDistance, OtherTable, ScrambledTable, NoCat}
 use Rattle.view_page.specs.declared.cells.CellWord.TheVariants.{NotEmpty, Delayed, NoClock, RateVaries, Nothing}
 use Rattle.view_page.specs.declared.cells.Cell.{Cell}
@@ -52,6 +53,8 @@ word_text PacketSize = codes "bytes from one packet to the next; 188 of them are
 word_text EmptyInput = codes "the input is empty"
 word_text NoStream = codes "the input is no transport stream"
 word_text OtherRate = codes "rate given, and another by the clock references"
+word_text NoStamps = codes "packets without the arrival time stamps that are asked for"
+word_text StampJump = codes "arrival time stamp that jumps"
 word_text Bytes = codes "bytes"
 word_text Packets = codes "packets"
 word_text Millis = codes "ms"

@@ -4,9 +4,10 @@ use Rattle.events.specs.declared.input_event.FileForm.{FileForm}
 use Rattle.events.specs.declared.input_event.OtherRate.{OtherRate}
 use Rattle.events.specs.declared.input_event.RestBytes.{RestBytes}
 use Rattle.events.specs.declared.input_event.SlippedBytes.{SlippedBytes}
+use Rattle.events.specs.declared.input_event.StampJump.{StampJump}
 use Rattle.view_page.specs.declared.cells.Cell.{Cell}
 use Rattle.view_page.specs.declared.cells.Cell.TheVariants.{Number, Word, Form}
-use Rattle.view_page.specs.declared.cells.CellUnit.TheVariants.{Same}
+use Rattle.view_page.specs.declared.cells.CellUnit.TheVariants.{Same, Ticks}
 use Rattle.view_page.specs.declared.cells.CellWord.TheVariants as words
 use Rattle.view_page.specs.Cells.{short}
 
@@ -39,3 +40,13 @@ abbrev pub other_rate_cells : OtherRate → List Cell
 other_rate_cells e =
     Word words.OtherRate ∷ Number e.pid Same ∷ Word words.Nothing ∷ Number (short e.references) Same ∷ Number e.given Same
     ∷ Word words.BitRate ∷ []
+
+-- of packets without the arrival time stamps that are asked for
+abbrev pub no_stamps_cells : List Cell
+no_stamps_cells =
+    Word words.NoStamps ∷ Word words.Nothing ∷ Word words.Nothing ∷ Word words.Nothing ∷ Word words.Nothing ∷ Word words.Nothing ∷ []
+
+-- of an arrival time stamp that jumps
+abbrev pub stamp_jump_cells : StampJump → List Cell
+stamp_jump_cells e =
+    Word words.StampJump ∷ Word words.Nothing ∷ Number e.packet Same ∷ Number e.value Ticks ∷ Number e.limit Ticks ∷ Word words.Millis ∷ []

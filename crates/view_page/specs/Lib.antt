@@ -7,6 +7,8 @@ pub mod SummaryCells
 pub mod InputCells
 pub mod RowTexts
 pub mod Rows
+pub mod Services
+pub mod Trees
 pub mod Values
 pub mod Pages
 pub mod PageText

@@ -7,7 +7,7 @@ use Rattle.events.specs.declared.event.Event.TheVariants.{PcrAccuracy, TableRepe
 use Rattle.events.specs.declared.event.Event.TheVariants.{Multiplexing, Elementary, Marks, System, Clock, Table, Pid, Unreferenced, Missing, Check, End, Rule}
 use Rattle.events.specs.declared.event.Event.TheVariants.{Summary}
 use Rattle.events.specs.Windows.{WindowView}
-use Rattle.page_charts.specs.PidLabels.{LabelsState, with_program, with_service}
+use Rattle.page_charts.specs.PidLabels.{LabelsState, with_pid, with_program, with_service}
 use Rattle.view_page.specs.HtmlTexts.{html_text}
 
 unfoldable pub with_name : ℕ → Option (List ℕ) → LabelsState → LabelsState
@@ -17,9 +17,12 @@ with_name program (Some name) l = with_service program (html_text name) l
 abbrev pub with_named : LabelsState → WindowView → ℕ → LabelsState
 with_named l w program = with_name program w.service (with_program w.pid (record { program = program; name = w.coding }) l)
 
+abbrev pub with_named_if : LabelsState → WindowView → ℕ → LabelsState
+with_named_if l w program = if program == 0 then l else with_named l w program
+
 -- `window`: 0 is no program
 abbrev pub with_window : LabelsState → WindowView → LabelsState
-with_window l w = if unwrap_or w.program 0 == 0 then l else with_named l w (unwrap_or w.program 0)
+with_window l w = with_named_if (with_pid w.pid w.coding l) w (unwrap_or w.program 0)
 
 unfoldable pub with_event : LabelsState → Event → LabelsState
 with_event l (Window w) = with_window l w

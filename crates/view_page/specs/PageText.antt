@@ -1,7 +1,7 @@
 -- The text of a page.
 use Rattle.std.specs.Prelude.{ℕ, List, [], ◌∷◌, ◌++◌, codes, decimal, flat_map, length, Option, Some, None}
 use Rattle.page_charts.specs.declared.frame.ChartUnit.{ChartUnit}
-use Rattle.page_charts.specs.declared.frame.ChartUnit.TheVariants.{BitRate, Bytes, Time}
+use Rattle.page_charts.specs.declared.frame.ChartUnit.TheVariants.{BitRate, Bytes, Time, Nanoseconds}
 use Rattle.page_charts.specs.declared.pid_curves.PidCurve.{PidCurve}
 use Rattle.page_charts.specs.Charts.{chart}
 use Rattle.page_charts.specs.Frames.{frame}
@@ -10,12 +10,14 @@ use Rattle.page_charts.specs.PidCurves.{greatest_value}
 use Rattle.view_page.specs.declared.page.Page.{Page}
 use Rattle.events.specs.declared.event.ReportEnd.{ReportEnd}
 use Rattle.view_page.specs.declared.page_heads.TheConstants.{APART, BACK, BUFFERS, CHECKS, CLOCKS, FAULTS, FRONT, MAINS, PIDS, RATES, SLACKS, STREAMS, STRIPS}
-use Rattle.view_page.specs.declared.page_heads.TheConstants.{SYSTEMS, TABLES, TRANSPORTS}
+use Rattle.view_page.specs.declared.page_heads.TheConstants.{INACCURACIES, INTERVALS, SERVICES, SYSTEMS, TABLES, TRANSPORTS, TREE}
 use Rattle.page_charts.specs.PidLabels.{LabelsState}
+use Rattle.page_charts.specs.Stacks.{stack}
 use Rattle.page_charts.specs.StripTables.{table as strip_table}
 use Rattle.view_page.specs.Cells.{carried_cell}
 use Rattle.view_page.specs.MarkCells.{marks_text}
 use Rattle.view_page.specs.SummaryCells.{kinds_text}
+use Rattle.view_page.specs.Trees.{tree}
 use Rattle.view_page.specs.RowTexts.{RowTexts, StreamText}
 
 -- texts that are always the same
@@ -25,11 +27,20 @@ front_text = FRONT.now
 unfoldable pub strips_text : List ℕ
 strips_text = STRIPS.now
 
+unfoldable pub services_text : List ℕ
+services_text = SERVICES.now
+
 unfoldable pub rates_text : List ℕ
 rates_text = RATES.now
 
 unfoldable pub slacks_text : List ℕ
 slacks_text = SLACKS.now
+
+unfoldable pub intervals_text : List ℕ
+intervals_text = INTERVALS.now
+
+unfoldable pub inaccuracies_text : List ℕ
+inaccuracies_text = INACCURACIES.now
 
 unfoldable pub transports_text : List ℕ
 transports_text = TRANSPORTS.now
@@ -63,6 +74,9 @@ pids_text = PIDS.now
 
 unfoldable pub apart_text : List ℕ
 apart_text = APART.now
+
+unfoldable pub tree_text : List ℕ
+tree_text = TREE.now
 
 unfoldable pub back_text : List ℕ
 back_text = BACK.now
@@ -103,6 +117,13 @@ buffer_chart p name entry = one_chart p name Bytes (entry ∷ [])
 unfoldable pub rates : Page → List ℕ
 rates p = rates_text ++ one_chart p (codes "bit rate by PID over time") BitRate p.values.rates.curves.items
 
+-- the bit rates of programs, each on those after it
+unfoldable pub services : Page → List ℕ
+services p =
+    services_text
+    ++ stack (codes "bit rate by service over time") (frame BitRate p.values.windows p.millis (greatest_value p.services.curves.sums.curves.items)) p.labels
+    p.services.curves.rates.curves.items p.services.curves.sums.curves.items
+
 unfoldable pub transports : Page → List ℕ
 transports p = transports_text ++ flat_map (buffer_chart p (codes "bytes in a transport buffer over time")) p.values.transports.curves.items
 
@@ -112,11 +133,26 @@ mains p = mains_text ++ flat_map (buffer_chart p (codes "bytes in a main buffer 
 unfoldable pub slacks : Page → List ℕ
 slacks p = slacks_text ++ one_chart p (codes "time from a unit's last byte to its DTS over time") Time p.values.slacks.curves.items
 
+-- the greatest time between clock references, and their greatest inaccuracy
+unfoldable pub intervals : Page → List ℕ
+intervals p = intervals_text ++ one_chart p (codes "time between clock references over time") Time p.values.intervals.curves.items
+
+unfoldable pub inaccuracies : Page → List ℕ
+inaccuracies p =
+    inaccuracies_text ++ one_chart p (codes "inaccuracy of clock references over time") Nanoseconds p.values.inaccuracies.curves.items
+
+unfoldable pub times : Page → List ℕ
+times p = slacks p ++ (intervals p ++ inaccuracies p)
+
 unfoldable pub charts : Page → List ℕ
-charts p = rates p ++ (transports p ++ (mains p ++ slacks p))
+charts p = rates p ++ (transports p ++ (mains p ++ times p))
+
+-- the programs and their PIDs
+unfoldable pub program_list : Page → List ℕ
+program_list p = tree_text ++ tree p.labels p.services.programs.entries
 
 unfoldable pub pictures : Page → List ℕ
-pictures p = strips p ++ charts p
+pictures p = strips p ++ (program_list p ++ (services p ++ charts p))
 
 abbrev pub row_head : ℕ → List ℕ
 row_head pid = codes "<tr><td>" ++ decimal pid

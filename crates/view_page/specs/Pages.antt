@@ -13,15 +13,19 @@ use Rattle.page_charts.specs.PidLabels.{LabelsState, no_labels}
 use Rattle.view_page.specs.PageLabels as labels
 use Rattle.view_page.specs.RowTexts.{RowTexts}
 use Rattle.view_page.specs.Rows as rows
+use Rattle.view_page.specs.Services as services
+use Rattle.view_page.specs.Services.{AreServices, KeptServices}
 use Rattle.view_page.specs.Values as values
 use Rattle.view_page.specs.Values.{AreValues, KeptValues}
 
--- the length of a window in ms, the given rate, the rows of tables, the curves, what PIDs carry, and the end
+-- the length of a window in ms, the given rate, the rows of tables, the curves of PIDs and of programs, what PIDs carry, and
+-- the end
 pub record PageState : Type 0 where
   pub millis : ℕ
   pub rate : Option ℕ
   pub rows : RowTexts
   pub values : KeptValues
+  pub services : KeptServices
   pub labels : LabelsState
   pub end : ReportEnd
 
@@ -30,6 +34,7 @@ pub record IsPage (page : Page) (s : PageState) : Type 0 where
   pub rate : page.rate ≡ s.rate
   pub rows : page.rows ≡ s.rows
   pub values : AreValues page.values s.values
+  pub services : AreServices page.services s.services
   pub labels : page.labels ≡ s.labels
   pub end : page.end ≡ s.end
 
@@ -39,6 +44,7 @@ no_events millis rate = record {
   rate = rate;
   rows = rows.no_rows;
   values = values.no_values;
+  services = services.no_services;
   labels = no_labels;
   end = record { packets = 0; refused = 0; left = 0 };
 }
@@ -92,6 +98,7 @@ after_event s e = record {
   rate = s.rate;
   rows = rows.with_event s.labels s.rows e;
   values = values.with_event s.values e.event;
+  services = services.with_event s.services e.event;
   labels = labels.with_event s.labels e.event;
   end = end_after s.end e.event;
 }

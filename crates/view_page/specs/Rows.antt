@@ -23,7 +23,8 @@ use Rattle.view_page.specs.RowCells.{ahead_cells, check_cells, check_word_cells,
 use Rattle.view_page.specs.RowCells.{elementary_cells, elementary_late_cells, excess_cells, late_cells, main_cells, multiplexing_cells, pid_cells}
 use Rattle.view_page.specs.RowCells.{program_excess_cells, reference_cells, refused_cells, stream_cells, system_cells, table_cells, table_fault_cells}
 use Rattle.view_page.specs.RowCells.{transport_cells, unclocked_cells}
-use Rattle.view_page.specs.InputCells.{empty_cells, no_stream_cells, other_rate_cells, packet_size_cells, rest_cells, slip_cells}
+use Rattle.view_page.specs.InputCells.{empty_cells, no_stream_cells, no_stamps_cells, other_rate_cells, stamp_jump_cells, packet_size_cells, rest_cells}
+use Rattle.view_page.specs.InputCells.{slip_cells}
 use Rattle.page_charts.specs.PidLabels.{LabelsState}
 use Rattle.view_page.specs.MarkCells.{mark_cells}
 use Rattle.view_page.specs.SummaryCells.{fault_cells, sentence_text, time_cells, totals_cells}
@@ -121,6 +122,8 @@ with_input labels fault r inputs.Empty = with_fault labels fault r empty_cells
 with_input labels fault r (inputs.NoStream form) = with_fault labels fault r (no_stream_cells form)
 with_input labels fault r (inputs.OtherRate e) = with_fault labels fault r (other_rate_cells e)
 with_input labels fault r (inputs.Rest e) = with_fault labels fault r (rest_cells e)
+with_input labels fault r inputs.NoStamps = with_fault labels fault r no_stamps_cells
+with_input labels fault r (inputs.StampJump e) = with_fault labels fault r (stamp_jump_cells e)
 
 abbrev pub with_stream : LabelsState → RowTexts → StreamBegin → RowTexts
 with_stream labels r e = record r { streams = r.streams ++ record { pid = e.pid; cells = flat_map (cell labels) (stream_cells e) } ∷ [] }

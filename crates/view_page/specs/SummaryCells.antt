@@ -68,6 +68,8 @@ kind_cells kinds.Delayed = time words.Delayed
 kind_cells kinds.Unreferenced = plain words.Unreferenced
 kind_cells kinds.Missing = plain words.Missing
 kind_cells kinds.Rest = plain words.Rest
+kind_cells kinds.NoStamps = plain words.NoStamps
+kind_cells kinds.StampJump = time words.StampJump
 
 -- a moment in ms, if it is known
 unfoldable pub moment_cell : Option ℕ → Cell

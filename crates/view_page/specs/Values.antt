@@ -7,6 +7,9 @@ use Rattle.events.specs.declared.event.Event.TheVariants.{PcrAccuracy, TableRepe
 use Rattle.events.specs.declared.event.Event.TheVariants.{Multiplexing, Elementary, Marks, System, Clock, Table, Pid, Unreferenced, Missing, Check, End, Rule}
 use Rattle.events.specs.declared.event.Event.TheVariants.{Summary}
 use Rattle.events.specs.declared.event.HeldFigures.{HeldFigures}
+use Rattle.events.specs.declared.rule_event.ClockFigures.{ClockFigures}
+use Rattle.events.specs.declared.rule_event.RuleEvent.{RuleEvent}
+use Rattle.events.specs.declared.rule_event.RuleEvent.TheVariants as rules
 use Rattle.events.specs.declared.event.StreamBegin.{StreamBegin}
 use Rattle.events.specs.declared.event.UnitFigures.{UnitFigures}
 use Rattle.events.specs.Windows.{WindowView}
@@ -19,13 +22,16 @@ use Rattle.view_page.specs.declared.values.Values.{Values}
 use Rattle.view_page.specs.Cells.{short}
 
 -- the number of windows; bit rates by PID, the most bytes in the transport buffer of a stream, the most and the least in its main buffer,
--- and the least slack of its units in microseconds
+-- and the least slack of its units in microseconds; the greatest interval of the clock references of a PID in microseconds, and their
+-- greatest inaccuracy in nanoseconds
 pub record KeptValues : Type 0 where
   pub windows : ℕ
   pub rates : List KeptCurve
   pub transports : List KeptCurve
   pub mains : List KeptCurve
   pub slacks : List KeptCurve
+  pub intervals : List KeptCurve
+  pub inaccuracies : List KeptCurve
 
 pub record AreValues (values : Values) (kept : KeptValues) : Type 0 where
   pub windows : values.windows ≡ kept.windows
@@ -33,9 +39,11 @@ pub record AreValues (values : Values) (kept : KeptValues) : Type 0 where
   pub transports : AreCurves values.transports.curves.items kept.transports
   pub mains : AreCurves values.mains.curves.items kept.mains
   pub slacks : AreCurves values.slacks.curves.items kept.slacks
+  pub intervals : AreCurves values.intervals.curves.items kept.intervals
+  pub inaccuracies : AreCurves values.inaccuracies.curves.items kept.inaccuracies
 
 abbrev pub no_values : KeptValues
-no_values = record { windows = 0; rates = []; transports = []; mains = []; slacks = [] }
+no_values = record { windows = 0; rates = []; transports = []; mains = []; slacks = []; intervals = []; inaccuracies = [] }
 
 -- a PID is called by its coding where it is a stream with buffers
 unfoldable pub name_or : Option PidName → ℕ → PidName
@@ -80,6 +88,31 @@ with_held v e = if e.transport == 0 then v else with_fullness v e
 abbrev pub with_units : KeptValues → UnitFigures → KeptValues
 with_units v e = record v { slacks = with_sample e.pid (sample e.number (short e.slack / 27)) v.slacks }
 
+-- `clock_window`: the greatest interval of a PID's clock references, rounded down to microseconds, beside 100 ms, and their greatest inaccuracy
+-- beside 500 ns; a window in which no reference follows another one says nothing
+abbrev pub with_interval : KeptValues → PidName → ClockFigures → KeptValues
+with_interval v name e = record v { intervals = with_sample e.pid (sample e.number (short e.interval / 27)) (opened e.pid name 100000 v.intervals) }
+
+abbrev pub with_inaccuracy : KeptValues → PidName → ClockFigures → KeptValues
+with_inaccuracy v name e = record v { inaccuracies = with_sample e.pid (sample e.number (short e.inaccuracy)) (opened e.pid name 500 v.inaccuracies) }
+
+abbrev pub with_both : KeptValues → ClockFigures → KeptValues
+with_both v e = with_inaccuracy (with_interval v (name_of v e.pid) e) (name_of v e.pid) e
+
+abbrev pub with_clock : KeptValues → ClockFigures → KeptValues
+with_clock v e = if e.interval == 0 then v else with_both v e
+
+unfoldable pub with_rule : KeptValues → RuleEvent → KeptValues
+with_rule v (rules.ClockWindow e) = with_clock v e
+with_rule v (rules.PtsRepetition e) = v
+with_rule v (rules.SectionDistance e) = v
+with_rule v (rules.OtherTable e) = v
+with_rule v (rules.ScrambledTable e) = v
+with_rule v (rules.NoCat e) = v
+with_rule v (rules.NotEmpty e) = v
+with_rule v (rules.Delayed e) = v
+with_rule v (rules.VariableRate e) = v
+
 unfoldable pub with_event : KeptValues → Event → KeptValues
 with_event v (Window w) = with_window v w
 with_event v (Input e) = v
@@ -116,5 +149,5 @@ with_event v (Unreferenced e) = v
 with_event v (Missing e) = v
 with_event v (Check e) = v
 with_event v (End e) = v
-with_event v (Rule e) = v
+with_event v (Rule e) = with_rule v e
 with_event v (Summary e) = v

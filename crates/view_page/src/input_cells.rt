@@ -3,7 +3,7 @@ ghost use Rattle.std.specs.Prelude.{◌≡◌};
 ghost use Rattle.view_page.specs.InputCells as spec;
 
 use crate::cells::{Cell, CellUnit, CellWord, short};
-use events::{FileForm, OtherRate, RestBytes, SlippedBytes};
+use events::{FileForm, OtherRate, RestBytes, SlippedBytes, StampJump};
 
 /// Returns the cells of bytes that are in no packet.
 pub(crate) fn slip_cells(e: &SlippedBytes) -> [Cell; 6]
@@ -82,5 +82,33 @@ pub(crate) fn other_rate_cells(e: &OtherRate) -> [Cell; 6]
         Cell::Number(short(e.references), CellUnit::Same),
         Cell::Number(e.given, CellUnit::Same),
         Cell::Word(CellWord::BitRate),
+    ]
+}
+
+/// Returns the cells of packets without the arrival time stamps that are asked for.
+pub(crate) fn no_stamps_cells() -> [Cell; 6]
+    ensures { result ≡ spec.no_stamps_cells }
+{
+    [
+        Cell::Word(CellWord::NoStamps),
+        Cell::Word(CellWord::Nothing),
+        Cell::Word(CellWord::Nothing),
+        Cell::Word(CellWord::Nothing),
+        Cell::Word(CellWord::Nothing),
+        Cell::Word(CellWord::Nothing),
+    ]
+}
+
+/// Returns the cells of an arrival time stamp that jumps.
+pub(crate) fn stamp_jump_cells(e: &StampJump) -> [Cell; 6]
+    ensures { result ≡ spec.stamp_jump_cells e.now }
+{
+    [
+        Cell::Word(CellWord::StampJump),
+        Cell::Word(CellWord::Nothing),
+        Cell::Number(e.packet, CellUnit::Same),
+        Cell::Number(e.value, CellUnit::Ticks),
+        Cell::Number(e.limit, CellUnit::Ticks),
+        Cell::Word(CellWord::Millis),
     ]
 }

@@ -6,6 +6,7 @@ ghost use Rattle.view_page.specs.PageText.{page_text};
 use crate::page_labels::take_label;
 use crate::page_text::write_page;
 use crate::rows::Rows;
+use crate::services::Services;
 use crate::values::Values;
 use events::{Event, ReportEnd, TimedEvent};
 use page_charts::PidLabels;
@@ -22,6 +23,7 @@ pub struct Page {
     pub rate: Option<u64>,
     pub rows: Rows,
     pub values: Values,
+    pub services: Services,
     pub labels: PidLabels,
     pub end: ReportEnd,
 }
@@ -37,6 +39,7 @@ impl Page {
             rate,
             rows: Rows::new(alloc),
             values: Values::new(alloc),
+            services: Services::new(alloc),
             labels: PidLabels::new(alloc),
             end: ReportEnd {
                 packets: 0,
@@ -62,6 +65,7 @@ impl Page {
     {
         self.rows.take(&self.labels, event)?;
         self.values.take(&event.event)?;
+        self.services.take(&event.event)?;
         take_label(self.alloc, &mut self.labels, &event.event)?;
         self.take_end(&event.event);
         Ok(())

@@ -23,25 +23,36 @@ nav a{color:inherit;margin-right:1.2em;display:inline-block}caption{text-align:l
 .s4{--c:var(--s4)}.s5{--c:var(--s5);stroke-dasharray:130 40}.s6{--c:var(--s6);stroke-dasharray:40 30}.s7{--c:var(--s7);stroke-dasharray:150 40 30 40}
 .s8{--c:var(--s0);stroke-dasharray:20 20}.s9{--c:var(--s1);stroke-dasharray:20 60}.s10{--c:var(--s2);stroke-dasharray:200 30}.s11{--c:var(--s3);stroke-dasharray:80 80}
 .s12{--c:var(--s4);stroke-dasharray:20 20}.s13{--c:var(--s5);stroke-dasharray:20 60}.s14{--c:var(--s6);stroke-dasharray:200 30}.s15{--c:var(--s7);stroke-dasharray:80 80}
-.range{stroke-dasharray:none}.key{color:var(--ink)}.key span{display:inline-block;margin-right:1.4em}.sample{width:3em;height:.6em}
+.range{stroke-dasharray:none}.area{fill:var(--c);stroke:var(--paper);stroke-width:8;stroke-dasharray:none}.key{color:var(--ink)}.key span{display:inline-block;margin-right:1.4em}.sample{width:3em;height:.6em}
 table{border-collapse:collapse;font-variant-numeric:tabular-nums}th,td{padding:.15em .9em .15em 0;text-align:right;border-bottom:1px solid var(--line)}
 th{font-weight:500;vertical-align:bottom}.word{text-align:left}.bad{color:var(--bad);font-weight:600}.wide{overflow-x:auto}table:not(:has(td)){display:none}.tall{max-height:28em;overflow-y:auto}
 .bar{width:12em;height:.8em}.fill{stroke:var(--s0);stroke-width:7}.bar .over{stroke-width:7}.mark{stroke:var(--ink);stroke-width:2}
-details{margin:.3em 0 0 5em}.more{margin-left:0}@media(max-width:45em){.chart text{font-size:240px}.axis text{font-size:110px}.strips,.strips tbody,.strips tr{display:block}.strips td,.strips th{display:inline-block;text-align:left}.strips tr>:nth-child(5){display:block;width:100%}}
+details{margin:.3em 0 0 5em}.more{margin-left:0}.tree{columns:17em;list-style:none;padding:0;margin:0}.tree ul{list-style:none;padding-left:1.2em;margin:0;color:var(--soft)}.tree>li{break-inside:avoid}.tree>li:not(:has(li)){display:none}@media(max-width:45em){.chart text{font-size:240px}.axis text{font-size:110px}.strips,.strips tbody,.strips tr{display:block}.strips td,.strips th{display:inline-block;text-align:left}.strips tr>:nth-child(5){display:block;width:100%}}
 @media print{details,nav{display:none}.tall{max-height:none}.wide,.tall{overflow:visible}tr,.chart{break-inside:avoid}h2{break-after:avoid}table{font-size:.8em}th,td{padding-right:.5em}}
 </style></head><body>
 <h1>Transport stream</h1>
-<nav><a href=#over-time>Buffers over time</a><a href=#rates>Bit rates</a><a href=#checks>Checks</a><a href=#kinds>Faults</a><a href=#streams>Streams</a><a href=#clocks>Clock references</a><a href=#tables>Tables</a></nav>
+<nav><a href=#over-time>Buffers over time</a><a href=#programs>Programs</a><a href=#services>Services</a><a href=#rates>Bit rates</a><a href=#checks>Checks</a><a href=#kinds>Faults</a><a href=#streams>Streams</a><a href=#clocks>Clock references</a><a href=#tables>Tables</a></nav>
 ";
 
 const STRIPS: &str =
     "<h2 id=over-time>Buffers over time</h2><p class=\"soft\">The most bytes in each buffer, by window: the stronger the colour, the fuller; red and higher: over its size; not drawn: no byte came.</p>\n";
+
+const TREE: &str = "<h2 id=programs>Programs and PIDs</h2><ul class=tree>\n";
+
+const SERVICES: &str =
+    "<h2 id=services>Bit rate by service</h2><p class=\"soft\">Packets of 188 bytes, by window: each program on those after it; the first 32 programs.</p>\n";
 
 const RATES: &str =
     "<h2 id=rates>Bit rate by PID</h2><p class=\"soft\">Packets of 188 bytes, by window; the first 32 PIDs.</p>\n";
 
 const SLACKS: &str =
     "</details><h2 id=slacks>Time from a unit's last byte to its DTS</h2><p class=\"soft\">The least of the units that ended in a window.</p>\n";
+
+const INTERVALS: &str =
+    "<h2 id=intervals>Time between clock references</h2><p class=\"soft\">The greatest of a window, by PID, beside 100 ms.</p>\n";
+
+const INACCURACIES: &str =
+    "<h2 id=inaccuracies>Inaccuracy of clock references</h2><p class=\"soft\">The greatest of a window, by PID, beside 500 ns.</p>\n";
 
 const TRANSPORTS: &str =
     "<h2 id=transports>Transport buffers</h2><p class=\"soft\">The most bytes that were in the buffer, by window, beside its size. What lies over it is drawn thick, with a mark.</p><details class=\"more\"><summary>A picture of each</summary>\n";
@@ -93,6 +104,22 @@ pub(crate) fn strips_text() -> &'static str
     STRIPS
 }
 
+/// Returns the head of the list of programs.
+#[tactic(auto, unfolding(crate::specs::PageText::tree_text))]
+pub(crate) fn tree_text() -> &'static str
+    ensures { result.now ≡ spec.tree_text }
+{
+    TREE
+}
+
+/// Returns the head of the part on bit rates of programs.
+#[tactic(auto, unfolding(crate::specs::PageText::services_text))]
+pub(crate) fn services_text() -> &'static str
+    ensures { result.now ≡ spec.services_text }
+{
+    SERVICES
+}
+
 /// Returns the head of the part on bit rates.
 #[tactic(auto, unfolding(crate::specs::PageText::rates_text))]
 pub(crate) fn rates_text() -> &'static str
@@ -107,6 +134,22 @@ pub(crate) fn slacks_text() -> &'static str
     ensures { result.now ≡ spec.slacks_text }
 {
     SLACKS
+}
+
+/// Returns the head of the part on times between clock references.
+#[tactic(auto, unfolding(crate::specs::PageText::intervals_text))]
+pub(crate) fn intervals_text() -> &'static str
+    ensures { result.now ≡ spec.intervals_text }
+{
+    INTERVALS
+}
+
+/// Returns the head of the part on the inaccuracy of clock references.
+#[tactic(auto, unfolding(crate::specs::PageText::inaccuracies_text))]
+pub(crate) fn inaccuracies_text() -> &'static str
+    ensures { result.now ≡ spec.inaccuracies_text }
+{
+    INACCURACIES
 }
 
 /// Returns the head of the part on transport buffers.

@@ -48,6 +48,7 @@ fn take_window(
 ) -> Result<(), AllocError>
     ensures { OnOk result (labels.new ≡ spec.with_window labels.old window.now) }
 {
+    labels.take_pid(window.pid, window.coding)?;
     let program = window.program.unwrap_or(0);
     if program == 0 {
         Ok(())

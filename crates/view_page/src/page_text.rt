@@ -7,14 +7,16 @@ use crate::mark_cells::marks_text;
 use crate::page::Page;
 use crate::page_heads::{
     apart_text, back_text, buffers_text, checks_text, clocks_text, faults_text, front_text,
-    mains_text, pids_text, rates_text, slacks_text, streams_text, strips_text, systems_text,
-    tables_text, transports_text,
+    inaccuracies_text, intervals_text, mains_text, pids_text, rates_text, services_text,
+    slacks_text, streams_text, strips_text, systems_text, tables_text, transports_text, tree_text,
 };
 use crate::rows::{Rows, StreamRow};
 use crate::summary_cells::kinds_text;
+use crate::tree::write_tree;
 use events::ReportEnd;
 use page_charts::{
-    ChartUnit, Frame, PidCurve, PidLabels, greatest_value, write_chart, write_grouped, write_strips,
+    ChartUnit, Frame, PidCurve, PidLabels, greatest_value, write_chart, write_grouped, write_stack,
+    write_strips,
 };
 use std::alloc::AllocError;
 use std::fmt::Write;
@@ -184,6 +186,20 @@ fn write_rates(text: &mut String, page: &Page) -> Result<(), AllocError>
     write_all_in_one(text, rates_text(), page, name, ChartUnit::BitRate, curves)
 }
 
+// The bit rates of programs.
+#[tactic(auto, unfolding(crate::specs::PageText::services))]
+fn write_services(text: &mut String, page: &Page) -> Result<(), AllocError>
+    ensures { OnOk result (string_bytes text.new ≡ string_bytes text.old ++ spec.services page.now) }
+{
+    let rates = &page.services.curves.rates.curves;
+    let sums = &page.services.curves.sums.curves;
+    let unit = ChartUnit::BitRate;
+    let frame = Frame::new(unit, page.values.windows, page.millis, greatest_value(sums));
+    let name = "bit rate by service over time";
+    text.push_str(services_text())?;
+    write_stack(text, name, &frame, &page.labels, rates, sums)
+}
+
 // The transport buffers.
 #[tactic(auto, unfolding(crate::specs::PageText::transports))]
 fn write_transports(text: &mut String, page: &Page) -> Result<(), AllocError>
@@ -214,6 +230,37 @@ fn write_slacks(text: &mut String, page: &Page) -> Result<(), AllocError>
     write_all_in_one(text, slacks_text(), page, name, ChartUnit::Time, curves)
 }
 
+// The intervals of clock references.
+#[tactic(auto, unfolding(crate::specs::PageText::intervals))]
+fn write_intervals(text: &mut String, page: &Page) -> Result<(), AllocError>
+    ensures { OnOk result (string_bytes text.new ≡ string_bytes text.old ++ spec.intervals page.now) }
+{
+    let curves = &page.values.intervals.curves;
+    let name = "time between clock references over time";
+    write_all_in_one(text, intervals_text(), page, name, ChartUnit::Time, curves)
+}
+
+// The inaccuracy of clock references.
+#[tactic(auto, unfolding(crate::specs::PageText::inaccuracies))]
+fn write_inaccuracies(text: &mut String, page: &Page) -> Result<(), AllocError>
+    ensures { OnOk result (string_bytes text.new ≡ string_bytes text.old ++ spec.inaccuracies page.now) }
+{
+    let curves = &page.values.inaccuracies.curves;
+    let name = "inaccuracy of clock references over time";
+    let unit = ChartUnit::Nanoseconds;
+    write_all_in_one(text, inaccuracies_text(), page, name, unit, curves)
+}
+
+// The times, of units and of clock references.
+#[tactic(auto, unfolding(crate::specs::PageText::times))]
+fn write_times(text: &mut String, page: &Page) -> Result<(), AllocError>
+    ensures { OnOk result (string_bytes text.new ≡ string_bytes text.old ++ spec.times page.now) }
+{
+    write_slacks(text, page)?;
+    write_intervals(text, page)?;
+    write_inaccuracies(text, page)
+}
+
 // The charts.
 #[tactic(auto, unfolding(crate::specs::PageText::charts))]
 fn write_charts(text: &mut String, page: &Page) -> Result<(), AllocError>
@@ -222,7 +269,16 @@ fn write_charts(text: &mut String, page: &Page) -> Result<(), AllocError>
     write_rates(text, page)?;
     write_transports(text, page)?;
     write_mains(text, page)?;
-    write_slacks(text, page)
+    write_times(text, page)
+}
+
+// The programs and their PIDs.
+#[tactic(auto, unfolding(crate::specs::PageText::program_list))]
+fn write_program_list(text: &mut String, page: &Page) -> Result<(), AllocError>
+    ensures { OnOk result (string_bytes text.new ≡ string_bytes text.old ++ spec.program_list page.now) }
+{
+    text.push_str(tree_text())?;
+    write_tree(text, &page.labels, &page.services.programs)
 }
 
 // The pictures.
@@ -231,6 +287,8 @@ fn write_pictures(text: &mut String, page: &Page) -> Result<(), AllocError>
     ensures { OnOk result (string_bytes text.new ≡ string_bytes text.old ++ spec.pictures page.now) }
 {
     write_strip_table(text, page)?;
+    write_program_list(text, page)?;
+    write_services(text, page)?;
     write_charts(text, page)
 }
 

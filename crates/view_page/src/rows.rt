@@ -4,7 +4,8 @@ ghost use Rattle.view_page.specs.Rows as spec;
 
 use crate::cells::{Cell, CellWord, write_cells, write_row};
 use crate::input_cells::{
-    empty_cells, no_stream_cells, other_rate_cells, packet_size_cells, rest_cells, slip_cells,
+    empty_cells, no_stamps_cells, no_stream_cells, other_rate_cells, packet_size_cells, rest_cells,
+    slip_cells, stamp_jump_cells,
 };
 use crate::mark_cells::mark_cells;
 use crate::row_cells::{
@@ -246,6 +247,8 @@ impl Rows {
             InputEvent::NoStream(form) => self.take_fault(labels, fault, &no_stream_cells(*form)),
             InputEvent::OtherRate(e) => self.take_fault(labels, fault, &other_rate_cells(e)),
             InputEvent::Rest(e) => self.take_fault(labels, fault, &rest_cells(e)),
+            InputEvent::NoStamps => self.take_fault(labels, fault, &no_stamps_cells()),
+            InputEvent::StampJump(e) => self.take_fault(labels, fault, &stamp_jump_cells(e)),
         }
     }
 

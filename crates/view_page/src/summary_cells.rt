@@ -107,6 +107,8 @@ fn kind_cells(kind: FaultKind) -> KindCells
         FaultKind::Unreferenced => plain(CellWord::Unreferenced),
         FaultKind::Missing => plain(CellWord::Missing),
         FaultKind::Rest => plain(CellWord::Rest),
+        FaultKind::NoStamps => plain(CellWord::NoStamps),
+        FaultKind::StampJump => time(CellWord::StampJump),
     }
 }
 

@@ -4,15 +4,24 @@ ghost use Rattle.view_page.specs.Values as spec;
 ghost use Rattle.view_page.specs.Values.{AreValues, KeptValues};
 
 use crate::cells::short;
-use events::{Event, HeldFigures, PidName, StreamBegin, UnitFigures, WindowFigures};
+use events::{
+    ClockFigures, Event, HeldFigures, PidName, RuleEvent, StreamBegin, UnitFigures, WindowFigures,
+};
 use page_charts::PidCurves;
 use std::alloc::{AllocError, Global};
 
 /// The size of a transport buffer in bytes (ISO/IEC 13818-1, 2.4.2.3).
 const TRANSPORT_BYTES: u64 = 512;
 
+/// The greatest time from one clock reference to the next, in microseconds (ISO/IEC 13818-1, 2.7.2).
+const INTERVAL: u64 = 100_000;
+
+/// The greatest inaccuracy of a clock reference, in nanoseconds (ISO/IEC 13818-1, 2.4.2.2).
+const INACCURACY: u64 = 500;
+
 /// Curves by window: bit rates by PID, the most bytes in the transport buffer of a stream, the most and the least in
-/// its main buffer, and the least slack of its units in microseconds; and the number of windows.
+/// its main buffer, and the least slack of its units in microseconds; the greatest interval of the clock references of
+/// a PID in microseconds, and their greatest inaccuracy in nanoseconds; and the number of windows.
 #[derive(Drop)]
 pub struct Values {
     pub windows: u64,
@@ -20,6 +29,8 @@ pub struct Values {
     pub transports: PidCurves,
     pub mains: PidCurves,
     pub slacks: PidCurves,
+    pub intervals: PidCurves,
+    pub inaccuracies: PidCurves,
 }
 
 impl Values {
@@ -33,6 +44,8 @@ impl Values {
             transports: PidCurves::new(alloc),
             mains: PidCurves::new(alloc),
             slacks: PidCurves::new(alloc),
+            intervals: PidCurves::new(alloc),
+            inaccuracies: PidCurves::new(alloc),
         }
     }
 
@@ -98,6 +111,59 @@ impl Values {
             .take(units.pid, units.number, short(units.slack) / 27)
     }
 
+    // The inaccuracy of the clock references of a PID in a window.
+    fn take_inaccuracy(&mut self, name: PidName, clock: &ClockFigures) -> Result<(), AllocError>
+        ensures { (kept : KeptValues) → AreValues self.old kept →
+            OnOk result (AreValues self.new (spec.with_inaccuracy kept name clock.now)) }
+    {
+        self.inaccuracies.open(clock.pid, name, INACCURACY)?;
+        self.inaccuracies
+            .take(clock.pid, clock.number, short(clock.inaccuracy))
+    }
+
+    // Their interval.
+    fn take_interval(&mut self, name: PidName, clock: &ClockFigures) -> Result<(), AllocError>
+        ensures { (kept : KeptValues) → AreValues self.old kept →
+            OnOk result (AreValues self.new (spec.with_interval kept name clock.now)) }
+    {
+        self.intervals.open(clock.pid, name, INTERVAL)?;
+        self.intervals
+            .take(clock.pid, clock.number, short(clock.interval) / 27)
+    }
+
+    // Both.
+    fn take_both(&mut self, clock: &ClockFigures) -> Result<(), AllocError>
+        ensures { (kept : KeptValues) → AreValues self.old kept →
+            OnOk result (AreValues self.new (spec.with_both kept clock.now)) }
+    {
+        let name = self.name_of(clock.pid);
+        self.take_interval(name, clock)?;
+        self.take_inaccuracy(name, clock)
+    }
+
+    // `clock_window`: both, if a reference follows another one.
+    fn take_clock(&mut self, clock: &ClockFigures) -> Result<(), AllocError>
+        ensures { (kept : KeptValues) → AreValues self.old kept →
+            OnOk result (AreValues self.new (spec.with_clock kept clock.now)) }
+    {
+        if clock.interval == 0 {
+            return Ok(());
+        }
+        self.take_both(clock)
+    }
+
+    // An event of a check: the clock references of a window.
+    #[tactic(auto, unfolding(crate::specs::Values::with_rule))]
+    fn take_rule(&mut self, rule: &RuleEvent) -> Result<(), AllocError>
+        ensures { (kept : KeptValues) → AreValues self.old kept →
+            OnOk result (AreValues self.new (spec.with_rule kept rule.now)) }
+    {
+        match rule {
+            RuleEvent::ClockWindow(clock) => self.take_clock(clock),
+            _ => Ok(()),
+        }
+    }
+
     /// Takes an event.
     #[tactic(auto, unfolding(crate::specs::Values::with_event))]
     pub fn take(&mut self, event: &Event) -> Result<(), AllocError>
@@ -109,6 +175,7 @@ impl Values {
             Event::Stream(stream) => self.take_stream(stream),
             Event::Held(held) => self.take_held(held),
             Event::Units(units) => self.take_units(units),
+            Event::Rule(rule) => self.take_rule(rule),
             _ => Ok(()),
         }
     }

@@ -1,5 +1,10 @@
 //! What each item of a description demands of a period.
 
+ghost use Rattle.std.specs.Prelude.{◌≡◌, ◌≤◌, ◌++◌, OnOk, IfOk, map, nat_lt, option_map};
+ghost use Rattle.std.specs.List.{list_any};
+ghost use Rattle.plan_maker.specs.Demands as spec;
+ghost use Rattle.plan_maker.specs.Demands.{need_view, demand_view};
+
 use crate::search::recurrence::Recurrence;
 use crate::search::stream_rate::StreamRate;
 use slot_plan::{Description, Slot};
@@ -14,7 +19,9 @@ pub enum Need<'a> {
 
 impl Need<'_> {
     /// Returns the least own slots of a period; None where none are enough.
-    pub fn count(self, period: u64) -> Option<u64> {
+    pub fn count(&self, period: u64) -> Option<u64>
+        ensures { result ≡ spec.need_count (need_view self.now) period }
+    {
         match self {
             Need::Stream(stream) => stream.count(period),
             Need::Recurring(recurrence) => recurrence.count(period),
@@ -23,7 +30,9 @@ impl Need<'_> {
 
     /// Returns the most that the own slots may stray from even spacing, in slots times own slots; None where they are
     /// too few.
-    pub fn width(self, period: u64, count: u64) -> Option<u64> {
+    pub fn width(&self, period: u64, count: u64) -> Option<u64>
+        ensures { result ≡ spec.need_width (need_view self.now) period count }
+    {
         match self {
             Need::Stream(stream) => stream.width(period, count),
             Need::Recurring(recurrence) => recurrence.width(period, count),
@@ -31,14 +40,23 @@ impl Need<'_> {
     }
 
     /// Returns whether more own slots can't help: the main buffer alone leaves them no slot.
-    pub fn is_full(self, period: u64, count: u64) -> bool {
+    pub fn is_full(&self, period: u64, count: u64) -> bool
+        ensures { result ≡ spec.need_is_full (need_view self.now) period count }
+    {
         match self {
-            Need::Stream(stream) => match stream.main_width(period, count) {
-                Some(width) => width.saturating_add(1) < count as u128,
-                None => true,
-            },
+            Need::Stream(stream) => leaves_no_slot(count, stream.main_width(period, count)),
             Need::Recurring(_) => false,
         }
+    }
+}
+
+/// Returns whether own slots that stray so much at most have less than a slot each to stray in.
+fn leaves_no_slot(count: u64, width: Option<u128>) -> bool
+    ensures { result ≡ spec.leaves_no_slot count width }
+{
+    match width {
+        Some(width) => width < (count as u128).saturating_sub(1),
+        None => true,
     }
 }
 
@@ -59,34 +77,55 @@ pub fn demands<'a, A: Allocator>(
     alloc: A,
     description: &'a Description,
     period: u64,
-) -> Result<Option<Vec<Demand<'a>, A>>, AllocError> {
+) -> Result<Option<Vec<Demand<'a>, A>>, AllocError>
+    requires { period ≤ 65536 }
+    ensures { IfOk result (λ found. option_map (λ ds. map demand_view ds.items) found ≡ spec.demands_of description.now period) }
+{
     let mut demands = Vec::new(alloc);
     push_streams(&mut demands, description, period)?;
     push_pcrs(&mut demands, description, period)?;
     push_tables(&mut demands, description, period)?;
-    if demands.iter().any(|demand| demand.count > period) {
+    if any_over(&demands, period) {
         return Ok(None);
     }
     Ok(Some(demands))
 }
 
+/// Returns whether an item alone needs more slots than the period has.
+fn any_over(demands: &[Demand<'_>], period: u64) -> bool
+    ensures { result ≡ list_any (spec.is_over period) (map demand_view demands.now) }
+{
+    is_any_over(demands, period)
+}
+
+fn is_any_over(demands: &[Demand<'_>], period: u64) -> bool
+    ensures { result ≡ list_any (λ d. nat_lt period d.count) demands.now }
+{
+    demands.iter().any(|demand| period < demand.count)
+}
+
 /// Returns the demand of an item; where no own slots are enough, one slot more than the period has.
-fn demand_of<'a>(
-    slot: Slot,
-    need: Need<'a>,
-    number: usize,
-    kind: usize,
-    period: u64,
-) -> Demand<'a> {
+fn demand_of<'a>(slot: Slot, need: Need<'a>, number: usize, kind: usize, period: u64) -> Demand<'a>
+    requires { period ≤ 65536 }
+    ensures { demand_view result ≡ spec.demand_of slot (need_view need.entry) number kind period }
+{
     Demand {
         slot,
         need,
         number: number as u64,
         kind: kind as u64,
-        count: need
-            .count(period)
-            .unwrap_or(u64::MAX)
-            .min(period.saturating_add(1)),
+        count: count_within(period, need.count(period)),
+    }
+}
+
+/// Returns the number of own slots, at most one more than the period has; so many where none are enough.
+fn count_within(period: u64, count: Option<u64>) -> u64
+    requires { period ≤ 65536 }
+    ensures { result ≡ spec.count_within period count }
+{
+    match count {
+        Some(count) if count <= period => count,
+        _ => period + 1,
     }
 }
 
@@ -95,7 +134,10 @@ fn push_streams<'a, A: Allocator>(
     demands: &mut Vec<Demand<'a>, A>,
     description: &'a Description,
     period: u64,
-) -> Result<(), AllocError> {
+) -> Result<(), AllocError>
+    requires { period ≤ 65536 }
+    ensures { OnOk result (map demand_view demands.new.items ≡ map demand_view demands.old.items ++ spec.stream_demands description.now period) }
+{
     let kind = description.streams().len();
     let rate = description.rate().bits_per_second();
     for (i, stream) in description.streams().iter().enumerate() {
@@ -110,7 +152,10 @@ fn push_pcrs<'a, A: Allocator>(
     demands: &mut Vec<Demand<'a>, A>,
     description: &'a Description,
     period: u64,
-) -> Result<(), AllocError> {
+) -> Result<(), AllocError>
+    requires { period ≤ 65536 }
+    ensures { OnOk result (map demand_view demands.new.items ≡ map demand_view demands.old.items ++ spec.pcr_demands description.now period) }
+{
     let kind = description.programs().len();
     let rate = description.rate().bits_per_second();
     for (i, program) in description.programs().iter().enumerate() {
@@ -125,7 +170,10 @@ fn push_tables<'a, A: Allocator>(
     demands: &mut Vec<Demand<'a>, A>,
     description: &'a Description,
     period: u64,
-) -> Result<(), AllocError> {
+) -> Result<(), AllocError>
+    requires { period ≤ 65536 }
+    ensures { OnOk result (map demand_view demands.new.items ≡ map demand_view demands.old.items ++ spec.table_demands description.now period) }
+{
     description.keeps_ranges();
     let kind = description.tables();
     let rate = description.rate().bits_per_second();
@@ -139,7 +187,9 @@ fn push_tables<'a, A: Allocator>(
 }
 
 /// Returns the own slots of all items together.
-pub fn total(demands: &[Demand<'_>]) -> u64 {
+pub fn total(demands: &[Demand<'_>]) -> u64
+    ensures { result ≡ spec.total_count demands.now }
+{
     let mut total: u64 = 0;
     for demand in demands {
         total = total.saturating_add(demand.count);

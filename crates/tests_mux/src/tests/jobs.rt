@@ -6,10 +6,11 @@ use super::services::{Series, Service, units};
 use counted_io::{Counted, Failing};
 use linked_list_allocator::LocalHeap;
 use mux_core::{MuxError, Unit, multiplex, multiplex_as, multiplex_switch, multiplex_switch_as};
-use plan_checker::{CheckedPlan, CheckedSwitch};
+use plan_checker::CheckedPlan;
 pub use rows::{DOUBLE, SINGLE};
 use rows::{EMPTY, JOBS};
 use std::alloc::{Allocator, Global};
+use switch_checker::CheckedSwitch;
 
 /// A service, the periods of its first plan where the second follows, what units there are, how many slots are written,
 /// and whether as lines.

@@ -6,9 +6,10 @@ use super::services::{PATIENT, SMALL, Service, WIDE, unit};
 use linked_list_allocator::LocalHeap;
 use mux_core::laws::{Event, drive};
 use mux_core::{FeedError, Mux, NewError};
-use plan_checker::{CheckedPlan, CheckedSwitch};
+use plan_checker::CheckedPlan;
 use scripts::{PAIRS, SCRIPTS, Script, Step};
 use std::alloc::{Allocator, Global};
+use switch_checker::CheckedSwitch;
 
 fn single<A: Allocator>(
     made: Result<Mux<A>, (NewError, CheckedPlan<A>)>,

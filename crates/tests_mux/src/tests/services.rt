@@ -3,8 +3,9 @@
 use super::texts::{DESCRIPTION, PLAN, TURNED_PLAN};
 use super::{checked, edited, followed};
 use mux_core::{Marks, Unit};
-use plan_checker::{CheckedPlan, CheckedSwitch};
+use plan_checker::CheckedPlan;
 use std::alloc::{Allocator, Global};
+use switch_checker::CheckedSwitch;
 
 /// The small service by its plan: a part of its description and what replaces it, and a plan that may follow.
 #[derive(Clone, Copy)]

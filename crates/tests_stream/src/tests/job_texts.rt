@@ -3,6 +3,7 @@
 use job_text::{Heading, ProgramPart, StreamPart, TablePart, texts_are_read};
 use linked_list_allocator::LocalHeap;
 use std::alloc::{AllocError, Allocator, Global};
+use stream_coding::ProfileLevel;
 use unit_records::records_are_read;
 use unit_timing::allowance::Allowance;
 use unit_timing::framing::Framing;
@@ -66,6 +67,7 @@ static STREAMS: [StreamPart<'static>; 2] = [
             frame: 1_080,
             frame_size: 288,
         }),
+        said: ProfileLevel::Unsaid,
     },
     StreamPart {
         program: 65_535,
@@ -89,6 +91,11 @@ static STREAMS: [StreamPart<'static>; 2] = [
             size: 16_000,
         }),
         framing: None,
+        said: ProfileLevel::Avc {
+            profile: 100,
+            constraints: 0,
+            level: 31,
+        },
     },
 ];
 
@@ -151,7 +158,7 @@ pts_limit = 900000 # 10,000 ms
 rbx = 20000000 # 20,000,000 bits/s
 rx = 24000000 # 24,000,000 bits/s
 size = 200000 # 200,000 bytes
-type = 27 # H.264 video
+type = 27 # H.264 video, High profile, level 3.1
 ";
 
 fn write_programs<A: Allocator + Clone>(text: &mut String<A>) -> Result<(), AllocError> {

@@ -1,6 +1,6 @@
 //! Units of three streams, worked by hand.
 
-use es_units::merged;
+use es_moments::merged;
 use linked_list_allocator::LocalHeap;
 use pes_packet::{Marks, Unit};
 use std::alloc::{AllocError, Allocator, Global};

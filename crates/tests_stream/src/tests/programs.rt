@@ -9,9 +9,9 @@ use psi_tables::Program;
 use std::alloc::{AllocError, Global};
 use stream_programs::{
     Association, FoundPrograms, FoundStream, MapPart, ProgramPids, TableOmission, assigned_pids,
-    association_change, found_programs, free_pid, last_service, map_changes, named_programs,
-    original_network,
+    association_change, found_programs, free_pid, map_changes, named_programs,
 };
+use ts_services::{last_service, original_network};
 use vectors::{EMPTY_MAP, FIRST_MAP, LAST_MAP, MORE, NEXT_PAT, OTHER_PAT, PAT, PMT, SDT};
 
 // Sections on PIDs, one in each packet.

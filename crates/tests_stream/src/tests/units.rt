@@ -4,10 +4,8 @@ mod declaration;
 mod moments;
 
 use demux::{Finding, Kind, Part, What};
-use es_units::{
-    FoundUnit, LentBytes, UnitWarning, UnitWarningCause, WireUnit, carried_units, first_other,
-    taken_units, unit_warnings, written_id,
-};
+use es_moments::{FoundUnit, LentBytes, WireUnit, first_other, written_id};
+use es_units::{UnitWarning, UnitWarningCause, carried_units, taken_units, unit_warnings};
 use pes_packet::{Marks, PesFlags, PesHeader, Stamps};
 use std::alloc::{AllocError, Global};
 

@@ -1,5 +1,5 @@
 use Rattle.std.proofs.Common.{◌≡◌, ◌≤◌, ◌+◌, ◌∷◌, ℕ, [], Some, arith, drop, length, subst, sym}
-use Rattle.capture.specs.Captures.{IsPacket, packet_in, size_of}
+use Rattle.capture.specs.Captures.{part_in, size_of}
 use Rattle.capture.proofs.SettledParts.{Keeps, keeps_more, other_rest}
 use Rattle.capture.proofs.settling.settle_other.Goals as goal
 
@@ -15,7 +15,7 @@ loop-at-preserved g c =
       settled = λ p ended.
           subst (λ (n : ℕ). Keeps g.T.PartTaker.has_taken (Some other) p bs ended c.args.taker.now p c.take_other.new.taker (at + n)) (sym size)
           (keeps_more g.T.PartTaker.has_taken (Some other) p p p bs ended c.args.taker.now c.loop-at.taker c.take_other.new.taker at (size_of other)
-          (IsPacket (packet_in other (drop at bs)) ∷ []) (c.loop-at.invariant.settled p ended)
+          (part_in other (drop at bs) ∷ []) (c.loop-at.invariant.settled p ended)
           (λ first some taken. c.in_ok-take_other.ensures first some taken) (λ form more last. other_rest form other p bs more at fits));
     }
 

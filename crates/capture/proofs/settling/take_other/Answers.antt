@@ -1,7 +1,7 @@
-use Rattle.std.proofs.Common.{◌≡◌, ◌+◌, ◌++◌, ◌∙◌, ℕ, List, [], ◌∷◌, ap, drop, length, map, slice_range, subst}
+use Rattle.std.proofs.Common.{◌≡◌, ◌+◌, ◌-◌, ◌∷◌, ◌++◌, ◌∙◌, ℕ, List, [], ap, arith, drop, length, slice_range, subst, take}
 use Rattle.std.specs.Prelude.{OnOk}
-use Rattle.capture.specs.Captures.{IsPacket, packet_in}
-use Rattle.capture.proofs.SettledParts.{one_cut, packet_at, packet_size}
+use Rattle.capture.specs.Captures.{number_of, packet_in, packet_with}
+use Rattle.capture.proofs.SettledParts.{packet_at, packet_size, take_whole}
 use Rattle.capture.proofs.settling.take_other.Goals as goal
 
 pub returns : goal.returns
@@ -10,9 +10,13 @@ returns g c = λ first parts taken.
     let bs = c.args.bytes.now in
     let at = c.args.at in
     let f = c.front_of.result in
-    let e : slice_range bs (at + f) (at + f + 188) ≡ packet_in other (drop at bs) =
+    let p : List ℕ = slice_range bs (at + f) (at + f + 188) in
+    let e : p ≡ packet_in other (drop at bs) =
     ap (λ (n : ℕ). slice_range bs (at + n) (at + n + 188)) c.front_of.ensures.value ∙ packet_at other bs at in
-    let size : length (slice_range bs (at + f) (at + f + 188)) ≡ 188 = ap length e ∙ packet_size other bs at c.requires in
-    subst (λ (packets : List (List ℕ)). OnOk c.take_packets.result (g.T.PartTaker.has_taken first (parts ++ map IsPacket packets) c.take_packets.new.self))
-    (c.as_chunks.ensures.front ∙ one_cut (slice_range bs (at + f) (at + f + 188)) size ∙ ap (λ (x : List ℕ). x ∷ []) e)
-    (c.take_packets.ensures first parts taken)
+    let four : at + 4 - at ≡ 4 = omega arith in
+    let size : length p ≡ 188 = ap length e ∙ packet_size other bs at c.requires in
+    subst (λ (n : ℕ). OnOk c.take_with.result (g.T.PartTaker.has_taken first (parts ++ packet_with other n (packet_in other (drop at bs)) ∷ [])
+    c.take_with.new.taker)) (c.number_of.ensures ∙ ap (λ (n : ℕ). number_of (take n (drop at bs))) four)
+    (subst (λ (b : List ℕ). OnOk c.take_with.result (g.T.PartTaker.has_taken first (parts ++ packet_with other c.number_of.result b ∷ [])
+    c.take_with.new.taker)) (take_whole p size ∙ e)
+    (c.take_with.ensures first parts taken))

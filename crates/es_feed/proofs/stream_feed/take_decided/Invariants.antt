@@ -1,5 +1,5 @@
 use Rattle.std.proofs.Common.{◌≤◌, ◌++◌, ℕ, ◌-◌, List, length, drop}
-use Rattle.es_feed.specs.Feeding.{Fed, FeedView}
+use Rattle.fed_streams.specs.Feeding.{Fed, FeedView}
 use Rattle.es_feed.specs.StreamFeeding.{IsFedBy}
 use Rattle.es_feed.proofs.stream_feed.take_decided.Given as goal
 

@@ -1,4 +1,4 @@
-use Rattle.es_units.proofs.ApartUnits.{apart_keep, apart_stay, sound_stay, row_rises}
+use Rattle.es_moments.proofs.ApartUnits.{apart_keep, apart_stay, sound_stay, row_rises}
 use Rattle.es_units.proofs.laws.apart_by_one.Goals as goal
 
 pub returns-clause-keep : goal.returns-clause-keep

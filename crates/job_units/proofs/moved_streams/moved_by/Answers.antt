@@ -1,8 +1,7 @@
 use Rattle.std.proofs.Common.{◌≡◌, ◌∙◌, ℕ, List, None, ap, subst, map}
 use Rattle.demux.specs.Shown.{finding_view}
-use Rattle.es_units.specs.CarriedUnits.{CarriedUnit}
-use Rattle.es_units.specs.Stamps.{first_fault, moved}
-use Rattle.es_units.specs.UnitMoments.{moment_of}
+use Rattle.es_moments.specs.Stamps.{first_fault, moved}
+use Rattle.es_moments.specs.UnitMoments.{moment_of}
 use Rattle.job_programs.specs.declared.program_clock.ProgramClock.{ProgramClock}
 use Rattle.job_programs.specs.JobPrograms.{clock_in}
 use Rattle.job_programs.specs.JobStreams.{WireStreamView}
@@ -10,6 +9,7 @@ use Rattle.job_units.specs.Moments.{base_of, pts_limit_of}
 use Rattle.job_units.proofs.StreamMoments.{head_of, moved_leads, moved_is}
 use Rattle.job_units.proofs.moved_streams.moved_by.Goals as goal
 use Rattle.job_programs.specs.Answers.{Leads}
+use Rattle.es_moments.specs.WireUnits.{CarriedUnit}
 
 pub returns-in-Ok-clause-value : goal.returns-in-Ok-clause-value
 unfolding Leads

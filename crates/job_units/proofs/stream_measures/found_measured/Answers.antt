@@ -1,6 +1,6 @@
 use Rattle.std.proofs.Common.{◌≡◌, ◌∙◌, refl, ap, None}
 use Rattle.pes_packet.specs.AccessUnits.{AccessUnit}
-use Rattle.es_units.specs.CountedUnits.{counted_units}
+use Rattle.es_moments.specs.CountedUnits.{counted_units}
 use Rattle.job_units.specs.Declarations.{MeasuredView, framing_for, measured}
 use Rattle.job_programs.specs.JobStreams.{WireStreamView}
 use Rattle.job_units.specs.OddStreams.{alone, own_base}

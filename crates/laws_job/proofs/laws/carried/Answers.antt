@@ -4,7 +4,7 @@ use Rattle.mux_core.specs.Histories.{content_at}
 use Rattle.mux_core.specs.Headline.{Headline}
 use Rattle.mux_core.proofs.JobWriting.{output_bytes}
 use Rattle.es_units.proofs.KeptDeclarations.{units_kept}
-use Rattle.es_units.proofs.StampMoments.{moved_by_one}
+use Rattle.es_moments.proofs.StampMoments.{moved_by_one}
 use Rattle.laws_job.specs.Laws.{schedule_for}
 use Rattle.laws_job.proofs.AcceptedUnits.{all_kept}
 use Rattle.laws_job.proofs.JobUnits.{those}

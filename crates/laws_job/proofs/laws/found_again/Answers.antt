@@ -1,7 +1,6 @@
 use Rattle.std.proofs.Common.{false, ◌∙◌}
 use Rattle.mux_core.specs.WholeJobs.{job_history, output_of}
-use Rattle.es_units.specs.ApartUnits.{apart_wire_units}
-use Rattle.es_units.specs.CarriedUnits.{wire_units}
+use Rattle.es_units.specs.CarriedUnits.{wire_units, apart_wire_units}
 use Rattle.es_units.proofs.KeptDeclarations.{units_kept}
 use Rattle.laws_job.specs.Laws.{schedule_for}
 use Rattle.laws_job.proofs.AcceptedUnits.{all_kept}

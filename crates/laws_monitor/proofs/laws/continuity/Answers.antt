@@ -1,5 +1,17 @@
 use Rattle.laws_monitor.proofs.Continuity.{counter_law}
+use Rattle.laws_monitor.proofs.CounterFaults.{counter_fault_law}
+use Rattle.laws_monitor.proofs.EachCounter.{each_counter_law}
+use Rattle.laws_monitor.proofs.SharedRules.{counter_shared}
 use Rattle.laws_monitor.proofs.laws.continuity.Goals as goal
 
-pub returns : goal.returns
-returns c = counter_law
+pub returns-clause-errors : goal.returns-clause-errors
+returns-clause-errors c = counter_law
+
+pub returns-clause-each : goal.returns-clause-each
+returns-clause-each c = each_counter_law
+
+pub returns-clause-shared : goal.returns-clause-shared
+returns-clause-shared c = counter_shared
+
+pub returns-clause-breaks : goal.returns-clause-breaks
+returns-clause-breaks c = counter_fault_law

@@ -1,6 +1,6 @@
 use Rattle.std.proofs.Common.{rules, map}
 use Rattle.stream_jobs.specs.Jobs.{AllAgree}
-use Rattle.es_units.specs.Merging.{AreMerged}
+use Rattle.es_moments.specs.Merging.{AreMerged}
 use Rattle.stream_jobs.proofs.JobUnits.{job_units}
 use Rattle.stream_jobs.proofs.JoinedUnits.{joined_units}
 use Rattle.stream_jobs.proofs.job.make_job.Goals as goal

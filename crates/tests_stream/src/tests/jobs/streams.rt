@@ -28,6 +28,7 @@ pub fn usual() -> JobOptions<'static> {
         without: &[],
         buffers: &[],
         mark_access: false,
+        joined: false,
         aligned: &[],
     }
 }

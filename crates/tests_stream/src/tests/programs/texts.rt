@@ -1,8 +1,8 @@
 //! Texts of services.
 
+use dvb_texts::decode_text;
 use linked_list_allocator::LocalHeap;
 use std::alloc::{AllocError, Allocator, Global};
-use stream_programs::decode_text;
 
 // Coded texts, the most bytes that they may take, and what is read of them.
 static ROWS: [(&[u8], usize, &str); 17] = [

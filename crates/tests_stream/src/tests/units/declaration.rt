@@ -4,7 +4,7 @@ ghost use Rattle.std.specs.Prelude.{◌≤◌};
 
 use super::moments::moved;
 use clock27::Rate;
-use es_units::{CountedPackets, UnitRuns, max_unit_size, min_interval};
+use es_moments::{CountedPackets, UnitRuns, max_unit_size, min_interval};
 use pes_packet::Unit;
 use std::alloc::Global;
 use unit_queue::{FeedError, StreamParameters, UnitQueue};

@@ -1,7 +1,7 @@
 //! Stamps as moments of a run, and DTS made of PTS, by hand.
 
 use super::{lent, wire, wire_unit};
-use es_units::{
+use es_moments::{
     DtsError, DtsFault, FoundUnit, StampError, StampFault, UnitMoment, WireUnit, constant,
     distance, found_moments, made_dts, units_at, units_with_made_dts,
 };

@@ -13,6 +13,6 @@ loop-at-preserved c =
     let enough : 188 ≤ length rest = c.in-Some.ensures.cases.enough in
     let front = c.in-Some.ensures.cases.same in
     let long : at + 188 ≤ length bytes = omega (arith, enough, ap (length {A = ℕ}) c.split_at.ensures.back, length-drop at bytes, c.loop-at.invariant.within) in
-    one_more c.args.self.now c.loop-at.self c.take.new.self bytes rest c.in-Some.packet.now at c.args.fed.now.items c.loop-at.fed.items c.take.new.fed.items
-    c.loop-at.invariant c.split_at.ensures.back long front (ap (length {A = ℕ}) front ∙ length-take-le 188 rest enough)
-    c.in_ok-take.ensures.0 c.in_ok-take.ensures.1 c.in_ok-take.ensures.2
+    one_more c.args.self.now c.loop-at.self c.take_next.new.self bytes rest c.in-Some.packet.now at c.args.fed.now.items c.loop-at.fed.items
+    c.take_next.new.fed.items c.loop-at.invariant c.split_at.ensures.back long front (ap (length {A = ℕ}) front ∙ length-take-le 188 rest enough)
+    c.in_ok-take_next.ensures.demux c.in_ok-take_next.ensures.feed c.in_ok-take_next.ensures.fed

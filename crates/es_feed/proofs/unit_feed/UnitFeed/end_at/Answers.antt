@@ -1,7 +1,7 @@
 use Rattle.std.proofs.Common.{◌≡◌, ◌<◌, ◌++◌, ◌∙◌, length, sym, ap, subst}
-use Rattle.es_feed.specs.Feeding.{FeedView, due_of}
-use Rattle.es_feed.specs.Ticks.{after_end, fed_end}
-use Rattle.es_feed.proofs.FedTicks.{ended_after, ended_fed}
+use Rattle.fed_streams.specs.Feeding.{FeedView, due_of}
+use Rattle.fed_streams.specs.Ticks.{after_end, fed_end}
+use Rattle.fed_streams.proofs.FedTicks.{ended_after, ended_fed}
 use Rattle.es_feed.proofs.unit_feed.UnitFeed.end_at.Goals as goal
 
 pub returns-clause-feed : goal.returns-clause-feed

@@ -1,7 +1,7 @@
 use Rattle.std.proofs.Common.{◌≡◌, ◌++◌, ◌∙◌, [], List, ap, rules}
-use Rattle.es_feed.specs.declared.due.Due.{Due}
-use Rattle.es_feed.specs.Feeding.{FedStreamView, FeedView, due_of, fed_last}
-use Rattle.es_feed.proofs.FedUnits.{last_step, last_end}
+use Rattle.fed_streams.specs.declared.due.Due.{Due}
+use Rattle.fed_streams.specs.Feeding.{FedStreamView, FeedView, due_of, fed_last}
+use Rattle.fed_streams.proofs.FedUnits.{last_step, last_end}
 use Rattle.es_feed.proofs.unit_feed.UnitFeed.finish.Goals as goal
 
 pub streams-preserved : goal.streams-preserved

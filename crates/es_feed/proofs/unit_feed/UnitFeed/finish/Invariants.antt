@@ -1,6 +1,6 @@
 use Rattle.std.proofs.Common.{◌≡◌, ◌++◌, length}
-use Rattle.es_feed.specs.Feeding.{fed_last}
-use Rattle.es_feed.specs.Origins.{IsOrigin}
+use Rattle.fed_streams.specs.Feeding.{fed_last}
+use Rattle.fed_streams.specs.Origins.{IsOrigin}
 use Rattle.es_feed.proofs.unit_feed.UnitFeed.finish.Given as goal
 
 abbrev pub invariant-streams : goal.invariant-streams

@@ -1,7 +1,7 @@
 use Rattle.std.proofs.Common.{◌++◌, map}
 use Rattle.demux.specs.Shown.{finding_view}
-use Rattle.es_feed.specs.Feeding.{after_all, fed_all}
-use Rattle.es_feed.proofs.FedUnits.{after_step, after_end, fed_step, fed_end}
+use Rattle.fed_streams.specs.Feeding.{after_all, fed_all}
+use Rattle.fed_streams.proofs.FedUnits.{after_step, after_end, fed_step, fed_end}
 use Rattle.es_feed.proofs.unit_feed.UnitFeed.take_all.Goals as goal
 
 pub loop-finding-preserved : goal.loop-finding-preserved

@@ -1,6 +1,6 @@
 use Rattle.std.proofs.Common.{◌≡◌, ◌++◌, drop, map}
 use Rattle.demux.specs.Shown.{finding_view}
-use Rattle.es_feed.specs.Feeding.{after_all, fed_all}
+use Rattle.fed_streams.specs.Feeding.{after_all, fed_all}
 use Rattle.es_feed.proofs.unit_feed.UnitFeed.take_all.Given as goal
 
 abbrev pub invariant-loop-finding : goal.invariant-loop-finding

@@ -1,7 +1,7 @@
 use Rattle.std.proofs.Common.{◌≡◌, ◌++◌, ◌∙◌, false, List, subst, sym, ap}
 use Rattle.std.proofs.lemmas.List.{append-nil}
 use Rattle.packet_sync.specs.declared.slip.Slip.{Slip}
-use Rattle.es_feed.specs.Feeding.{Fed}
+use Rattle.fed_streams.specs.Feeding.{Fed}
 use Rattle.es_feed.specs.StreamFeeding.{IsFedBy}
 use Rattle.es_feed.specs.Watching.{AreRounds, AreSlips, IsWatchedBy, WatchedView, slips_fed}
 use Rattle.es_feed.proofs.WatchedStreams.{round_more}

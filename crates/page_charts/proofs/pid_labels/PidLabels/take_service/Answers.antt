@@ -10,5 +10,5 @@ returns c =
     let inserted : map (λ e. (e.0, string_bytes e.1)) c.insert.new.self.entries ≡ insert_entry nat_eq (map (λ e. (e.0, string_bytes e.1)) es) c.args.program
     (string_bytes c.args.name) =
     ap (λ (es : List (ℕ × String Global)). map (λ e. (e.0, string_bytes e.1)) es) c.in_ok-insert.ensures.entries ∙ insert_each es c.args.program c.args.name in
-    ap (λ (s : List (ℕ × List ℕ)). record { programs = c.self.inside.programs.entries; services = s }) inserted
+    ap (λ (s : List (ℕ × List ℕ)). record { programs = c.self.inside.programs.entries; services = s; names = c.self.inside.names.entries }) inserted
     ∙ ap (λ (l : LabelsState). with_service c.args.program (string_bytes c.args.name) l) c.self.view_is

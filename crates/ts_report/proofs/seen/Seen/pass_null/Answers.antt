@@ -16,6 +16,7 @@ returns-clause-seen c =
       clocks = c.self.inside.clocks;
       watches = c.self.inside.watches;
       errors = c.self.inside.errors;
+      references = c.self.inside.references;
       rules = c.self.inside.rules;
       tables = c.self.inside.tables;
       systems = c.self.inside.systems;

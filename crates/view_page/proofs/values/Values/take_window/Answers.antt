@@ -26,4 +26,6 @@ returns c = λ kept a.
       transports = a.transports;
       mains = a.mains;
       slacks = a.slacks;
+      intervals = a.intervals;
+      inaccuracies = a.inaccuracies;
     }) (c.take.ensures (opened c.window.inside.pid c.name_of-name.result 0 kept.rates) (c.in_ok-open.ensures kept.rates a.rates))

@@ -1,0 +1,2 @@
+pub mod FittingText
+pub mod CharacterSteps

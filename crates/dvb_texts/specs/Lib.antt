@@ -1,0 +1,2 @@
+pub mod CharacterTables
+pub mod Texts

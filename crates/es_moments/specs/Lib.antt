@@ -1,0 +1,12 @@
+pub mod WireUnits
+pub mod Merging
+pub mod StreamIds
+pub mod Stamps
+pub mod StampErrors
+pub mod MadeDts
+pub mod ApartUnits
+pub mod DtsErrors
+pub mod Declaration
+pub mod UnitRuns
+pub mod CountedUnits
+pub mod UnitMoments

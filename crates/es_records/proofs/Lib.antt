@@ -1,0 +1,3 @@
+pub mod PendingOutput
+pub mod ToldLines
+pub mod PassedStreams

@@ -1,0 +1,393 @@
+-- What goes out of a stream while it comes.
+use Rattle.std.proofs.Common.{◌≡◌, ◌⊎◌, ◌<◌, ◌≤◌, ◌+◌, ◌-◌, ◌^◌, ℕ, Bool, true, false, List, [], ◌++◌, length, take, Option, Result, Ok, Err, le_trans, refl}
+use Rattle.std.proofs.Common.{sym, ap, ◌∙◌, subst, inl, inr, arith, length-append, length-take-le}
+use Rattle.std.specs.Prelude.{◌||◌, OnOk, if◌then◌else◌}
+use Rattle.std.specs.Result.{is_err}
+use Rattle.std.specs.Io.KnownBytes.{Appends, Consumes, IsAtEnd, Keeps}
+use Rattle.std.proofs.KnownBytes.{Appends-nil, Appends-trans, Consumes-kept, Consumes-nil, Consumes-trans}
+use Rattle.std.proofs.lemmas.List.{append-nil}
+use Rattle.std.proofs.lemmas.List.Elements.{All-nil}
+use Rattle.counted_io.specs.Device.{CountsOne, Failed}
+use Rattle.devices.specs.Devices.{Device, Port, Takes, between}
+use Rattle.devices.specs.Lines.{Reports, Tells}
+use Rattle.devices.specs.Outcomes.{halt_line}
+use Rattle.devices.specs.declared.halt.Halt.{Halt}
+use Rattle.devices.specs.declared.halt.Halt.TheVariants.{Read, Write, Memory}
+use Rattle.devices.proofs.Telling.{told_all, told_none}
+use Rattle.demux.specs.FoundSoFar.{taken_all}
+use Rattle.fed_streams.specs.Feeding.{Fed, FeedView}
+use Rattle.es_feed.specs.StreamFeeding.{IsFedBy, at_first, is_packet}
+use Rattle.es_feed.specs.Watching.{AreSlips, IsWatchedBy, IsWatchedOf, WatchedView, first_place, watched_first}
+use Rattle.es_records.proofs.ToldLines.{any_append, flat_append, or_true}
+use Rattle.es_feed.proofs.WatchedStreams.{no_rounds}
+use Rattle.fed_streams.specs.Ticks.{after_packets, fed_packets}
+use Rattle.es_feed.specs.FedLines.{fed_lines, fed_record, fed_records, has_fault, have_fault, have_refusal, is_refusal, lines_of}
+use Rattle.es_records.specs.Passing.{FailsToPass, FeedsPiece, FeedsSome, GoesOut, IsFedSoFar, Midway, Passes, PassesAll, PassesLast, PassesOn, PassesPieces}
+use Rattle.es_records.specs.Passing.{RunsStream, longest_piece}
+
+-- 1. Before the first byte
+
+fed_none : (first : FeedView) → IsFedBy first [] false (at_first first) []
+unfolding taken_all after_packets fed_packets
+fed_none first = record { packets = []; sizes = All-nil is_packet; carries = λ more none. refl; demux_is = refl; feed_is = refl; fed_is = refl }
+
+slips_none : AreSlips [] false [] first_place []
+slips_none = record { fields = []; so = λ more none. record { slips = refl; fields = refl } }
+
+watched_none : (first : FeedView) → IsWatchedBy first [] false (watched_first first) []
+watched_none first = record { fed = []; found = []; rounds = no_rounds; by = fed_none first; slips_are = slips_none }
+
+pub none_came : (first : FeedView) (pids : List ℕ) (input output faults : Port) (s : WatchedView) → s ≡ watched_first first →
+    Midway first pids (between input input) (between output output) (between faults faults) false s
+none_came first pids input output faults s is =
+    subst (λ (t : WatchedView). Midway first pids (between input input) (between output output) (between faults faults) false t) (sym is) (record {
+      came = [];
+      fed = [];
+      by = watched_none first;
+      held = omega arith;
+      passes = record { read = Consumes-nil input.bytes; written = Appends-nil output.bytes; clean = refl; tells = told_none faults };
+      unfailed = refl;
+      faulty_is = refl;
+    })
+
+-- 2. A piece more
+
+-- the bytes of what went out before, and of what goes out now
+all_written : (before mid after : Port) (old new : List Fed) → Takes (between before mid) (fed_records old) → Takes (between mid after) (fed_records new) →
+    Takes (between before after) (fed_records (old ++ new))
+all_written before mid after old new a b =
+    subst (λ (bytes : List ℕ). Appends before.bytes after.bytes bytes) (sym (flat_append fed_record old new))
+    (Appends-trans before.bytes mid.bytes after.bytes (fed_records old) (fed_records new) a b)
+
+all_told : (pids : List ℕ) (before mid after : Port) (old new : List Fed) → Tells before mid (fed_lines pids old) → Tells mid after (fed_lines pids new) →
+    Tells before after (fed_lines pids (old ++ new))
+all_told pids before mid after old new a b =
+    subst (λ (lines : List (List ℕ)). Tells before after lines) (sym (flat_append (lines_of pids) old new))
+    (told_all before mid after (fed_lines pids old) (fed_lines pids new) a b)
+
+all_faulty : (early late faulty : Bool) (old new : List Fed) → early ≡ have_fault old → late ≡ have_fault new → faulty ≡ (early || late) →
+    faulty ≡ have_fault (old ++ new)
+all_faulty early late faulty old new a b e = e ∙ ap (λ (x : Bool). x || late) a ∙ ap (λ (x : Bool). have_fault old || x) b ∙ sym (any_append has_fault old new)
+
+-- the input of a stream so far goes on to where a read has left it
+with_input : (first : FeedView) (pids piece : List ℕ) (i0 i1 i2 : Port) (output faults : Device) (faulty : Bool) (s : WatchedView)
+    (m : Midway first pids (between i0 i1) output faults faulty s) → Consumes i1.bytes i2.bytes piece →
+    Passes pids (m.came ++ piece) m.fed (between i0 i2) output faults
+with_input first pids piece i0 i1 i2 output faults faulty s m reads = record {
+  read = Consumes-trans i0.bytes i1.bytes i2.bytes m.came piece m.passes.read reads;
+  written = m.passes.written;
+  clean = m.passes.clean;
+  tells = m.passes.tells;
+}
+
+-- 3. The end of the pieces
+
+pub pieces_end : (first : FeedView) (pids : List ℕ) (i0 i1 i2 : Port) (output faults : Device) (faulty : Bool) (s : WatchedView)
+    (m : Midway first pids (between i0 i1) output faults faulty s) → Consumes i1.bytes i2.bytes [] → i2.failed ≡ i1.failed → IsAtEnd i2.bytes →
+    PassesPieces first pids (between i0 i2) output faults (Ok faulty) s
+pieces_end first pids i0 i1 i2 output faults faulty s m reads clean ends = (
+  record {
+    came = m.came;
+    fed = m.fed;
+    by = m.by;
+    held = m.held;
+    passes = subst (λ (bytes : List ℕ). Passes pids bytes m.fed (between i0 i2) output faults) (append-nil m.came)
+        (with_input first pids [] i0 i1 i2 output faults faulty s m reads);
+    unfailed = clean ∙ m.unfailed;
+    faulty_is = m.faulty_is;
+  },
+  inl ends,
+)
+
+so_far : (first : FeedView) (pids : List ℕ) (input output faults : Device) (faulty : Bool) (s : WatchedView)
+    (m : Midway first pids input output faults faulty s) → IsFedSoFar first m.came m.fed
+so_far first pids input output faults faulty s m = record { state = s; by = m.by; held = m.held }
+
+failed_after : (a b c : ℕ) → b ≡ a → CountsOne b c → Failed a c
+failed_after a b c e (inl n) = inl (omega (arith, e, n))
+failed_after a b c e (inr h) = inr (h.0 ∙ e, sym e ∙ h.1)
+
+pub read_fails : (first : FeedView) (pids : List ℕ) (i0 i1 i2 : Port) (output faults : Device) (faulty : Bool) (s : WatchedView)
+    (m : Midway first pids (between i0 i1) output faults faulty s) → Keeps i1.bytes i2.bytes → CountsOne i1.failed i2.failed →
+    PassesPieces first pids (between i0 i2) output faults (Err Read) s
+read_fails first pids i0 i1 i2 output faults faulty s m keeps counts = record {
+  came = m.came;
+  fed = m.fed;
+  fed_is = so_far first pids (between i0 i1) output faults faulty s m;
+  untaken = [];
+  passes = record {
+    read = subst (λ (bytes : List ℕ). Consumes i0.bytes i2.bytes bytes) (sym (append-nil m.came))
+        (Consumes-kept i0.bytes i1.bytes i2.bytes m.came m.passes.read keeps);
+    written = m.passes.written;
+    clean = m.passes.clean;
+    tells = m.passes.tells;
+  };
+  stopped = (refl, inl (failed_after i0.failed i1.failed i2.failed m.unfailed counts));
+}
+
+pub too_long : (first : FeedView) (pids : List ℕ) (input output faults : Device) (faulty : Bool) (s : WatchedView)
+    (m : Midway first pids input output faults faulty s) → 2 ^ 64 - 1 ≤ length m.came → PassesPieces first pids input output faults (Err Read) s
+too_long first pids input output faults faulty s m long = record {
+  came = m.came;
+  fed = m.fed;
+  fed_is = so_far first pids input output faults faulty s m;
+  untaken = [];
+  passes = subst (λ (bytes : List ℕ). Passes pids bytes m.fed input output faults) (sym (append-nil m.came)) m.passes;
+  stopped = (refl, inr long);
+}
+
+pub no_room : (first : FeedView) (pids piece : List ℕ) (i0 i1 i2 : Port) (output faults : Device) (faulty : Bool) (s t : WatchedView)
+    (m : Midway first pids (between i0 i1) output faults faulty s) → Consumes i1.bytes i2.bytes piece → i2.failed ≡ i1.failed →
+    PassesPieces first pids (between i0 i2) output faults (Err Memory) t
+no_room first pids piece i0 i1 i2 output faults faulty s t m reads clean = record {
+  came = m.came;
+  fed = m.fed;
+  fed_is = so_far first pids (between i0 i1) output faults faulty s m;
+  untaken = piece;
+  passes = with_input first pids piece i0 i1 i2 output faults faulty s m reads;
+  stopped = clean ∙ m.unfailed;
+}
+
+-- no piece was fed
+pub feed_fails : (first : FeedView) (pids : List ℕ) (i0 i1 i2 : Port) (output faults : Device) (faulty : Bool) (s t : WatchedView) (fed : List Fed)
+    (halt : Halt) →
+    Midway first pids (between i0 i1) output faults faulty s → FeedsPiece s (between i1 i2) t fed (Err halt) →
+    PassesPieces first pids (between i0 i2) output faults (Err halt) t
+feed_fails first pids i0 i1 i2 output faults faulty s t fed Read m p = read_fails first pids i0 i1 i2 output faults faulty s m p.0 p.1
+feed_fails first pids i0 i1 i2 output faults faulty s t fed Write m p = absurd p
+feed_fails first pids i0 i1 i2 output faults faulty s t fed Memory m (piece, reads, clean) =
+    no_room first pids piece i0 i1 i2 output faults faulty s t m reads clean
+
+pub feed_ends : (first : FeedView) (pids : List ℕ) (i0 i1 i2 : Port) (output faults : Device) (faulty : Bool) (s t : WatchedView) (fed : List Fed) →
+    Midway first pids (between i0 i1) output faults faulty s → FeedsPiece s (between i1 i2) t fed (Ok false) →
+    PassesPieces first pids (between i0 i2) output faults (Ok faulty) t
+feed_ends first pids i0 i1 i2 output faults faulty s t fed m (reads, clean, ends, same) =
+    subst (λ (v : WatchedView). PassesPieces first pids (between i0 i2) output faults (Ok faulty) v) (sym same)
+    (pieces_end first pids i0 i1 i2 output faults faulty s m reads clean ends)
+
+pub feeds_some : (s t : WatchedView) (input : Device) (fed : List Fed) (more : Bool) → more ≡ true → FeedsPiece s input t fed (Ok more) →
+    FeedsSome s input t fed
+feeds_some s t input fed true is p = p
+feeds_some s t input fed false is p = absurd cc
+
+pub feeds_none : (s t : WatchedView) (input : Device) (fed : List Fed) (more : Bool) → more ≡ false → FeedsPiece s input t fed (Ok more) →
+    FeedsPiece s input t fed (Ok false)
+feeds_none s t input fed more is p = subst (λ (b : Bool). FeedsPiece s input t fed (Ok b)) is p
+
+-- 4. The writer fails
+
+failed_later : (a b c : ℕ) → b ≡ a → Failed b c → Failed a c
+failed_later a b c e f = subst (λ (n : ℕ). Failed n c) e f
+
+-- within the records of what was fed last, after that of a stream so far
+last_fails : (first : FeedView) (pids bytes : List ℕ) (i0 i1 i2 o0 o1 o2 f0 f1 f2 : Port) (faulty : Bool) (s : WatchedView) (new : List Fed)
+    (m : Midway first pids (between i0 i1) (between o0 o1) (between f0 f1) faulty s) → Consumes i0.bytes i2.bytes bytes →
+    (IsFedSoFar first bytes (m.fed ++ new) ⊎ IsWatchedOf first bytes (m.fed ++ new)) → GoesOut pids new (between o1 o2) (between f1 f2) (Err Write) →
+    FailsToPass first pids (between i0 i2) (between o0 o2) (between f0 f2)
+last_fails first pids bytes i0 i1 i2 o0 o1 o2 f0 f1 f2 faulty s new m reads is out = record {
+  came = bytes;
+  before = m.fed;
+  last = new;
+  fed_is = is;
+  read = reads;
+  taken = out.0.taken;
+  written = Appends-trans o0.bytes o1.bytes o2.bytes (fed_records m.fed) (take out.0.taken (fed_records new)) m.passes.written out.0.appends;
+  failed = failed_later o0.failed o1.failed o2.failed m.passes.clean out.1;
+  tells = subst (λ (p : Port). Tells f0 p (fed_lines pids m.fed)) (sym out.2) m.passes.tells;
+}
+
+pub piece_fails : (first : FeedView) (pids : List ℕ) (i0 i1 i2 o0 o1 o2 f0 f1 f2 : Port) (faulty : Bool) (s t : WatchedView) (new : List Fed) (halt : Halt) →
+    Midway first pids (between i0 i1) (between o0 o1) (between f0 f1) faulty s → FeedsSome s (between i1 i2) t new →
+    GoesOut pids new (between o1 o2) (between f1 f2) (Err halt) →
+    PassesPieces first pids (between i0 i2) (between o0 o2) (between f0 f2) (Err halt) t
+piece_fails first pids i0 i1 i2 o0 o1 o2 f0 f1 f2 faulty s t new Read m p out = absurd out
+piece_fails first pids i0 i1 i2 o0 o1 o2 f0 f1 f2 faulty s t new Write m p out =
+    last_fails first pids (m.came ++ p.piece) i0 i1 i2 o0 o1 o2 f0 f1 f2 faulty s new m
+    (Consumes-trans i0.bytes i1.bytes i2.bytes m.came p.piece m.passes.read p.read)
+    (inl (record { state = t; by = p.taken first m.came m.fed m.by; held = p.held })) out
+piece_fails first pids i0 i1 i2 o0 o1 o2 f0 f1 f2 faulty s t new Memory m p out = absurd out
+
+-- 5. What the end of the stream feeds
+
+still_refused : (old new : List Fed) → have_refusal old ≡ true → have_refusal (old ++ new) ≡ true
+still_refused old new is = any_append is_refusal old new ∙ ap (λ (b : Bool). b || have_refusal new) is
+
+still_ends : (E : Type 0) (old new : List Fed) → E ⊎ (have_refusal old ≡ true) → E ⊎ (have_refusal (old ++ new) ≡ true)
+still_ends E old new (inl ends) = inl ends
+still_ends E old new (inr is) = inr (still_refused old new is)
+
+pub stream_ends : (first : FeedView) (pids : List ℕ) (input : Device) (o0 o1 o2 f0 f1 f2 : Port) (early late faulty : Bool) (s : WatchedView)
+    (m : Midway first pids input (between o0 o1) (between f0 f1) early s) → IsAtEnd input.after.bytes ⊎ (have_refusal m.fed ≡ true) →
+    PassesLast first pids m.came m.fed (between o1 o2) (between f1 f2) (Ok late) → faulty ≡ (early || late) →
+    PassesAll first pids input (between o0 o2) (between f0 f2) faulty
+stream_ends first pids input o0 o1 o2 f0 f1 f2 early late faulty s m ends (last, all, out) is = record {
+  came = m.came;
+  fed = m.fed ++ last;
+  fed_is = all;
+  passes = record {
+    read = m.passes.read;
+    written = all_written o0 o1 o2 m.fed last m.passes.written out.0;
+    clean = out.1 ∙ m.passes.clean;
+    tells = all_told pids f0 f1 f2 m.fed last m.passes.tells out.2;
+  };
+  ends = still_ends (IsAtEnd input.after.bytes) m.fed last ends;
+  unfailed = m.unfailed;
+  faulty_is = all_faulty early late faulty m.fed last m.faulty_is out.3 is;
+}
+
+pub end_fails : (first : FeedView) (pids : List ℕ) (input : Device) (o0 o1 o2 f0 f1 f2 : Port) (early : Bool) (s : WatchedView) (halt : Halt)
+    (m : Midway first pids input (between o0 o1) (between f0 f1) early s) → PassesLast first pids m.came m.fed (between o1 o2) (between f1 f2) (Err halt) →
+    PassesOn first pids input (between o0 o2) (between f0 f2) (Err halt)
+end_fails first pids input o0 o1 o2 f0 f1 f2 early s Read m p = absurd p
+end_fails first pids input o0 o1 o2 f0 f1 f2 early s Write m (last, all, out) =
+    last_fails first pids m.came input.before input.after input.after o0 o1 o2 f0 f1 f2 early s last m m.passes.read (inr all) out
+end_fails first pids input o0 o1 o2 f0 f1 f2 early s Memory m p = record {
+  came = m.came;
+  fed = m.fed;
+  fed_is = so_far first pids input (between o0 o1) (between f0 f1) early s m;
+  untaken = [];
+  passes = record {
+    read = subst (λ (bytes : List ℕ). Consumes input.before.bytes input.after.bytes bytes) (sym (append-nil m.came)) m.passes.read;
+    written = subst (λ (q : Port). Takes (between o0 q) (fed_records m.fed)) (sym p.0) m.passes.written;
+    clean = ap (λ (q : Port). q.failed) p.0 ∙ m.passes.clean;
+    tells = subst (λ (q : Port). Tells f0 q (fed_lines pids m.fed)) (sym p.1) m.passes.tells;
+  };
+  stopped = m.unfailed;
+}
+
+pub pieces_fail : (first : FeedView) (pids : List ℕ) (input output faults : Device) (s : WatchedView) (halt : Halt) →
+    PassesPieces first pids input output faults (Err halt) s →
+    PassesOn first pids input output faults (Err halt)
+pieces_fail first pids input output faults s Read p = p
+pieces_fail first pids input output faults s Write p = p
+pieces_fail first pids input output faults s Memory p = p
+
+-- there is no memory for the room of a piece
+none_came_pieces : (first : FeedView) (pids : List ℕ) (input output faults : Port) →
+    PassesPieces first pids (between input input) (between output output) (between faults faults) (Err Memory) (watched_first first)
+none_came_pieces first pids input output faults =
+    no_room first pids [] input input input (between output output) (between faults faults) false (watched_first first) (watched_first first)
+    (none_came first pids input output faults (watched_first first) refl) (Consumes-nil input.bytes) refl
+
+pub no_piece : (first : FeedView) (pids : List ℕ) (input output faults : Port) →
+    PassesOn first pids (between input input) (between output output) (between faults faults) (Err Memory)
+no_piece first pids input output faults =
+    pieces_fail first pids (between input input) (between output output) (between faults faults) (watched_first first) Memory
+    (none_came_pieces first pids input output faults)
+
+-- 6. The status
+
+pub run_ends : (first : FeedView) (pids : List ℕ) (input output faults : Device) (faulty : Bool) (status : ℕ) →
+    PassesOn first pids input output faults (Ok faulty) → status ≡ (if faulty then 1 else 0) →
+    RunsStream first pids input output faults status
+run_ends first pids input output faults faulty status p s = inl (record { faulty = faulty; passes = p; status_is = s })
+
+pub run_stops : (first : FeedView) (pids : List ℕ) (input output : Device) (before told after : Port) (halt : Halt) (status : ℕ) →
+    PassesOn first pids input output (between before told) (Err halt) →
+    Reports (between told after) (halt_line halt) → status ≡ 3 → RunsStream first pids input output (between before after) status
+run_stops first pids input output before told after halt status p r s = inr (record { halt = halt; told = told; passes = p; reports = r; status_is = s })
+
+-- 7. So many pieces, of a byte at least
+
+pub record MidwayLong (first : FeedView) (pids : List ℕ) (input output faults : Device) (faulty : Bool) (s : WatchedView) (pieces : ℕ) : Type 0 where
+  pub midway : Midway first pids input output faults faulty s
+  pub pieces_in : pieces ≤ length midway.came
+
+pub long_first : (first : FeedView) (pids : List ℕ) (input output faults : Port) (s : WatchedView) → s ≡ watched_first first →
+    MidwayLong first pids (between input input) (between output output) (between faults faults) false s 0
+long_first first pids input output faults s is = record { midway = none_came first pids input output faults s is; pieces_in = omega arith }
+
+-- what a push gives
+pub pushed : {E : Type 0} (piece : List ℕ) (s t : WatchedView) (items : List Fed) (r : Result (Unit {0}) E) → is_err r ≡ false →
+    ((first : FeedView) (came : List ℕ) (before : List Fed) → IsWatchedBy first came false s before →
+    OnOk r (IsWatchedBy first (came ++ piece) false t (before ++ items))) →
+    (first : FeedView) (came : List ℕ) (before : List Fed) → IsWatchedBy first came false s before → IsWatchedBy first (came ++ piece) false t (before ++ items)
+pushed piece s t items (Ok x) ok push first came before by = push first came before by
+pushed piece s t items (Err x) ok push first came before by = absurd cc
+
+pub held_short : {E : Type 0} (n : ℕ) (r : Result (Unit {0}) E) → is_err r ≡ false → OnOk r (n < 1128) → n < 1128
+held_short n (Ok x) ok h = h
+held_short n (Err x) ok h = absurd cc
+
+pub fed_piece : {E : Type 0} (s t : WatchedView) (i1 i2 : Port) (part : List ℕ) (n : ℕ) (items : List Fed) (r : Result (Unit {0}) E) →
+    length part ≤ longest_piece → n ≤ length part → 0 < n →
+    Consumes i1.bytes i2.bytes (take n part) → i2.failed ≡ i1.failed → is_err r ≡ false →
+    ((first : FeedView) (came : List ℕ) (before : List Fed) → IsWatchedBy first came false s before →
+    OnOk r (IsWatchedBy first (came ++ take n part) false t (before ++ items))) →
+    OnOk r (length t.stream.held < 1128) → FeedsSome s (between i1 i2) t items
+fed_piece s t i1 i2 part n items r most within some reads clean ok push short = record {
+  piece = take n part;
+  some = omega (arith, length-take-le n part within, some);
+  most = omega (arith, length-take-le n part within, within, most);
+  read = reads;
+  clean = clean;
+  taken = pushed (take n part) s t items r ok push;
+  held = held_short (length t.stream.held) r ok short;
+}
+
+-- a read that gave nothing
+pub none_read : (a b : Option (List ℕ)) (n : ℕ) (part : List ℕ) → n ≡ 0 → Consumes a b (take n part) → Consumes a b []
+none_read a b n part e h = subst (λ (m : ℕ). Consumes a b (take m part)) e h
+
+pub long_more : (first : FeedView) (pids : List ℕ) (i0 i1 i2 o0 o1 o2 f0 f1 f2 : Port) (early late faulty : Bool) (s t : WatchedView) (new : List Fed)
+    (pieces : ℕ) →
+    MidwayLong first pids (between i0 i1) (between o0 o1) (between f0 f1) early s pieces → FeedsSome s (between i1 i2) t new →
+    GoesOut pids new (between o1 o2) (between f1 f2) (Ok late) → faulty ≡ (early || late) →
+    MidwayLong first pids (between i0 i2) (between o0 o2) (between f0 f2) faulty t (pieces + 1)
+long_more first pids i0 i1 i2 o0 o1 o2 f0 f1 f2 early late faulty s t new pieces m p out is =
+    let before = m.midway in
+    let some = p.some in
+    record {
+      midway = record {
+        came = before.came ++ p.piece;
+        fed = before.fed ++ new;
+        by = p.taken first before.came before.fed before.by;
+        held = p.held;
+        passes = record {
+          read = Consumes-trans i0.bytes i1.bytes i2.bytes before.came p.piece before.passes.read p.read;
+          written = all_written o0 o1 o2 before.fed new before.passes.written out.0;
+          clean = out.1 ∙ before.passes.clean;
+          tells = all_told pids f0 f1 f2 before.fed new before.passes.tells out.2;
+        };
+        unfailed = p.clean ∙ before.unfailed;
+        faulty_is = all_faulty early late faulty before.fed new before.faulty_is out.3 is;
+      };
+      pieces_in = omega (arith, m.pieces_in, length-append before.came p.piece, some);
+    }
+
+-- a read that shows that the description is of another stream
+pub long_refused : (first : FeedView) (pids : List ℕ) (i0 i1 i2 o0 o1 o2 f0 f1 f2 : Port) (early late faulty : Bool) (s t : WatchedView) (new : List Fed)
+    (pieces : ℕ) →
+    MidwayLong first pids (between i0 i1) (between o0 o1) (between f0 f1) early s pieces → FeedsSome s (between i1 i2) t new →
+    GoesOut pids new (between o1 o2) (between f1 f2) (Ok late) → faulty ≡ (early || late) → have_refusal new ≡ true →
+    PassesPieces first pids (between i0 i2) (between o0 o2) (between f0 f2) (Ok faulty) t
+unfolding long_more
+long_refused first pids i0 i1 i2 o0 o1 o2 f0 f1 f2 early late faulty s t new pieces m p out is refused = (
+  (long_more first pids i0 i1 i2 o0 o1 o2 f0 f1 f2 early late faulty s t new pieces m p out is).midway,
+  inr (any_append is_refusal m.midway.fed new ∙ ap (λ (b : Bool). have_refusal m.midway.fed || b) refused ∙ or_true (have_refusal m.midway.fed)),
+)
+
+pub long_enough : (first : FeedView) (pids : List ℕ) (input output faults : Device) (faulty : Bool) (s : WatchedView) (pieces : ℕ)
+    (m : MidwayLong first pids input output faults faulty s pieces) →
+    2 ^ 64 - 1 ≤ pieces → PassesPieces first pids input output faults (Err Read) s
+long_enough first pids input output faults faulty s pieces m long =
+    too_long first pids input output faults faulty s m.midway (le_trans long m.pieces_in)
+
+-- 8. What the end of a stream feeds goes out
+
+last_is : (first : FeedView) (came : List ℕ) (s : WatchedView) (before items shown : List Fed) → shown ≡ items → IsWatchedBy first came false s before →
+    (IsWatchedBy first came false s before → IsWatchedOf first came (before ++ items)) → IsWatchedOf first came (before ++ shown)
+last_is first came s before items shown e by finish = subst (λ (x : List Fed). IsWatchedOf first came (before ++ x)) (sym e) (finish by)
+
+pub last_out : {E : Type 0} (first : FeedView) (pids came : List ℕ) (s : WatchedView) (before items shown : List Fed) (output faults : Device)
+    (done : Result (Unit {0}) E) (r : Result Bool Halt) →
+    shown ≡ items → is_err done ≡ false → IsWatchedBy first came false s before →
+    (IsWatchedBy first came false s before → OnOk done (IsWatchedOf first came (before ++ items))) →
+    GoesOut pids shown output faults r → PassesLast first pids came before output faults r
+last_out first pids came s before items shown output faults (Err x) r e ok by finish out = absurd cc
+last_out first pids came s before items shown output faults (Ok x) (Ok late) e ok by finish out =
+    (shown, last_is first came s before items shown e by finish, out)
+last_out first pids came s before items shown output faults (Ok x) (Err Read) e ok by finish out = absurd out
+last_out first pids came s before items shown output faults (Ok x) (Err Write) e ok by finish out =
+    (shown, last_is first came s before items shown e by finish, out)
+last_out first pids came s before items shown output faults (Ok x) (Err Memory) e ok by finish out = absurd out

@@ -1,0 +1,155 @@
+-- A stream, read as it comes, and what goes out of it: the records of its units and of ticks before the next read, and a line for each
+-- unit that has no moment, each loss of packets, whatever else cuts units, each new map, each jump of the clock, and bytes in no packet.
+use Rattle.std.specs.Prelude.{◌≡◌, ◌⊎◌, ◌<◌, ◌≤◌, ◌-◌, ◌^◌, ℕ, Bool, true, false, if◌then◌else◌, List, [], ◌++◌, length, take, Result, Ok, Err}
+use Rattle.std.specs.Io.KnownBytes.{Consumes, IsAtEnd, Keeps}
+use Rattle.counted_io.specs.Device.{CountsOne}
+use Rattle.devices.specs.Devices.{Device, Port, HasFailed, IsClean, IsUntouched, Takes, between}
+use Rattle.devices.specs.Lines.{Reports, Stopped, Tells}
+use Rattle.devices.specs.Outcomes.{halt_line}
+use Rattle.devices.specs.declared.halt.Halt.{Halt}
+use Rattle.devices.specs.declared.halt.Halt.TheVariants.{Read, Write, Memory}
+use Rattle.fed_streams.specs.Feeding.{Fed, FeedView}
+use Rattle.es_feed.specs.Watching.{IsWatchedBy, IsWatchedOf, WatchedView}
+use Rattle.es_feed.specs.FedLines.{fed_lines, fed_records, have_fault, have_refusal}
+
+-- 1. What a stream has fed while it comes
+
+-- of these bytes all but the last 1,127 at most are taken, and what is found in them is fed, and their slips; without these it is a
+-- beginning of what the whole stream feeds, however it goes on (the law `fed_so_far`)
+pub record IsFedSoFar (first : FeedView) (came : List ℕ) (fed : List Fed) : Type 0 where
+  pub state : WatchedView
+  pub by : IsWatchedBy first came false state fed
+  pub held : length state.stream.held < 1128
+
+-- 2. What went out of it
+
+-- these bytes of the input were read, and what they feed went out: the records to the output, and a line for all else
+pub record Passes (pids : List ℕ) (came : List ℕ) (fed : List Fed) (input output faults : Device) : Type 0 where
+  pub read : Consumes input.before.bytes input.after.bytes came
+  pub written : Takes output (fed_records fed)
+  pub clean : IsClean output
+  pub tells : Tells faults.before faults.after (fed_lines pids fed)
+
+-- the input came to its end, and all that it feeds went out; or the description is of another stream, and the stream is taken to end with
+-- the read that shows it
+pub record PassesAll (first : FeedView) (pids : List ℕ) (input output faults : Device) (faulty : Bool) : Type 0 where
+  pub came : List ℕ
+  pub fed : List Fed
+  pub fed_is : IsWatchedOf first came fed
+  pub passes : Passes pids came fed input output faults
+  pub ends : IsAtEnd input.after.bytes ⊎ (have_refusal fed ≡ true)
+  pub unfailed : IsClean input
+  pub faulty_is : faulty ≡ have_fault fed
+
+-- no more is taken: a call of the reader failed, or the stream is longer than any; or there is no memory for these bytes that
+-- were read
+abbrev pub IsStopped : Halt → List ℕ → List ℕ → Device → Type 0
+IsStopped Read came untaken input = (untaken ≡ []) × (HasFailed input ⊎ (2 ^ 64 - 1 ≤ length came))
+IsStopped Write came untaken input = ⊥
+IsStopped Memory came untaken input = IsClean input
+
+-- what was fed before that went out
+pub record PassesFront (first : FeedView) (pids : List ℕ) (halt : Halt) (input output faults : Device) : Type 0 where
+  pub came : List ℕ
+  pub fed : List Fed
+  pub fed_is : IsFedSoFar first came fed
+  pub untaken : List ℕ
+  pub passes : Passes pids (came ++ untaken) fed input output faults
+  pub stopped : IsStopped halt came untaken input
+
+-- the writer failed within the records of what was fed last: what was fed before went out, and of these records it took the
+-- first bytes; nothing among them is told
+pub record FailsToPass (first : FeedView) (pids : List ℕ) (input output faults : Device) : Type 0 where
+  pub came : List ℕ
+  pub before : List Fed
+  pub last : List Fed
+  pub fed_is : IsFedSoFar first came (before ++ last) ⊎ IsWatchedOf first came (before ++ last)
+  pub read : Consumes input.before.bytes input.after.bytes came
+  pub taken : ℕ
+  pub written : Takes output (fed_records before ++ take taken (fed_records last))
+  pub failed : HasFailed output
+  pub tells : Tells faults.before faults.after (fed_lines pids before)
+
+abbrev pub PassesOn : FeedView → List ℕ → Device → Device → Device → Result Bool Halt → Type 0
+PassesOn first pids input output faults (Ok faulty) = PassesAll first pids input output faults faulty
+PassesOn first pids input output faults (Err Read) = PassesFront first pids Read input output faults
+PassesOn first pids input output faults (Err Write) = FailsToPass first pids input output faults
+PassesOn first pids input output faults (Err Memory) = PassesFront first pids Memory input output faults
+
+-- 3. Piece by piece
+
+-- the most bytes of one read; what they make whole is out before the next
+abbrev pub longest_piece : ℕ
+longest_piece = 2 ^ 16
+
+-- a read gave bytes of the input, and all that they make whole is fed
+pub record FeedsSome (old : WatchedView) (input : Device) (new : WatchedView) (fed : List Fed) : Type 0 where
+  pub piece : List ℕ
+  pub some : 0 < length piece
+  pub most : length piece ≤ longest_piece
+  pub read : Consumes input.before.bytes input.after.bytes piece
+  pub clean : IsClean input
+  pub taken : (first : FeedView) (came : List ℕ) (before : List Fed) → IsWatchedBy first came false old before →
+      IsWatchedBy first (came ++ piece) false new (before ++ fed)
+  pub held : length new.stream.held < 1128
+
+-- or the input ended; a call of the reader failed; or there is no memory for the bytes that were read
+abbrev pub FeedsPiece : WatchedView → Device → WatchedView → List Fed → Result Bool Halt → Type 0
+FeedsPiece old input new fed (Ok true) = FeedsSome old input new fed
+FeedsPiece old input new fed (Ok false) = Consumes input.before.bytes input.after.bytes [] × IsClean input × IsAtEnd input.after.bytes × (new ≡ old)
+FeedsPiece old input new fed (Err Read) = Keeps input.before.bytes input.after.bytes × CountsOne input.before.failed input.after.failed
+FeedsPiece old input new fed (Err Write) = ⊥
+FeedsPiece old input new fed (Err Memory) = (piece : List ℕ) × Consumes input.before.bytes input.after.bytes piece × IsClean input
+
+-- what is fed goes out: the records, and then a line for all else; or the writer fails within the records
+abbrev pub GoesOut : List ℕ → List Fed → Device → Device → Result Bool Halt → Type 0
+GoesOut pids fed output faults (Ok faulty) =
+    Takes output (fed_records fed) × IsClean output × Tells faults.before faults.after (fed_lines pids fed) × (faulty ≡ have_fault fed)
+GoesOut pids fed output faults (Err Read) = ⊥
+GoesOut pids fed output faults (Err Write) = Stopped (fed_records fed) output × HasFailed output × IsUntouched faults
+GoesOut pids fed output faults (Err Memory) = ⊥
+
+-- the stream has come as far as this, and the reader has not failed
+pub record Midway (first : FeedView) (pids : List ℕ) (input output faults : Device) (faulty : Bool) (state : WatchedView) : Type 0 where
+  pub came : List ℕ
+  pub fed : List Fed
+  pub by : IsWatchedBy first came false state fed
+  pub held : length state.stream.held < 1128
+  pub passes : Passes pids came fed input output faults
+  pub unfailed : IsClean input
+  pub faulty_is : faulty ≡ have_fault fed
+
+abbrev pub PassesPieces : FeedView → List ℕ → Device → Device → Device → Result Bool Halt → WatchedView → Type 0
+PassesPieces first pids input output faults (Ok faulty) state =
+    (m : Midway first pids input output faults faulty state) × (IsAtEnd input.after.bytes ⊎ (have_refusal m.fed ≡ true))
+PassesPieces first pids input output faults (Err Read) state = PassesFront first pids Read input output faults
+PassesPieces first pids input output faults (Err Write) state = FailsToPass first pids input output faults
+PassesPieces first pids input output faults (Err Memory) state = PassesFront first pids Memory input output faults
+
+-- what its end feeds goes out; or there is no memory for that
+abbrev pub PassesLast : FeedView → List ℕ → List ℕ → List Fed → Device → Device → Result Bool Halt → Type 0
+PassesLast first pids came before output faults (Ok found) =
+    (last : List Fed) × IsWatchedOf first came (before ++ last) × GoesOut pids last output faults (Ok found)
+PassesLast first pids came before output faults (Err Read) = ⊥
+PassesLast first pids came before output faults (Err Write) =
+    (last : List Fed) × IsWatchedOf first came (before ++ last) × GoesOut pids last output faults (Err Write)
+PassesLast first pids came before output faults (Err Memory) = IsUntouched output × IsUntouched faults
+
+-- 4. How the run over a stream ends
+
+-- with its input: status 1 where a line was told
+pub record EndsStream (first : FeedView) (pids : List ℕ) (input output faults : Device) (status : ℕ) : Type 0 where
+  pub faulty : Bool
+  pub passes : PassesAll first pids input output faults faulty
+  pub status_is : status ≡ (if faulty then 1 else 0)
+
+-- before: a device failed or memory was wanting, and that is told last
+pub record StopsStream (first : FeedView) (pids : List ℕ) (input output faults : Device) (status : ℕ) : Type 0 where
+  pub halt : Halt
+  pub told : Port
+  pub passes : PassesOn first pids input output (between faults.before told) (Err halt)
+  pub reports : Reports (between told faults.after) (halt_line halt)
+  pub status_is : status ≡ 3
+
+abbrev pub RunsStream : FeedView → List ℕ → Device → Device → Device → ℕ → Type 0
+RunsStream first pids input output faults status = EndsStream first pids input output faults status ⊎ StopsStream first pids input output faults status

@@ -1,0 +1,214 @@
+//! A stream, read as it comes; what it feeds goes out before the next read.
+
+ghost use Rattle.std.specs.Prelude.{◌≡◌, ◌<◌, ◌≤◌, ◌||◌, ℕ, List, [], false, length};
+ghost use Rattle.devices.specs.Devices.{reads, writes};
+ghost use Rattle.fed_streams.specs.Feeding.{Fed, FeedView};
+ghost use Rattle.es_feed.specs.Watching.{IsWatchedBy, watched_first};
+ghost use Rattle.es_feed.specs.FedLines as lines;
+ghost use Rattle.es_records.specs.Passing as spec;
+
+use crate::fed_records::{tell_faults, write_fed};
+use counted_io::{Sink, Source};
+use devices::{Halt, report_halt};
+use es_feed::UnitFeed;
+use es_feed::watched_feed::WatchedFeed;
+use fed_streams::FeedFault;
+use pes_packet::Unit;
+use std::alloc::Global;
+
+/// The most bytes of one read.
+const PIECE: usize = 1 << 16;
+
+// What is fed goes out: the records, and then a line for all else. Returns whether there is one.
+fn pass_fed<W: Sink, E: Sink>(
+    pids: &[u16],
+    fed: &[(u8, Result<Unit, FeedFault>)],
+    output: &mut W,
+    faults: &mut E,
+) -> Result<bool, Halt>
+    ensures { spec.GoesOut pids.now fed.now (writes W.Sink output.old output.new)
+        (writes E.Sink faults.old faults.new) result }
+{
+    match write_fed(output, fed) {
+        Ok(()) => Ok(tell_faults(faults, pids, fed)),
+        Err(halt) => Err(halt),
+    }
+}
+
+// What waits goes out, and nothing waits then. Returns whether a line was told.
+fn let_out<W: Sink, E: Sink>(
+    pids: &[u16],
+    fed: &mut Vec<(u8, Result<Unit, FeedFault>)>,
+    output: &mut W,
+    faults: &mut E,
+) -> Result<bool, Halt>
+    ensures goes { spec.GoesOut pids.now fed.old.items (writes W.Sink output.old output.new)
+        (writes E.Sink faults.old faults.new) result }
+    ensures out { fed.new.items ≡ [] }
+{
+    let result = pass_fed(pids, fed.as_slice(), output, faults);
+    fed.clear();
+    result
+}
+
+// Reads the next bytes of the input, and feeds them. All that was fed before is out. Returns whether there are any.
+fn feed_piece<R: Source>(
+    stream: &mut WatchedFeed,
+    piece: &mut [u8],
+    input: &mut R,
+    fed: &mut Vec<(u8, Result<Unit, FeedFault>)>,
+) -> Result<bool, Halt>
+    requires some { 0 < length piece.old }
+    requires most { length piece.old ≤ spec.longest_piece }
+    // Nothing that was fed before waits to go out.
+    requires out { fed.old.items ≡ [] }
+    ensures { spec.FeedsPiece stream.old (reads R.Source input.old input.new) stream.new fed.new.items result }
+{
+    let n = match input.read_some(piece) {
+        Ok(0) => return Ok(false),
+        Ok(n) => n,
+        Err(_) => return Err(Halt::Read),
+    };
+    if stream.push(&piece[..n], fed).is_err() {
+        return Err(Halt::Memory);
+    }
+    Ok(true)
+}
+
+// Whether what is fed says that the description is of another stream.
+#[tactic(auto, unfolding(es_feed::specs::FedLines::is_refusal, es_feed::specs::FedLines::is_other))]
+fn is_refusal(fed: &(u8, Result<Unit, FeedFault>)) -> bool
+    ensures { result ≡ lines.is_refusal fed.now }
+{
+    match &fed.1 {
+        Ok(_) => false,
+        Err(fault) => matches!(fault, FeedFault::Other(_)),
+    }
+}
+
+fn have_refusal(fed: &[(u8, Result<Unit, FeedFault>)]) -> bool
+    ensures { result ≡ lines.have_refusal fed.now }
+{
+    fed.iter().any(|one| is_refusal(one))
+}
+
+// Reads a stream to the end of the input, or until it shows that the description is of another one; what each read
+// feeds goes out before the next. Returns whether a line was told.
+fn pass_pieces<R: Source, W: Sink, E: Sink>(
+    alloc: Global,
+    pids: &[u16],
+    stream: &mut WatchedFeed,
+    piece: &mut [u8],
+    input: &mut R,
+    output: &mut W,
+    faults: &mut E,
+) -> Result<bool, Halt>
+    requires some { 0 < length piece.old }
+    requires most { length piece.old ≤ spec.longest_piece }
+    ensures { (first : FeedView) → stream.old ≡ watched_first first →
+        spec.PassesPieces first pids.now (reads R.Source input.old input.new) (writes W.Sink output.old output.new)
+        (writes E.Sink faults.old faults.new) result stream.new }
+{
+    let mut faulty = false;
+    let mut fed = Vec::new(alloc);
+    for _ in 0..u64::MAX {
+        let more = match feed_piece(stream, piece, input, &mut fed) {
+            Ok(more) => more,
+            Err(halt) => return Err(halt),
+        };
+        if !more {
+            return Ok(faulty);
+        }
+        let refused = have_refusal(&fed);
+        let found = match let_out(pids, &mut fed, output, faults) {
+            Ok(found) => found,
+            Err(halt) => return Err(halt),
+        };
+        if found {
+            faulty = true;
+        }
+        if refused {
+            return Ok(faulty);
+        }
+    }
+    Err(Halt::Read)
+}
+
+// The input has ended: what that feeds goes out. Returns whether a line was told.
+fn pass_last<W: Sink, E: Sink>(
+    alloc: Global,
+    pids: &[u16],
+    stream: WatchedFeed,
+    output: &mut W,
+    faults: &mut E,
+) -> Result<bool, Halt>
+    ensures { (first : FeedView) (came : List ℕ) (before : List Fed) → IsWatchedBy first came false stream before →
+        spec.PassesLast first pids.now came before (writes W.Sink output.old output.new)
+        (writes E.Sink faults.old faults.new) result }
+{
+    let mut fed = Vec::new(alloc);
+    if stream.finish(&mut fed).is_err() {
+        return Err(Halt::Memory);
+    }
+    pass_fed(pids, &fed, output, faults)
+}
+
+// Whether one of two is so.
+fn either(early: bool, late: bool) -> bool
+    ensures { result ≡ (early || late) }
+{
+    early || late
+}
+
+// Reads a whole stream, and what it feeds goes out. Returns whether a line was told.
+fn pass_all<R: Source, W: Sink, E: Sink>(
+    alloc: Global,
+    feed: UnitFeed,
+    pids: &[u16],
+    input: &mut R,
+    output: &mut W,
+    faults: &mut E,
+) -> Result<bool, Halt>
+    ensures { spec.PassesOn feed pids.now (reads R.Source input.old input.new) (writes W.Sink output.old output.new)
+        (writes E.Sink faults.old faults.new) result }
+{
+    let Ok(mut piece) = vec![in alloc; 0u8; PIECE] else {
+        // By a call: at the end of a function the drop of each part would be a step of its proof.
+        drop(feed);
+        return Err(Halt::Memory);
+    };
+    let mut stream = WatchedFeed::new(alloc, feed);
+    let early = match pass_pieces(alloc, pids, &mut stream, &mut piece, input, output, faults) {
+        Ok(early) => early,
+        Err(halt) => {
+            drop(stream);
+            return Err(halt);
+        }
+    };
+    match pass_last(alloc, pids, stream, output, faults) {
+        Ok(late) => Ok(either(early, late)),
+        Err(halt) => Err(halt),
+    }
+}
+
+/// Reads a stream as it arrives, writes the record of each unit and tick that it feeds before the next read, and
+/// reports each unit that has no moment and all else that is no unit (`FedLines` of `es_feed`); a description of another
+/// stream ends the run. Returns the status: 0 all went out, 1 anything was reported, 3 a device failed or memory was
+/// wanting.
+pub fn pass_stream<R: Source, W: Sink, E: Sink>(
+    alloc: Global,
+    feed: UnitFeed,
+    pids: &[u16],
+    input: &mut R,
+    output: &mut W,
+    faults: &mut E,
+) -> u8
+    ensures { spec.RunsStream feed pids.now (reads R.Source input.old input.new) (writes W.Sink output.old output.new)
+        (writes E.Sink faults.old faults.new) result }
+{
+    match pass_all(alloc, feed, pids, input, output, faults) {
+        Ok(false) => 0,
+        Ok(true) => 1,
+        Err(halt) => report_halt(faults, halt),
+    }
+}

@@ -1,0 +1,3 @@
+pub mod CutLists
+pub mod MovedFindings
+pub mod PartOrder

@@ -1,0 +1,60 @@
+-- The stamps of the units of a recording, each by the clock of its program (ISO/IEC 13818-1, 2.4.3.7 and 2.4.4.9).
+use Rattle.std.specs.Prelude.{ℕ, ◌==◌, find, Option, Some, None, List, [], ◌∷◌, ◌++◌}
+use Rattle.demux.specs.Views.{FindingView, WhatView, IsPes}
+use Rattle.demux.specs.declared.finding.Kind.{Kind}
+use Rattle.pes_packet.specs.declared.time_stamps.Stamps.{Stamps}
+use Rattle.pes_packet.specs.declared.time_stamps.Stamps.TheVariants.{Absent, Pts, PtsDts}
+use Rattle.stream_programs.specs.Programs.{FoundProgramsView}
+use Rattle.stream_programs.specs.Streams.{FoundStreamView}
+use Rattle.data_times.specs.DataTimes.{pcr_if}
+use Rattle.joined_parts.specs.declared.stamps.UnitStamp.{UnitStamp}
+
+-- without a DTS a unit is decoded at its PTS
+unfoldable pub dts_of : Stamps → Option ℕ
+dts_of Absent = None
+dts_of (Pts pts) = Some pts
+dts_of (PtsDts pts dts) = Some dts
+
+unfoldable pub dts_in : WhatView → Option ℕ
+dts_in (IsPes header unended body) = dts_of header.stamps
+dts_in what = None
+
+-- the packet in which it begins
+unfoldable pub begin_of : Option (ℕ × Kind) → ℕ → ℕ
+begin_of None packet = packet
+begin_of (Some (first, kind)) packet = first
+
+-- the PID of the references of the clock of a stream's program
+abbrev pub clock_of : FoundProgramsView → FoundStreamView → Option ℕ
+clock_of found s = pcr_if (find (λ p. p.number == s.program) found.programs)
+
+unfoldable pub clock_if : FoundProgramsView → Option FoundStreamView → Option ℕ
+clock_if found None = None
+clock_if found (Some s) = clock_of found s
+
+-- that of the stream on a PID
+abbrev pub clock_on : FoundProgramsView → ℕ → Option ℕ
+clock_on found pid = clock_if found (find (λ s. s.pid == pid) found.streams)
+
+unfoldable pub clock_at : FoundProgramsView → Option ℕ → Option ℕ
+clock_at found None = None
+clock_at found (Some pid) = clock_on found pid
+
+unfoldable pub stamp_with : Option ℕ → ℕ → Option ℕ → Option UnitStamp
+stamp_with (Some clock) packet (Some dts) = Some (record { clock = clock; packet = packet; dts = dts })
+stamp_with clock packet dts = None
+
+-- that of a PES packet of a stream whose program has a clock
+abbrev pub stamp_of : FoundProgramsView → FindingView → Option UnitStamp
+stamp_of found f = stamp_with (clock_at found f.pid) (begin_of f.begun f.packet) (dts_in f.what)
+
+unfoldable pub with_stamp : List UnitStamp → Option UnitStamp → List UnitStamp
+with_stamp stamps None = stamps
+with_stamp stamps (Some stamp) = stamps ++ stamp ∷ []
+
+unfoldable pub stamps_after : FoundProgramsView → List UnitStamp → List FindingView → List UnitStamp
+stamps_after found stamps [] = stamps
+stamps_after found stamps (f ∷ fs) = stamps_after found (with_stamp stamps (stamp_of found f)) fs
+
+abbrev pub stamps_in : FoundProgramsView → List FindingView → List UnitStamp
+stamps_in found findings = stamps_after found [] findings

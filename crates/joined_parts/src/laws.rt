@@ -1,0 +1,18 @@
+//! The laws of the definitions. They do nothing: their contracts are the laws.
+
+ghost use Rattle.joined_parts.specs.Laws.{NothingElseMoves, PartsComeInOrder, WholeRecordingStays};
+
+/// States that nothing of what is found changes but the stamps of PES packets.
+pub fn nothing_else_moves()
+    ensures { NothingElseMoves }
+{}
+
+/// States that a recording whose clocks don't jump stays as it is.
+pub fn whole_recording_stays()
+    ensures { WholeRecordingStays }
+{}
+
+/// States that the units of the part after a cut are due 0.3 s after those of the part before it, or later.
+pub fn parts_come_in_order()
+    ensures { PartsComeInOrder }
+{}

@@ -1,0 +1,360 @@
+-- A job has the lines of its streams, of damaged packets, and of streams that are left out.
+use Rattle.std.proofs.Common.{◌≡◌, ◌∙◌, ◌⊎◌, inl, inr, ℕ, zero, suc, ◌==◌, ◌++◌, Bool, true, false, cond, if◌then◌else◌, List, [], ◌∷◌, length, map, filter}
+use Rattle.std.proofs.Common.{flat_map, Option, Some, None, Result, Ok, Err, Contains, refl, sym, ap, subst, arith, eq-eqb, ⊎_elim}
+use Rattle.std.specs.Prelude.{ok_or, option_to_list, is_some}
+use Rattle.std.specs.List.{list_any}
+use Rattle.std.proofs.lemmas.List.Elements.{Contains-append_left, Contains-append_right}
+use Rattle.demux.specs.Views.{WhatView, IsTruncated, IsBadPacket, IsErrored, FindingView}
+use Rattle.stream_programs.specs.Association.{AssociationView, association}
+use Rattle.stream_programs.specs.PidAssignment.{assigned_pids}
+use Rattle.stream_programs.specs.Programs.{FoundProgramsView, programs_of}
+use Rattle.stream_programs.specs.Streams.{FoundStreamView}
+use Rattle.stream_programs.specs.declared.pid_assignment.ProgramPids.{ProgramPids}
+use Rattle.es_moments.specs.WireUnits.{CarriedUnit}
+use Rattle.es_units.specs.CarriedUnits.{carried_units}
+use Rattle.es_units.specs.UnitWarnings.{unit_warnings}
+use Rattle.es_units.specs.declared.unit_warning.UnitWarning.{UnitWarning}
+use Rattle.job_programs.specs.Answers.{and_then, unless, each}
+use Rattle.job_programs.specs.ClockBases.{base0_of}
+use Rattle.job_programs.specs.Information.{JobInformationView, information_of}
+use Rattle.job_programs.specs.JobOptions.{JobOptionsView}
+use Rattle.job_programs.specs.JobPrograms.{JobProgramView, all_program_warnings, job_programs, numbers_named}
+use Rattle.job_programs.specs.JobStreams.{TimedStreamView, WireStreamView}
+use Rattle.job_programs.specs.JobTables.{JobTableView, told, is_told}
+use Rattle.job_programs.specs.Packets.{no_packets}
+use Rattle.job_programs.specs.Warnings.{packet_warning, packet_warning_of, packet_warnings, pid_warnings}
+use Rattle.job_programs.specs.declared.warning.PacketWarning.TheVariants.{Bad, Errored}
+use Rattle.job_programs.specs.declared.refusal.JobRefusal.{JobRefusal}
+use Rattle.job_programs.specs.declared.refusal.JobRefusal.TheVariants as refusals
+use Rattle.job_programs.specs.declared.warning.Warning.{Warning}
+use Rattle.job_programs.specs.declared.warning.Warning.TheVariants as warnings
+use Rattle.job_programs.proofs.Steps.{granted, comes, same_value}
+use Rattle.job_units.specs.declared.declarations.StreamChoice.{StreamChoice}
+use Rattle.job_units.specs.BufferWarnings.{buffer_warnings}
+use Rattle.job_units.specs.Declarations.{UnitCountsView, too_many, too_long, all_measured, all_unit_counts, choices}
+use Rattle.job_units.specs.Moments.{earliest, first_base, firsts, moved_by, moved_stream, moved_streams, with_moments}
+use Rattle.job_units.specs.OddStreams.{odd_stream}
+use Rattle.job_units.specs.WireStreams.{selected, wire_streams, carried_stream, carried_streams, kept_stream, unless_odd, stream_if_any, can_carry}
+use Rattle.job_units.specs.WireStreams.{stream_of, with_units, with_stamps, common_id, no_unit_warning, is_unstamped, why_not_carried}
+use Rattle.job_units.specs.WireStreams.{wire_stream, left_out_for, warnings_by, left_out_warnings, all_left_out_warnings}
+use Rattle.job_inputs.specs.JobInput.{JobInputView, job_input, with_association, with_programs, with_pids, with_found, with_streams, with_moved}
+use Rattle.job_inputs.specs.JobInput.{with_unit_counts, change_warnings, table_warnings, stream_warnings, service_warnings, job_warnings}
+use Rattle.job_inputs.specs.JobInput.{named_of, nothing_carried, tables_of}
+use Rattle.laws_job.specs.JobLines.{is_about, IsNamed, pids_of, JobLinesLaw}
+
+-- 1. Elements of lists
+
+cons_has : {X : Type 0} (x : X) (xs : List X) (y : X) → Contains xs y → Contains (x ∷ xs) y
+cons_has x xs y (k, lt, e) = (suc k, omega (arith, lt), e)
+
+flat_has : {X Y : Type 0} (f : X → List Y) (xs : List X) (x : X) (y : Y) → Contains xs x → Contains (f x) y → Contains (flat_map f xs) y
+flat_has f [] x y (k, lt, e) at = absurd (omega (arith, lt))
+flat_has f (z ∷ zs) x y (zero, lt, e) at =
+    Contains-append_left (f z) (flat_map f zs) y (subst (λ v. Contains (f v) y) (sym e) at)
+flat_has f (z ∷ zs) x y (suc k, lt, e) at =
+    Contains-append_right (f z) (flat_map f zs) y (flat_has f zs x y (k, omega (arith, lt), e) at)
+
+map_has : {X Y : Type 0} (f : X → Y) (xs : List X) (x : X) → Contains xs x → Contains (map f xs) (f x)
+map_has f [] x (k, lt, e) = absurd (omega (arith, lt))
+map_has f (z ∷ zs) x (zero, lt, e) = (zero, omega arith, ap f e)
+map_has f (z ∷ zs) x (suc k, lt, e) = cons_has (f z) (map f zs) (f x) (map_has f zs x (k, omega (arith, lt), e))
+
+first_kept : {X : Type 0} (b : Bool) (x : X) (xs : List X) (y : X) → b ≡ true → x ≡ y → Contains (cond b (x ∷ xs) xs) y
+first_kept true x xs y keeps same = (zero, omega arith, same)
+first_kept false x xs y keeps same = absurd (cc)
+
+later_kept : {X : Type 0} (b : Bool) (x : X) (xs : List X) (y : X) → Contains xs y → Contains (cond b (x ∷ xs) xs) y
+later_kept true x xs y at = cons_has x xs y at
+later_kept false x xs y at = at
+
+filter_has : {X : Type 0} (p : X → Bool) (xs : List X) (x : X) → p x ≡ true → Contains xs x → Contains (filter p xs) x
+filter_has p [] x keeps (k, lt, e) = absurd (omega (arith, lt))
+filter_has p (z ∷ zs) x keeps (zero, lt, e) = first_kept (p z) z (filter p zs) x (ap p e ∙ keeps) e
+filter_has p (z ∷ zs) x keeps (suc k, lt, e) = later_kept (p z) z (filter p zs) x (filter_has p zs x keeps (k, omega (arith, lt), e))
+
+-- what is made of each element's number is made of the numbers
+flat_of : {X Y : Type 0} (g : ℕ → List Y) (p : X → ℕ) (xs : List X) → flat_map (λ x. g (p x)) xs ≡ flat_map g (map p xs)
+flat_of g p [] = refl
+flat_of g p (x ∷ xs) = ap (λ ys. g (p x) ++ ys) (flat_of g p xs)
+
+-- 2. The PIDs of streams stay
+
+moved_pid : (findings : List FindingView) (base : ℕ) (s : WireStreamView) (t : TimedStreamView) → moved_stream findings base s ≡ Ok t → t.pid ≡ s.pid
+unfolding moved_stream with_moments
+moved_pid findings base s t is =
+    sym (ap (λ (x : TimedStreamView). x.pid) (same_value (with_moments base s) t (granted _ (Ok (with_moments base s)) t is)))
+
+all_pids : (f : WireStreamView → Result TimedStreamView JobRefusal) → ((s : WireStreamView) (t : TimedStreamView) → f s ≡ Ok t → t.pid ≡ s.pid) →
+    (ss : List WireStreamView) (ts : List TimedStreamView) → each f ss ≡ Ok ts → map (λ t. t.pid) ts ≡ map (λ s. s.pid) ss
+unfolding each
+all_pids f keeps [] ts is = ap (map (λ t. t.pid)) (sym (same_value [] ts is))
+all_pids f keeps (s ∷ ss) ts is =
+    let first = comes (λ y. and_then (λ ys. Ok (y ∷ ys)) (each f ss)) (f s) ts is in
+    let rest = comes (λ ys. Ok (first.value ∷ ys)) (each f ss) ts first.last_is in
+    let here : first.value.pid ≡ s.pid = keeps s first.value first.first_is in
+    let more : map (λ t. t.pid) rest.value ≡ map (λ x. x.pid) ss = all_pids f keeps ss rest.value rest.first_is in
+    ap (map (λ t. t.pid)) (sym (same_value (first.value ∷ rest.value) ts rest.last_is)) ∙ rw (here, more) refl
+
+moved_pids : (findings : List FindingView) (due : ℕ) (programs : List JobProgramView) (ss : List WireStreamView) (ts : List TimedStreamView) →
+    moved_streams findings due programs ss ≡ Ok ts → map (λ t. t.pid) ts ≡ map (λ s. s.pid) ss
+unfolding moved_streams moved_by
+moved_pids findings due programs ss ts is =
+    all_pids (moved_by findings due programs (firsts programs ss)) (λ s t. moved_pid findings _ s t) ss ts is
+
+-- 3. A stream is carried, or named
+
+record IsKept (pid : ℕ) (ws : List WireStreamView) : Type 0 where
+  stream : WireStreamView
+  among : Contains ws stream
+  pid_is : stream.pid ≡ pid
+
+named_first : (pid : ℕ) (line : Warning) (more : List Warning) → is_about pid line ≡ true → IsNamed pid (line ∷ more)
+named_first pid line more is = record { line = line; among = (zero, omega arith, refl); about = is }
+
+about_none : (pid program : ℕ) (some : Bool) → is_about pid (if some then warnings.LeftOut pid (refusals.NoStamps pid) else warnings.NoUnit program pid) ≡ true
+unfolding is_about
+about_none pid program true = eq-eqb pid pid refl
+about_none pid program false = eq-eqb pid pid refl
+
+why_named : (count : ℕ) (findings : List FindingView) (program pid : ℕ) (us : List CarriedUnit) → IsNamed pid (why_not_carried count findings program pid us)
+unfolding why_not_carried no_unit_warning is_about
+why_named count findings program pid [] =
+    named_first pid (no_unit_warning program pid (unit_warnings pid count findings)) (pid_warnings count findings pid)
+    (about_none pid program (list_any is_unstamped (unit_warnings pid count findings)))
+why_named count findings program pid (u ∷ us) = named_first pid (warnings.StreamId program pid u.packet u.stream_id) [] (eq-eqb pid pid refl)
+
+wire_pid : (made : Bool) (findings : List FindingView) (s : FoundStreamView) (w : WireStreamView) → wire_stream made findings s ≡ Ok w → w.pid ≡ s.pid
+unfolding wire_stream stream_of with_units
+wire_pid made findings s w is =
+    let id = comes (λ id. and_then (λ us. Ok (with_units s id us)) (with_stamps made s.pid (carried_units s.pid findings)))
+    (common_id s.pid _ (carried_units s.pid findings)) w is in
+    let us = comes (λ us. Ok (with_units s id.value us)) (with_stamps made s.pid (carried_units s.pid findings)) w id.last_is in
+    sym (ap (λ (x : WireStreamView). x.pid) (same_value (with_units s id.value us.value) w us.last_is))
+
+some_pid : (made : Bool) (findings : List FindingView) (s : FoundStreamView) (w : WireStreamView) (can : Bool) →
+    (if can then and_then (λ v. Ok (Some v)) (wire_stream made findings s) else Ok None) ≡ Ok (Some w) → w.pid ≡ s.pid
+some_pid made findings s w false is = absurd (cc)
+some_pid made findings s w true is =
+    let there = comes (λ v. Ok (Some v)) (wire_stream made findings s) (Some w) is in
+    let last : Some there.value ≡ Some w = same_value (Some there.value) (Some w) there.last_is in
+    let same : there.value ≡ w = cc in
+    ap (λ (x : WireStreamView). x.pid) (sym same) ∙ wire_pid made findings s there.value there.first_is
+
+by_odd : (pid : ℕ) (w : WireStreamView) (odd : Option JobRefusal) → w.pid ≡ pid →
+    IsKept pid (option_to_list (unless_odd odd w)) ⊎ IsNamed pid (left_out_for pid odd)
+unfolding unless_odd left_out_for is_about
+by_odd pid w None same = inl (record { stream = w; among = (zero, omega arith, refl); pid_is = same })
+by_odd pid w (Some why) same = inr (named_first pid (warnings.LeftOut pid why) [] (eq-eqb pid pid refl))
+
+by_result : (options : JobOptionsView) (count : ℕ) (findings : List FindingView) (s : FoundStreamView) (r : Result (Option WireStreamView) JobRefusal) →
+    ((w : WireStreamView) → r ≡ Ok (Some w) → w.pid ≡ s.pid) →
+    IsKept s.pid (option_to_list (kept_stream options findings r)) ⊎ IsNamed s.pid (warnings_by options count findings s r)
+unfolding kept_stream warnings_by left_out_for is_about
+by_result options count findings s (Err why) keeps = inr (named_first s.pid (warnings.LeftOut s.pid why) [] (eq-eqb s.pid s.pid refl))
+by_result options count findings s (Ok None) keeps = inr (why_named count findings s.program s.pid (carried_units s.pid findings))
+by_result options count findings s (Ok (Some w)) keeps = by_odd s.pid w (odd_stream options findings w) (keeps w refl)
+
+one_stream : (options : JobOptionsView) (count : ℕ) (findings : List FindingView) (s : FoundStreamView) →
+    IsKept s.pid (carried_stream options findings s) ⊎ IsNamed s.pid (left_out_warnings options count findings s)
+unfolding carried_stream left_out_warnings stream_if_any
+one_stream options count findings s =
+    by_result options count findings s
+    (if can_carry findings s then and_then (λ v. Ok (Some v)) (wire_stream options.make_dts findings s) else Ok None)
+    (λ w is. some_pid options.make_dts findings s w (can_carry findings s) is)
+
+each_stream : (options : JobOptionsView) (count : ℕ) (findings : List FindingView) (ss : List FoundStreamView) (s : FoundStreamView) → Contains ss s →
+    Contains (map (λ w. w.pid) (carried_streams options findings ss)) s.pid ⊎ IsNamed s.pid (flat_map (left_out_warnings options count findings) ss)
+each_stream options count findings ss s at =
+    ⊎_elim
+    (λ kept. inl (subst (λ (pid : ℕ). Contains (map (λ w. w.pid) (carried_streams options findings ss)) pid) kept.pid_is
+    (map_has (λ w. w.pid) (carried_streams options findings ss) kept.stream
+    (flat_has (carried_stream options findings) ss s kept.stream at kept.among))))
+    (λ named. inr (record {
+      line = named.line;
+      among = flat_has (left_out_warnings options count findings) ss s named.line at named.among;
+      about = named.about;
+    }))
+    (one_stream options count findings s)
+
+-- 4. What a job is made of
+
+record Made (all : List Warning) (streams : List TimedStreamView) (input : JobInputView) : Type 0 where
+  more : List Warning
+  warnings_are : input.warnings ≡ all ++ more
+  streams_are : input.streams ≡ streams
+
+made : (options : JobOptionsView) (information : JobInformationView) (base : ℕ) (programs : List JobProgramView) (tables : List JobTableView)
+    (all_warnings : List Warning) (streams : List TimedStreamView) (input : JobInputView) →
+    with_moved options information base programs tables all_warnings streams ≡ Ok input → Made all_warnings streams input
+unfolding with_moved with_unit_counts
+made options information base programs tables all_warnings streams input is =
+    let finish = λ (all : List UnitCountsView) (chosen : List StreamChoice). (let i : JobInputView = record {
+      information = information;
+      base0 = base;
+      programs = programs;
+      streams = streams;
+      unit_counts = all;
+      choices = chosen;
+      tables = tables;
+      warnings = all_warnings ++ buffer_warnings options.buffers (all_measured streams) all chosen;
+    } in i) in
+    let counted = granted (too_long streams) (with_unit_counts options finish streams) input
+    (granted (too_many (length programs) (length streams)) (unless (too_long streams) (with_unit_counts options finish streams)) input is) in
+    let all = comes (λ all. and_then (λ chosen. Ok (finish all chosen)) (choices options.declare_by options.lead (all_measured streams) all))
+    (all_unit_counts options.buffers (all_measured streams)) input counted in
+    let chosen = comes (λ chosen. Ok (finish all.value chosen)) (choices options.declare_by options.lead (all_measured streams) all.value) input all.last_is in
+    let same : finish all.value chosen.value ≡ input = same_value (finish all.value chosen.value) input chosen.last_is in
+    subst (Made all_warnings streams) {x = finish all.value chosen.value} same (record {
+      more = buffer_warnings options.buffers (all_measured streams) all.value chosen.value;
+      warnings_are = refl;
+      streams_are = refl;
+    })
+
+ok_value : (o : Option AssociationView) (why : JobRefusal) (a : AssociationView) → ok_or o why ≡ Ok a → o ≡ Some a
+ok_value None why a is = absurd (cc)
+ok_value (Some b) why a is = let same : b ≡ a = same_value b a is in ap Some same
+
+record Lined (options : JobOptionsView) (count : ℕ) (findings : List FindingView) (input : JobInputView) : Type 0 where
+  association_is : AssociationView
+  in_force : association findings ≡ Some association_is
+  assigned : List ProgramPids
+  tables : List JobTableView
+  pids : pids_of input ≡ map (λ s. s.pid) (wire_streams options findings (programs_of (named_of options association_is) findings).streams)
+  lines : (w : Warning) → is_told tables w ≡ true →
+      Contains (job_warnings options count findings association_is (named_of options association_is) (programs_of (named_of options association_is) findings)
+      assigned (wire_streams options findings (programs_of (named_of options association_is) findings).streams)) w → Contains input.warnings w
+
+lined : (options : JobOptionsView) (count : ℕ) (findings : List FindingView) (input : JobInputView) → job_input options count findings ≡ Ok input →
+    Lined options count findings input
+unfolding job_input with_association with_programs with_pids with_found with_streams
+lined options count findings input is =
+    let associated = comes (with_association options count findings) (ok_or (association findings) refusals.NoAssociation) input
+    (granted (no_packets count findings) (and_then (with_association options count findings) (ok_or (association findings) refusals.NoAssociation)) input is) in
+    let a = associated.value in
+    let found = programs_of (named_of options a) findings in
+    let assigned = comes (with_pids options count findings a (named_of options a) found) (ok_or (assigned_pids found) refusals.Pids) input
+    (granted (if length found.programs == 0 then Some (refusals.NoProgram (numbers_named a.programs)) else None)
+    (and_then (with_pids options count findings a (named_of options a) found) (ok_or (assigned_pids found) refusals.Pids)) input associated.last_is) in
+    let streams = wire_streams options findings found.streams in
+    let programs = job_programs streams found.programs assigned.value in
+    let tables = tables_of options count findings found assigned.value streams in
+    let all = job_warnings options count findings a (named_of options a) found assigned.value streams in
+    let information = information_of options a.transport_stream_id findings programs in
+    let due = earliest programs tables streams in
+    let base = base0_of options.base (first_base due programs streams) in
+    let timed = comes (with_moved options information base programs tables (told tables all)) (moved_streams findings due programs streams) input
+    (granted (nothing_carried options.strict (told tables all) streams)
+    (and_then (with_moved options information base programs tables (told tables all)) (moved_streams findings due programs streams))
+    input assigned.last_is) in
+    let done = made options information base programs tables (told tables all) timed.value input timed.last_is in
+    record {
+      association_is = a;
+      in_force = ok_value (association findings) refusals.NoAssociation a associated.first_is;
+      assigned = assigned.value;
+      tables = tables;
+      pids = ap (λ (ts : List TimedStreamView). map (λ t. t.pid) ts) done.streams_are ∙ moved_pids findings due programs streams timed.value timed.first_is;
+      lines = λ w keeps at. subst (λ (ws : List Warning). Contains ws w) (sym done.warnings_are)
+          (Contains-append_left (told tables all) done.more w (filter_has (is_told tables) all w keeps at));
+    }
+
+-- 5. Which lines are there
+
+packets_in : (options : JobOptionsView) (count : ℕ) (findings : List FindingView) (a : AssociationView) (named : _) (found : FoundProgramsView)
+    (assigned : List ProgramPids) (streams : List WireStreamView) (w : Warning) → Contains (packet_warnings findings) w →
+    Contains (job_warnings options count findings a named found assigned streams) w
+unfolding job_warnings stream_warnings table_warnings change_warnings
+packets_in options count findings a named found assigned streams w at =
+    let changes : Contains (change_warnings a named findings) w =
+    Contains-append_left _ _ w (Contains-append_left _ _ w (Contains-append_left (packet_warnings findings) _ w at)) in
+    let of_tables : Contains (table_warnings options a named findings found) w =
+    Contains-append_left _ _ w (Contains-append_left _ _ w (Contains-append_left _ _ w
+    (Contains-append_left (change_warnings a named findings) _ w changes))) in
+    let of_streams : Contains (stream_warnings options count findings a named found) w =
+    Contains-append_left (table_warnings options a named findings found) _ w of_tables in
+    Contains-append_left _ _ w (Contains-append_left _ _ w (Contains-append_left (stream_warnings options count findings a named found) _ w of_streams))
+
+left_out_in : (options : JobOptionsView) (count : ℕ) (findings : List FindingView) (a : AssociationView) (named : _) (found : FoundProgramsView)
+    (assigned : List ProgramPids) (streams : List WireStreamView) (w : Warning) → Contains (all_left_out_warnings options count findings found.streams) w →
+    Contains (job_warnings options count findings a named found assigned streams) w
+unfolding job_warnings stream_warnings
+left_out_in options count findings a named found assigned streams w at =
+    let of_streams : Contains (stream_warnings options count findings a named found) w =
+    Contains-append_right (table_warnings options a named findings found) _ w at in
+    Contains-append_left _ _ w (Contains-append_left _ _ w (Contains-append_left (stream_warnings options count findings a named found) _ w of_streams))
+
+units_in : (options : JobOptionsView) (count : ℕ) (findings : List FindingView) (a : AssociationView) (named : _) (found : FoundProgramsView)
+    (assigned : List ProgramPids) (streams : List WireStreamView) (w : Warning) → Contains (flat_map (λ s. pid_warnings count findings s.pid) streams) w →
+    Contains (job_warnings options count findings a named found assigned streams) w
+unfolding job_warnings
+units_in options count findings a named found assigned streams w at =
+    let before = stream_warnings options count findings a named found ++ all_program_warnings streams found.programs assigned in
+    let units = flat_map (λ s. pid_warnings count findings s.pid) streams in
+    Contains-append_left (before ++ units) (service_warnings options.names findings (job_programs streams found.programs assigned)) w
+    (Contains-append_right before units w at)
+
+unit_line : (pid count : ℕ) (findings : List FindingView) (streams : List WireStreamView) (w : UnitWarning) → Contains (map (λ s. s.pid) streams) pid →
+    Contains (unit_warnings pid count findings) w → Contains (flat_map (λ s. pid_warnings count findings s.pid) streams) (warnings.Units pid w)
+unfolding pid_warnings
+unit_line pid count findings streams w on at =
+    subst (λ (ws : List Warning). Contains ws (warnings.Units pid w)) (sym (flat_of (pid_warnings count findings) (λ s. s.pid) streams))
+    (flat_has (pid_warnings count findings) (map (λ s. s.pid) streams) pid (warnings.Units pid w) on
+    (map_has (warnings.Units pid) (unit_warnings pid count findings) w at))
+
+-- the tables that are carried take none of these back
+told_alone : (tables : List JobTableView) (line w : Warning) → is_told tables line ≡ true → Contains (line ∷ []) w → is_told tables w ≡ true
+told_alone tables line w keeps (zero, lt, e) = subst (λ (x : Warning). is_told tables x ≡ true) e keeps
+told_alone tables line w keeps (suc k, lt, e) = absurd (omega (arith, lt))
+
+told_none : (tables : List JobTableView) (w : Warning) → Contains [] w → is_told tables w ≡ true
+told_none tables w (k, lt, e) = absurd (omega (arith, lt))
+
+what_told : (tables : List JobTableView) (packet : ℕ) (what : WhatView) (w : Warning) → Contains (packet_warning_of packet what) w → is_told tables w ≡ true
+unfolding packet_warning_of is_told
+what_told tables packet (IsBadPacket error) w at = told_alone tables (warnings.Packet packet Bad) w refl at
+what_told tables packet IsErrored w at = told_alone tables (warnings.Packet packet Errored) w refl at
+what_told tables packet (IsTruncated bytes) w at = told_alone tables (warnings.TrailingBytes (length bytes)) w refl at
+what_told tables packet _ w at = told_none tables w at
+
+if_told : (tables : List JobTableView) (some : Bool) (packet : ℕ) (what : WhatView) (w : Warning) →
+    Contains (if some then [] else packet_warning_of packet what) w → is_told tables w ≡ true
+if_told tables true packet what w at = told_none tables w at
+if_told tables false packet what w at = what_told tables packet what w at
+
+packet_told : (tables : List JobTableView) (f : FindingView) (w : Warning) → Contains (packet_warning f) w → is_told tables w ≡ true
+unfolding packet_warning
+packet_told tables f w at = if_told tables (is_some f.pid) f.packet f.what w at
+
+about_told : (tables : List JobTableView) (pid : ℕ) (w : Warning) → is_about pid w ≡ true → is_told tables w ≡ true
+unfolding is_about is_told
+about_told tables pid (warnings.Table omission) is = absurd (cc)
+about_told tables pid _ is = refl
+
+units_told : (tables : List JobTableView) (pid : ℕ) (w : UnitWarning) → is_told tables (warnings.Units pid w) ≡ true
+unfolding is_told
+units_told tables pid w = refl
+
+-- 6. All of them
+
+pub says_all : JobLinesLaw
+says_all options count findings input is =
+    let all = lined options count findings input is in
+    let a = all.association_is in
+    let found = programs_of (named_of options a) findings in
+    let streams = wire_streams options findings found.streams in
+    record {
+      units = λ pid w on at. all.lines (warnings.Units pid w) (units_told all.tables pid w)
+          (units_in options count findings a (named_of options a) found all.assigned streams (warnings.Units pid w)
+          (unit_line pid count findings streams w (subst (λ (pids : List ℕ). Contains pids pid) all.pids on) at));
+      packets = λ f w on at. all.lines w (packet_told all.tables f w at)
+          (packets_in options count findings a (named_of options a) found all.assigned streams w (flat_has packet_warning findings f w on at));
+      named_by = a;
+      in_force = all.in_force;
+      streams = λ s at. ⊎_elim (λ kept. inl (subst (λ (pids : List ℕ). Contains pids s.pid) (sym all.pids) kept))
+          (λ named. inr (record {
+            line = named.line;
+            among = all.lines named.line (about_told all.tables s.pid named.line named.about)
+                (left_out_in options count findings a (named_of options a) found all.assigned streams named.line named.among);
+            about = named.about;
+          }))
+          (each_stream options count findings (selected options.without found.streams) s at);
+    }

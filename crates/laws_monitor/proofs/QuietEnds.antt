@@ -1,0 +1,149 @@
+-- Events of the end of a stream: the monitor has no rule of them.
+use Rattle.std.proofs.Common.{ℕ, Bool, List, [], ◌∷◌, Option, Some, None, refl}
+use Rattle.std.specs.Option.{option_to_list}
+use Rattle.pid_windows.specs.declared.pid_windows.PidCounts.{PidCounts}
+use Rattle.arrival.specs.declared.arrival.Arrival.{Arrival}
+use Rattle.system_tables.specs.Programs.{ProgramState, known}
+use Rattle.tstd_rows.specs.Held.{Held, transport_busy_under_way, transport_under_way, unit_before}
+use Rattle.tstd_rows.specs.Limits.{tb_size}
+use Rattle.tstd_rows.specs.declared.busy_watch.Stay.{Stay}
+use Rattle.tr101290.specs.RateJudges.{last_errors}
+use Rattle.events.specs.declared.event.Event.TheVariants as found
+use Rattle.events.specs.declared.rule_event.BufferKind.{BufferKind}
+use Rattle.events.specs.declared.rule_event.BufferKind.TheVariants as buffers
+use Rattle.events.specs.declared.rule_event.RuleEvent.TheVariants as rule_events
+use Rattle.events.specs.declared.rule_event.ScrambledPacket.{ScrambledPacket}
+use Rattle.es_view.specs.declared.entry_events.Place.{Place}
+use Rattle.es_view.specs.declared.tally.Tally.{Tally}
+use Rattle.es_view.specs.declared.video_figures.VideoFigures.{VideoFigures}
+use Rattle.es_view.specs.declared.video_tally.VideoTally.{VideoTally}
+use Rattle.es_view.specs.declared.view_options.ViewOptions.{ViewOptions}
+use Rattle.es_view.specs.EntryEvents.{closing_events, excess_event, excess_events, late_events, main_event, main_excess_event, main_excess_events, main_figures}
+use Rattle.es_view.specs.EntryEvents.{transport_total, under_way_events, with_size}
+use Rattle.es_view.specs.VideoEvents.{elementary_event, multiplexing_event, video_closing_events, video_under_way}
+use Rattle.es_view.specs.VideoFigures.{figures_of}
+use Rattle.es_view.specs.HeldEvents.{tally_events}
+use Rattle.es_view.specs.MarkTallies.{mark_events}
+use Rattle.es_view.specs.EntryStays.{busy_closing}
+use Rattle.es_view.specs.EntryFrames.{leak_under_way}
+use Rattle.es_view.specs.Entries.{EntryState, closed_seen, place_at, seen_held, stays_closing}
+use Rattle.es_view.specs.Entries as entry_views
+use Rattle.ts_watch.specs.Choices.{ChoiceView, takes}
+use Rattle.ts_watch.specs.ClockEvents.{clock_event, clock_events, inaccuracy_events, variable_events}
+use Rattle.ts_watch.specs.ReferenceEvents.{events_by, missing_events, reference_events, unreferenced_events}
+use Rattle.ts_watch.specs.RuleEvents.{RuleState, cat_events, ends_varying}
+use Rattle.ts_watch.specs.RuleEvents as rule_views
+use Rattle.ts_watch.specs.SystemEvents.{event_if, system_event, system_events, under_way}
+use Rattle.ts_watch.specs.SystemEvents as systems
+use Rattle.ts_watch.specs.TableEvents.{has_table, table_event, table_events}
+use Rattle.ts_watch.specs.WindowEvents.{pid_event, pid_events}
+use Rattle.tr101290.specs.Packets.{missing_pids, unreferenced_pids}
+use Rattle.tr101290.specs.References.{referenced_pids}
+use Rattle.ts_report.specs.Seen.{SeenState, arrival_events, end_event, pid_ends, unclocked, unclocked_event, window_ends}
+use Rattle.ts_report.specs.StreamTables.{TableState, table_end}
+use Rattle.ts_report.specs.Views.{ViewState, end_events}
+use Rattle.laws_monitor.specs.ViewedFaults.{fault_in}
+use Rattle.laws_monitor.proofs.QuietEvents.{Quiet, all_of, each, join, lates, of_both, one_if, one_unless, system, tallies}
+use Rattle.laws_monitor.proofs.ViewedPackets.{inaccuracies, variables, window_end}
+
+-- 1. Packets that no longer wait
+
+pub arrivals : (s : SeenState) (arrival : Arrival) (count : ℕ) → Quiet (arrival_events s arrival count)
+unfolding fault_in
+arrivals s arrival count = one_if (unclocked arrival count) (unclocked_event s count) refl
+
+-- 2. Streams
+
+busy_closes : (options : ViewOptions) (place : Place) (buffer : BufferKind) (o : Option Stay) → Quiet (busy_closing options place buffer o)
+unfolding busy_closing fault_in
+busy_closes options place buffer None = refl
+busy_closes options place buffer (Some s) = refl
+
+closes : (options : ViewOptions) (place : Place) (h : Held) (t : Tally) → Quiet (closing_events options place h t)
+unfolding fault_in
+closes options place h t =
+    join (under_way_events options place h) (transport_total place h t ∷ main_event place (main_figures h t) t ∷ [])
+    (join (excess_events options (with_size place tb_size) (option_to_list (transport_under_way h))) _
+    (each (excess_event options (with_size place tb_size)) (option_to_list (transport_under_way h)) (λ x. refl))
+    (join (main_excess_events options place (option_to_list h.main.under_way)) (late_events options place (unit_before h))
+    (each (main_excess_event options place) (option_to_list h.main.under_way) (λ x. refl)) (lates options place (unit_before h))))
+    refl
+
+video_closes : (options : ViewOptions) (place : Place) (o : Option VideoFigures) (units : ℕ) (t : VideoTally) →
+    Quiet (video_closing_events options place o units t)
+unfolding video_closing_events fault_in
+video_closes options place None units t = refl
+video_closes options place (Some f) units t =
+    join (video_under_way options place f) (multiplexing_event place f t ∷ elementary_event place f units t ∷ [])
+    (of_both options place f.limits (option_to_list f.multiplexing) f.elementary f.unit) refl
+
+entry_ends : (options : ViewOptions) (packets window : ℕ) (e : EntryState) → Quiet (entry_views.end_events options packets window e)
+unfolding fault_in
+entry_ends options packets window e =
+    join (tally_events options window place (closed_seen window e)) _ (tallies options window place (closed_seen window e))
+    (join (closing_events options place (seen_held e) (closed_seen window e)) _ (closes options place (seen_held e) (closed_seen window e))
+    (join (video_closing_events options place (figures_of e.video (seen_held e)) (closed_seen window e).units e.video_tally) _
+    (video_closes options place (figures_of e.video (seen_held e)) (closed_seen window e).units e.video_tally)
+    (join (stays_closing options place e) (mark_events e.pid e.mark_tally)
+    (join (busy_closing options place buffers.Transport (transport_busy_under_way (seen_held e)))
+    (busy_closing options place buffers.Multiplexing (leak_under_way e.video (seen_held e)))
+    (busy_closes options place buffers.Transport (transport_busy_under_way (seen_held e)))
+    (busy_closes options place buffers.Multiplexing (leak_under_way e.video (seen_held e))))
+    refl)))
+  where
+    place : Place
+    place = place_at packets e
+
+streams_end : (options : ViewOptions) (packets window : ℕ) (t : TableState) → Quiet (table_end options packets window t)
+streams_end options packets window t = all_of (entry_views.end_events options packets window) t.entries (entry_ends options packets window)
+
+-- 3. Tables, clocks and PIDs
+
+one_program : (options : ViewOptions) (choice : ChoiceView) (packets : ℕ) (p : ProgramState) → Quiet (systems.events_of options choice packets p)
+unfolding fault_in
+one_program options choice packets p =
+    join (systems.excess_events options choice packets (under_way p)) (event_if choice p) (system options choice packets (under_way p))
+    (one_if (takes choice p.number) (system_event p) refl)
+
+programs_end : (options : ViewOptions) (choice : ChoiceView) (packets : ℕ) (programs : List ProgramState) → Quiet (system_events options choice packets programs)
+programs_end options choice packets programs = all_of (systems.events_of options choice packets) programs (one_program options choice packets)
+
+named_end : (entries : List (ℕ × PidCounts)) (o : Option (List ℕ)) → Quiet (events_by entries o)
+unfolding events_by fault_in
+named_end entries None = refl
+named_end entries (Some referenced) =
+    join (unreferenced_events (unreferenced_pids referenced entries)) (missing_events (missing_pids entries [] referenced))
+    (each (λ pid. found.Unreferenced pid) (unreferenced_pids referenced entries) (λ x. refl))
+    (each (λ pid. found.Missing pid) (missing_pids entries [] referenced) (λ x. refl))
+
+access_table : (o : Option ScrambledPacket) (has_cat : Bool) → Quiet (cat_events o has_cat)
+unfolding cat_events fault_in
+access_table None has_cat = refl
+access_table (Some packet) has_cat = one_unless has_cat (found.Rule (rule_events.NoCat packet)) refl
+
+rules_end : (s : RuleState) (packets : ℕ) (has_cat : Bool) → Quiet (rule_views.end_events s packets has_cat)
+rules_end s packets has_cat =
+    join (inaccuracy_events (last_errors s.judge)) _ (inaccuracies (last_errors s.judge))
+    (join (variable_events (ends_varying s.judge) packets s.judge) (cat_events s.scrambled has_cat)
+    (variables (ends_varying s.judge) packets s.judge) (access_table s.scrambled has_cat))
+
+pids_end : (s : SeenState) → Quiet (pid_ends s)
+unfolding fault_in
+pids_end s =
+    join (clock_events s.watches) _ (each clock_event s.watches.watches (λ x. refl))
+    (join (table_events s.tables) _ (each (table_event s.tables.times.intervals.timing) s.tables.times.intervals.entries (λ x. refl))
+    (join (pid_events s.totals) _ (each pid_event s.totals.counts (λ x. refl))
+    (join (reference_events s.named s.totals) (rule_views.end_events s.rules s.packets (has_table s.tables 0x01 0x01))
+    (named_end s.totals.counts (referenced_pids s.named)) (rules_end s.rules s.packets (has_table s.tables 0x01 0x01)))))
+
+-- 4. All of them
+
+pub ends : (s : ViewState) (left : ℕ) → Quiet (end_events s left)
+unfolding fault_in
+ends s left =
+    join (window_ends s.seen) _ (window_end s.seen)
+    (join (table_end s.seen.options s.seen.packets s.seen.window.number s.table) _
+    (streams_end s.seen.options s.seen.packets s.seen.window.number s.table)
+    (join (system_events s.seen.options s.table.choice s.seen.packets (known s.seen.systems)) _
+    (programs_end s.seen.options s.table.choice s.seen.packets (known s.seen.systems))
+    (join (pid_ends s.seen) (end_event s.seen left ∷ []) (pids_end s.seen) refl)))

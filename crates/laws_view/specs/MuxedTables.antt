@@ -1,0 +1,41 @@
+-- Of what a multiplexer wrote, at its rate, no section of a table is late by the rules of `tr101290`, which a view goes by (ETSI TR 101 290, 5.2.1
+-- and 5.2.3).
+use Rattle.std.specs.Prelude.{◌≡◌, ℕ, ◌-◌, ◌^◌, ◌<◌, ◌≤◌, false, List, [], None}
+use Rattle.slot_contents.specs.Contents.{run_bytes}
+use Rattle.pes_packet.specs.AccessUnits.{AccessUnit}
+use Rattle.description_parts.specs.Ranges.{IsInRange}
+use Rattle.plan_timing.specs.Promised.{Promised}
+use Rattle.monitor.specs.Begins.{found_on}
+use Rattle.mux_core.specs.Scheduled.{Scheduled}
+use Rattle.mux_core.specs.Headline.{UnitsKept}
+use Rattle.mux_core.specs.Histories.{content_at}
+use Rattle.mux_core.specs.WholeJobs.{capacity_for, first_refused, job_history, output_of}
+use Rattle.tr101290.specs.Intervals.{no_section}
+use Rattle.tr101290.specs.declared.intervals.TableError.{TableError}
+use Rattle.tr101290.specs.declared.intervals.TableTiming.TheVariants.{ConstantRate}
+use Rattle.laws_monitor.specs.Tables.{errors_from, sections_of}
+
+-- the errors of the sections of a table that are found on a PID, at a rate in bits a second
+abbrev pub table_errors : ℕ → ℕ → ℕ → List ℕ → List TableError
+table_errors rate pid table_id bytes = errors_from (no_section (ConstantRate rate)) (sections_of pid table_id (found_on pid bytes))
+
+-- the tables that have a limit and no parts that have to come again by themselves
+pub record NoneIsLate (rate : ℕ) (bytes : List ℕ) : Type 0 where
+  -- 1.3.a: program association, every 500 ms
+  pub associations : table_errors rate 0x00 0x00 bytes ≡ []
+  -- 3.1.a: network information of the actual network, every 10 s
+  pub network : table_errors rate 0x10 0x40 bytes ≡ []
+  -- 3.5.a: service description of the actual stream, every 2 s
+  pub services : table_errors rate 0x11 0x42 bytes ≡ []
+  -- 3.8: time and date, every 30 s
+  pub time : table_errors rate 0x14 0x70 bytes ≡ []
+
+-- so of every run over a plan that keeps its conditions or two in turn
+abbrev pub RunTablesLaw : Type 0
+RunTablesLaw = (d : Scheduled) (units : ℕ → List AccessUnit) (slots : ℕ) → IsInRange d.description → Promised d.description d.schedule → UnitsKept d units →
+    slots < 2 ^ 64 - 1 → NoneIsLate d.description.rate (run_bytes (content_at d units) 0 slots)
+
+-- and of a whole job of which no unit is refused
+abbrev pub JobTablesLaw : Type 0
+JobTablesLaw = (d : Scheduled) (units : List (ℕ × AccessUnit)) (slots : ℕ) → IsInRange d.description → Promised d.description d.schedule →
+    first_refused d (capacity_for units) [] units ≡ None → slots ≤ 2 ^ 40 → NoneIsLate d.description.rate (output_of false d (job_history units slots))

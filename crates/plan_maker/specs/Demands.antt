@@ -1,0 +1,99 @@
+-- What each item of a description demands of a period: its streams, the PCRs of its programs, its tables, each by number.
+use Rattle.std.specs.Prelude.{ℕ, ◌+◌, ◌-◌, min, Bool, true, false, List, [], ◌∷◌, ◌++◌, length, Option, Some, None, nat_lt, if◌then◌else◌}
+use Rattle.std.specs.List.{sum_by, list_any}
+use Rattle.description_parts.specs.Described.{Described, DescribedProgram, DescribedStream}
+use Rattle.description_parts.specs.Tables.{table_kinds, table_limit, round_packets}
+use Rattle.slot_plan.specs.declared.slot.Slot.{Slot}
+use Rattle.slot_plan.specs.declared.slot.Slot.TheVariants.{Stream, Pcr, Table}
+use Rattle.slot_plan.specs.Numbered.{numbered}
+use Rattle.plan_maker.specs.Bounded.{most_long}
+use Rattle.plan_maker.specs.Recurrences.{recurrence_of, recurrence_count, recurrence_width}
+use Rattle.plan_maker.specs.StreamNeeds.{StreamView, stream_view, stream_at, stream_count, stream_width, main_width}
+use Rattle.plan_maker.specs.declared.search.recurrence.Recurrence.{Recurrence}
+use Rattle.plan_maker.specs.declared.search.demand.Need.{Need}
+use Rattle.plan_maker.specs.declared.search.demand.Need.TheVariants as needs
+use Rattle.plan_maker.specs.declared.search.demand.Demand.{Demand}
+
+-- ---- what an item needs its own slots for
+
+pub data NeedView : Type 0 where
+  StreamNeed : StreamView → NeedView
+  RecurringNeed : Recurrence → NeedView
+
+abbrev pub need_view : Need → NeedView
+need_view (needs.Stream s) = StreamNeed (stream_view s)
+need_view (needs.Recurring r) = RecurringNeed r
+
+-- the least own slots of a period, and the most that these may stray
+abbrev pub need_count : NeedView → ℕ → Option ℕ
+need_count (StreamNeed v) period = stream_count v period
+need_count (RecurringNeed r) period = recurrence_count r period
+
+abbrev pub need_width : NeedView → ℕ → ℕ → Option ℕ
+need_width (StreamNeed v) period count = stream_width v period count
+need_width (RecurringNeed r) period count = recurrence_width r period count
+
+-- the main buffer leaves each own slot less than one slot to stray in
+abbrev pub leaves_no_slot : ℕ → Option ℕ → Bool
+leaves_no_slot count None = true
+leaves_no_slot count (Some width) = nat_lt width (count - 1)
+
+-- more own slots can't help: the main buffer of a stream alone leaves them no slot
+abbrev pub need_is_full : NeedView → ℕ → ℕ → Bool
+need_is_full (StreamNeed v) period count = leaves_no_slot count (main_width v period count)
+need_is_full (RecurringNeed r) period count = false
+
+-- ---- demands
+
+-- an item, what it needs, its number in its kind, the items of that kind, and its own slots
+pub record DemandView : Type 0 where
+  pub slot : Slot
+  pub need : NeedView
+  pub number : ℕ
+  pub kind : ℕ
+  pub count : ℕ
+
+abbrev pub demand_view : Demand → DemandView
+demand_view d = record { slot = d.slot; need = need_view d.need; number = d.number; kind = d.kind; count = d.count }
+
+-- the least own slots; one more than a period has where no slots of it are enough
+abbrev pub count_within : ℕ → Option ℕ → ℕ
+count_within period None = period + 1
+count_within period (Some count) = min count (period + 1)
+
+abbrev pub demand_of : Slot → NeedView → ℕ → ℕ → ℕ → DemandView
+demand_of slot need number kind period =
+    record { slot = slot; need = need; number = number; kind = kind; count = count_within period (need_count need period) }
+
+abbrev pub stream_demand : Described → ℕ → ℕ → DescribedStream → DemandView
+stream_demand d period i s = demand_of (Stream i) (StreamNeed (stream_at s d.rate)) i (length d.streams) period
+
+abbrev pub pcr_demand : Described → ℕ → ℕ → DescribedProgram → DemandView
+pcr_demand d period i p = demand_of (Pcr i) (RecurringNeed (recurrence_of p.pcr_limit d.rate 1)) i (length d.programs) period
+
+abbrev pub table_demand : Described → ℕ → ℕ → DemandView
+table_demand d period t =
+    demand_of (Table t) (RecurringNeed (recurrence_of (table_limit d t) d.rate (round_packets d t))) t (length (table_kinds d)) period
+
+abbrev pub stream_demands : Described → ℕ → List DemandView
+stream_demands d period = numbered (λ i s. stream_demand d period i s ∷ []) 0 d.streams
+
+abbrev pub pcr_demands : Described → ℕ → List DemandView
+pcr_demands d period = numbered (λ i p. pcr_demand d period i p ∷ []) 0 d.programs
+
+abbrev pub table_demands : Described → ℕ → List DemandView
+table_demands d period = numbered (λ t _. table_demand d period t ∷ []) 0 (table_kinds d)
+
+abbrev pub all_demands : Described → ℕ → List DemandView
+all_demands d period = stream_demands d period ++ (pcr_demands d period ++ table_demands d period)
+
+-- one item alone needs more slots than the period has
+abbrev pub is_over : ℕ → DemandView → Bool
+is_over period d = nat_lt period d.count
+
+abbrev pub demands_of : Described → ℕ → Option (List DemandView)
+demands_of d period = if list_any (is_over period) (all_demands d period) then None else Some (all_demands d period)
+
+-- the own slots of all items together, or the greatest number of 64 bits if they are more
+abbrev pub total_count : List Demand → ℕ
+total_count ds = min (sum_by (λ d. d.count) ds) most_long

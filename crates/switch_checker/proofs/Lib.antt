@@ -1,0 +1,2 @@
+pub mod SwitchEntries
+pub mod SwitchGaps

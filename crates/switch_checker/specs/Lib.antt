@@ -1,0 +1,2 @@
+pub mod SwitchShares
+pub mod Followed

@@ -1,0 +1,108 @@
+//! Access units that are removed from the main buffer one by one, across a switch: the access units that are left and
+//! the bytes of later units find room.
+
+ghost use Rattle.std.specs.Prelude.{◌≡◌, ◌-◌, ◌<◌, ◌∷◌, [], length};
+ghost use Rattle.description_parts.specs.Ranges.{IsStream};
+ghost use Rattle.unit_timing.specs.AccessUnits.{framed_across};
+ghost use Rattle.slot_plan.specs.Claims.{declaration, stream_share};
+ghost use Rattle.slot_plan.specs.Conditions.{entries_from};
+ghost use Rattle.slot_plan.specs.SwitchConditions.{frame_switch_entry, frame_switch_entries};
+ghost use Rattle.plan_checker.specs.Failing.{after, search_of};
+
+use crate::main_buffers::bytes_across;
+use crate::plan_pair::PlanPair;
+use plan_checker::comparison::at_most;
+use plan_checker::failure_search::FailureSearch;
+use plan_checker::{ahead_of, left_of_unit};
+use slot_plan::{Condition, StreamDescription};
+use std::alloc::Allocator;
+use unit_timing::framing::Framing;
+
+/// Returns what waits across the switch when `gone` access units of a unit have been removed.
+fn framed_across<A: Allocator>(
+    plans: &PlanPair<'_, A>,
+    i: usize,
+    stream: &StreamDescription,
+    framing: Framing,
+    gone: u8,
+) -> u128
+    requires stream { i < length plans.now.description.now.streams }
+    requires index { i < 32 }
+    requires ranges { IsStream stream.now }
+    ensures { result ≡ framed_across plans.now.description.now.rate (declaration stream.now) framing
+        (stream_share plans.now.first.now i) (stream_share plans.now.second.now i) gone }
+{
+    let left = left_of_unit(framing, gone);
+    let ahead = ahead_of(stream, framing, gone);
+    let lead = stream.lead as u64;
+    if ahead < lead {
+        left + bytes_across(plans, i, stream, lead - ahead)
+    } else {
+        left
+    }
+}
+
+/// Looks at the access units of one stream, if its units have several.
+pub fn frame_switches<A: Allocator>(
+    plans: &PlanPair<'_, A>,
+    i: usize,
+    stream: &StreamDescription,
+    search: &mut FailureSearch,
+)
+    requires stream { i < length plans.now.description.now.streams }
+    requires index { i < 32 }
+    requires ranges { IsStream stream.now }
+    ensures { search_of search.new ≡ after (search_of search.old) (frame_switch_entries
+        plans.now.description.now plans.now.first.now plans.now.second.now i stream.now stream.now.framing) }
+{
+    let Some(framing) = stream.framing else {
+        return;
+    };
+    framed_switches(plans, i, stream, framing, search);
+}
+
+/// One access unit removed, and up to all but one.
+fn framed_switches<A: Allocator>(
+    plans: &PlanPair<'_, A>,
+    i: usize,
+    stream: &StreamDescription,
+    framing: Framing,
+    search: &mut FailureSearch,
+)
+    requires stream { i < length plans.now.description.now.streams }
+    requires index { i < 32 }
+    requires ranges { IsStream stream.now }
+    ensures { search_of search.new ≡ after (search_of search.old) (entries_from (frame_switch_entry
+        plans.now.description.now plans.now.first.now plans.now.second.now i stream.now framing) 1 (framing.frames - 1)) }
+{
+    let others = framing.frames.saturating_sub(1);
+    for before in 0..others {
+        frame_switch(plans, i, stream, framing, before + 1, search);
+    }
+}
+
+/// So many access units removed.
+fn frame_switch<A: Allocator>(
+    plans: &PlanPair<'_, A>,
+    i: usize,
+    stream: &StreamDescription,
+    framing: Framing,
+    gone: u8,
+    search: &mut FailureSearch,
+)
+    requires stream { i < length plans.now.description.now.streams }
+    requires index { i < 32 }
+    requires ranges { IsStream stream.now }
+    ensures { search_of search.new ≡ after (search_of search.old) (frame_switch_entry
+        plans.now.description.now plans.now.first.now plans.now.second.now i stream.now framing gone ∷ []) }
+{
+    let bytes = framed_across(plans, i, stream, framing, gone);
+    at_most(
+        Condition::MainSwitch,
+        gone,
+        i as u32,
+        bytes,
+        stream.main as u128,
+        search,
+    );
+}

@@ -1,0 +1,4 @@
+pub mod LastServices
+pub mod ServicePlaces
+pub mod FirstNetworks
+pub mod NetworkSteps

@@ -1,0 +1,57 @@
+-- The services of a stream: what its service description table says of a program (EN 300 468, 5.2.3 and 6.2.33).
+use Rattle.std.specs.Prelude.{ℕ, ◌==◌, nat_lt, if◌then◌else◌, List, [], ◌∷◌, length, take, drop, Option, Some, None, option_map, option_and_then}
+use Rattle.std.specs.Option.{option_or}
+use Rattle.dvb_tables.specs.Services.{ServiceView}
+use Rattle.demux.specs.Views.{FindingView}
+use Rattle.descriptor_loops.specs.Descriptors.{DescriptorView, descriptors_in}
+use Rattle.ts_services.specs.ServiceDescriptions.{sdt_found}
+use Rattle.ts_services.specs.declared.services.FoundService.{FoundService}
+
+-- what a service descriptor says, its texts as they are coded there
+pub record FoundServiceView : Type 0 where
+  pub service_type : ℕ
+  pub provider : List ℕ
+  pub name : List ℕ
+
+abbrev pub found_service_view : FoundService → FoundServiceView
+found_service_view s = record { service_type = s.service_type; provider = s.provider.now; name = s.name.now }
+
+-- the bytes after a byte with their number, and what follows them
+unfoldable pub length_prefixed : List ℕ → Option (List ℕ × List ℕ)
+length_prefixed [] = None
+length_prefixed (size ∷ rest) = if nat_lt (length rest) size then None else Some (take size rest, drop size rest)
+
+unfoldable pub with_provider : ℕ → Option (List ℕ × List ℕ) → Option FoundServiceView
+with_provider service_type provider =
+    option_and_then (λ p. option_map (λ name. record { service_type = service_type; provider = p.0; name = name.0 }) (length_prefixed p.1)) provider
+
+-- service_type, and the texts of provider and service, each after its length
+unfoldable pub service_in : List ℕ → Option FoundServiceView
+service_in [] = None
+service_in (service_type ∷ rest) = with_provider service_type (length_prefixed rest)
+
+-- a service descriptor
+unfoldable pub of_descriptor : DescriptorView → Option FoundServiceView
+of_descriptor d = if d.tag == 0x48 then service_in d.body else None
+
+-- the first one
+unfoldable pub in_descriptors : List DescriptorView → Option FoundServiceView
+in_descriptors [] = None
+in_descriptors (d ∷ ds) = option_or (of_descriptor d) (in_descriptors ds)
+
+-- of the entry with this service_id, which is a program's program_number
+unfoldable pub of_entry : ℕ → ServiceView → Option FoundServiceView
+of_entry number s = if s.service_id == number then in_descriptors (descriptors_in s.descriptors) else None
+
+unfoldable pub in_entries : ℕ → List ServiceView → Option FoundServiceView
+in_entries number [] = None
+in_entries number (s ∷ ss) = option_or (of_entry number s) (in_entries number ss)
+
+-- what the table says that a finding has
+unfoldable pub service_found : ℕ → FindingView → Option FoundServiceView
+service_found number finding = option_and_then (λ sdt. in_entries number sdt.services) (sdt_found finding)
+
+-- what the last one of a stream says
+unfoldable pub service : ℕ → List FindingView → Option FoundServiceView
+service number [] = None
+service number (finding ∷ findings) = option_or (service number findings) (service_found number finding)

@@ -1,0 +1,351 @@
+//! The network of a stream, in its network information table (EN 300 468, 5.2.1 and 6.2.27).
+
+ghost use Rattle.std.specs.Prelude.{◌≡◌, map, option_map};
+ghost use Rattle.psi_tables.specs.Views.{section_view};
+ghost use Rattle.demux.specs.Shown.{finding_view, what_view};
+ghost use Rattle.dvb_tables.specs.NetworkInformation.{nit_at, nit_view};
+ghost use Rattle.dvb_tables.specs.TransportStreams.{transport_stream_view, transport_streams_of};
+ghost use Rattle.descriptor_loops.specs.Descriptors.{descriptors_in};
+ghost use Rattle.ts_services.specs.NetworkInformation as spec;
+
+use crate::networks::original_network;
+use demux::{Finding, What};
+use descriptor_loops::Descriptors;
+use dvb_tables::{NIT_TABLE_ID, Nit, TransportStream, TransportStreams, are_whole_descriptors};
+use psi_tables::Section;
+use std::alloc::Allocator;
+use stream_programs::section_on;
+
+// The PID of network information sections.
+const NIT_PID: u16 = 0x10;
+
+// The tag of a network name descriptor.
+const NETWORK_NAME: u8 = 0x40;
+
+// The most bytes of descriptors that a description has of a transport stream.
+const MOST_BYTES: usize = 700;
+
+/// What a network information section says of a transport stream. The name is still coded (EN 300 468, annex A).
+#[derive(Clone, Copy)]
+pub struct FoundNetwork<'f> {
+    /// network_id.
+    pub id: u16,
+    /// original_network_id of the transport stream.
+    pub original: u16,
+    pub name: &'f [u8],
+    /// Whole descriptors of the transport stream, 700 bytes at most.
+    pub descriptors: &'f [u8],
+}
+
+/// A transport stream: its transport_stream_id, and the original_network_id of its services, if they are described.
+#[derive(Clone, Copy)]
+pub(crate) struct KnownStream {
+    pub transport_stream_id: u16,
+    pub original_network_id: Option<u16>,
+}
+
+// A table that is in force now.
+#[tactic(auto, unfolding(crate::specs::NetworkInformation::nit_of_section, crate::specs::NetworkInformation::nit_in_force))]
+fn nit_of_section<'f>(section: &Section<'f>) -> Option<Nit<'f>>
+    ensures { option_map nit_view result ≡ spec.nit_in_force (nit_at (section_view section.now)) }
+{
+    match Nit::read(section) {
+        Err(_) => None,
+        Ok(nit) => {
+            if nit.header.current_next {
+                Some(nit)
+            } else {
+                None
+            }
+        }
+    }
+}
+
+#[tactic(auto, unfolding(crate::specs::NetworkInformation::nit_in, crate::specs::NetworkInformation::nit_of_section))]
+fn nit_in(bytes: &[u8]) -> Option<Nit<'_>>
+    ensures { option_map nit_view result ≡ spec.nit_in bytes.now }
+{
+    match Section::read(bytes) {
+        Err(_) => None,
+        Ok((section, _)) => nit_of_section(&section),
+    }
+}
+
+// The table that a finding has.
+#[tactic(auto, unfolding(crate::specs::NetworkInformation::nit_found))]
+fn nit_found<'f, A: Allocator>(finding: &'f Finding<'_, A>) -> Option<Nit<'f>>
+    ensures { option_map nit_view result ≡ spec.nit_found (finding_view finding.now) }
+{
+    match section_on(NIT_PID, finding) {
+        None => None,
+        Some(bytes) => nit_in(bytes),
+    }
+}
+
+// What the first network name descriptor says.
+#[tactic(auto, unfolding(crate::specs::NetworkInformation::coded_name, descriptor_loops::specs::Descriptors::is_tagged))]
+fn coded_name(bytes: &[u8]) -> &[u8]
+    ensures { result.now ≡ spec.coded_name (descriptors_in bytes.now) }
+{
+    for descriptor in Descriptors::of(bytes) {
+        if descriptor.tag == NETWORK_NAME {
+            return descriptor.body;
+        }
+    }
+    &[]
+}
+
+// Whether an original_network_id is the known one, if one is known.
+#[tactic(auto, unfolding(crate::specs::NetworkInformation::is_original))]
+fn is_original(known: Option<u16>, id: u16) -> bool
+    ensures { result ≡ spec.is_original known id }
+{
+    match known {
+        None => true,
+        Some(known) => known == id,
+    }
+}
+
+// Whether an entry is that of a transport stream.
+#[tactic(auto, unfolding(crate::specs::NetworkInformation::is_entry))]
+fn is_entry(stream: KnownStream, entry: &TransportStream<'_>) -> bool
+    ensures { result ≡ spec.is_entry stream (transport_stream_view entry.now) }
+{
+    entry.transport_stream_id == stream.transport_stream_id
+        && is_original(stream.original_network_id, entry.original_network_id)
+}
+
+// The entry of a transport stream.
+#[tactic(auto, unfolding(crate::specs::NetworkInformation::entry_of))]
+fn entry_of<'f>(stream: KnownStream, entries: TransportStreams<'f>) -> Option<TransportStream<'f>>
+    ensures { option_map transport_stream_view result
+        ≡ spec.entry_of stream (transport_streams_of entries.entry) }
+{
+    for entry in entries {
+        if is_entry(stream, &entry) {
+            return Some(entry);
+        }
+    }
+    None
+}
+
+// Whether a description can have these descriptors.
+#[tactic(auto, unfolding(crate::specs::NetworkInformation::can_be_said))]
+fn can_be_said(descriptors: &[u8]) -> bool
+    ensures { result ≡ spec.can_be_said descriptors.now }
+{
+    descriptors.len() <= MOST_BYTES && are_whole_descriptors(descriptors)
+}
+
+// What a table says of one of its transport streams.
+#[tactic(auto, unfolding(crate::specs::NetworkInformation::network_with))]
+fn network_with<'f>(nit: Nit<'f>, entry: TransportStream<'f>) -> Option<FoundNetwork<'f>>
+    ensures { option_map spec.found_network_view result
+        ≡ spec.network_with (nit_view nit.entry) (transport_stream_view entry.entry) }
+{
+    if !can_be_said(entry.descriptors) {
+        return None;
+    }
+    Some(FoundNetwork {
+        id: nit.header.table_id_extension,
+        original: entry.original_network_id,
+        name: coded_name(nit.network_descriptors),
+        descriptors: entry.descriptors,
+    })
+}
+
+// What a table says of a transport stream.
+#[tactic(auto, unfolding(crate::specs::NetworkInformation::network_in))]
+fn network_in<'f>(stream: KnownStream, nit: Nit<'f>) -> Option<FoundNetwork<'f>>
+    ensures { option_map spec.found_network_view result ≡ spec.network_in stream (nit_view nit.entry) }
+{
+    match entry_of(stream, nit.transport_streams) {
+        None => None,
+        Some(entry) => network_with(nit, entry),
+    }
+}
+
+// What the table of a finding says of it.
+#[tactic(auto, unfolding(crate::specs::NetworkInformation::network_said))]
+fn network_said<'f, A: Allocator>(
+    stream: KnownStream,
+    finding: &'f Finding<'_, A>,
+) -> Option<FoundNetwork<'f>>
+    ensures { option_map spec.found_network_view result ≡ spec.network_said stream (finding_view finding.now) }
+{
+    match nit_found(finding) {
+        None => None,
+        Some(nit) => network_in(stream, nit),
+    }
+}
+
+// What the first table says of it.
+fn first_network<'f, A: Allocator>(
+    stream: KnownStream,
+    findings: &'f [Finding<'_, A>],
+) -> Option<FoundNetwork<'f>>
+    ensures { option_map spec.found_network_view result
+        ≡ spec.first_network stream (map finding_view findings.now) }
+{
+    for finding in findings {
+        if let Some(network) = network_said(stream, finding) {
+            return Some(network);
+        }
+    }
+    None
+}
+
+// The transport stream of these findings.
+#[tactic(auto, unfolding(crate::specs::NetworkInformation::known_stream))]
+fn known_stream<A: Allocator>(transport_stream_id: u16, findings: &[Finding<'_, A>]) -> KnownStream
+    ensures { result ≡ spec.known_stream transport_stream_id (map finding_view findings.now) }
+{
+    KnownStream {
+        transport_stream_id,
+        original_network_id: original_network(findings),
+    }
+}
+
+/// Returns what the first network information section in force says that has this transport stream, with descriptors
+/// that a description can have.
+#[tactic(auto, unfolding(crate::specs::NetworkInformation::stream_network))]
+pub fn stream_network<'f, A: Allocator>(
+    transport_stream_id: u16,
+    findings: &'f [Finding<'_, A>],
+) -> Option<FoundNetwork<'f>>
+    ensures { option_map spec.found_network_view result
+        ≡ spec.stream_network transport_stream_id (map finding_view findings.now) }
+{
+    first_network(known_stream(transport_stream_id, findings), findings)
+}
+
+#[tactic(auto, unfolding(crate::specs::NetworkInformation::is_same))]
+fn is_same(one: FoundNetwork<'_>, other: Option<FoundNetwork<'_>>) -> bool
+    ensures { result ≡ spec.is_same (spec.found_network_view one.entry)
+        (option_map spec.found_network_view other.entry) }
+{
+    match other {
+        None => false,
+        Some(other) => {
+            (one.id == other.id && one.original == other.original)
+                && (one.name == other.name && one.descriptors == other.descriptors)
+        }
+    }
+}
+
+// Whether there is no descriptor, or a network name descriptor alone.
+#[tactic(auto, unfolding(crate::specs::NetworkInformation::is_name_alone))]
+fn is_name_alone(bytes: &[u8]) -> bool
+    ensures { result ≡ spec.is_name_alone bytes.now }
+{
+    match bytes {
+        [] => true,
+        [_] => false,
+        [tag, size, body @ ..] => *tag == NETWORK_NAME && *size as usize == body.len(),
+    }
+}
+
+// Whether there is one transport stream.
+#[tactic(auto, unfolding(crate::specs::NetworkInformation::is_one))]
+fn is_one(entries: TransportStreams<'_>) -> bool
+    ensures { result ≡ spec.is_one (transport_streams_of entries.entry) }
+{
+    let mut left = entries;
+    if left.next().is_none() {
+        return false;
+    }
+    left.next().is_none()
+}
+
+// Whether a table says nothing of a network but its name, and has one transport stream.
+#[tactic(auto, unfolding(crate::specs::NetworkInformation::says_no_more))]
+fn says_no_more(nit: Nit<'_>) -> bool
+    ensures { result ≡ spec.says_no_more (nit_view nit.entry) }
+{
+    is_name_alone(nit.network_descriptors) && is_one(nit.transport_streams)
+}
+
+// Whether a table says nothing but this.
+#[tactic(auto, unfolding(crate::specs::NetworkInformation::says_only))]
+fn says_only(stream: KnownStream, network: Option<FoundNetwork<'_>>, nit: Nit<'_>) -> bool
+    ensures { result ≡ spec.says_only stream (option_map spec.found_network_view network.entry) (nit_view nit.entry) }
+{
+    match network {
+        None => false,
+        Some(network) => is_same(network, network_in(stream, nit)) && says_no_more(nit),
+    }
+}
+
+// Whether there is a table, and it says nothing but this.
+#[tactic(auto, unfolding(crate::specs::NetworkInformation::is_said))]
+fn is_said(stream: KnownStream, network: Option<FoundNetwork<'_>>, nit: Option<Nit<'_>>) -> bool
+    ensures { result ≡ spec.is_said stream (option_map spec.found_network_view network.entry)
+        (option_map nit_view nit.entry) }
+{
+    match nit {
+        None => false,
+        Some(nit) => says_only(stream, network, nit),
+    }
+}
+
+// Whether it is a section with the table_id of a network information section.
+#[tactic(auto, unfolding(crate::specs::NetworkInformation::is_network_section))]
+fn is_network_section<A: Allocator>(what: &What<'_, A>) -> bool
+    ensures { result ≡ spec.is_network_section (what_view what.now) }
+{
+    match what {
+        What::Section(part) => match part.bytes() {
+            [table_id, ..] => *table_id == NIT_TABLE_ID,
+            [] => false,
+        },
+        _ => false,
+    }
+}
+
+// Whether a finding is such a section that is not of this network, or says anything else.
+#[tactic(auto, unfolding(crate::specs::NetworkInformation::is_surplus))]
+fn is_surplus<A: Allocator>(
+    stream: KnownStream,
+    network: Option<FoundNetwork<'_>>,
+    finding: &Finding<'_, A>,
+) -> bool
+    ensures { result ≡ spec.is_surplus stream (option_map spec.found_network_view network.entry)
+        (finding_view finding.now) }
+{
+    is_network_section(&finding.what) && !is_said(stream, network, nit_found(finding))
+}
+
+// The packet in which the first of these sections ends.
+fn surplus_from<A: Allocator>(
+    stream: KnownStream,
+    network: Option<FoundNetwork<'_>>,
+    findings: &[Finding<'_, A>],
+) -> Option<u64>
+    ensures { result ≡ spec.surplus_from stream (option_map spec.found_network_view network.entry)
+        (map finding_view findings.now) }
+{
+    for finding in findings {
+        if is_surplus(stream, network, finding) {
+            return Some(finding.packet);
+        }
+    }
+    None
+}
+
+/// Returns the packet where the first network information section of the actual network ends that `stream_network` does
+/// not say: a section that is not in force or can't be read, on another PID, of another network, or with other or more
+/// descriptors or transport streams.
+#[tactic(auto, unfolding(crate::specs::NetworkInformation::network_surplus))]
+pub fn network_surplus<A: Allocator>(
+    transport_stream_id: u16,
+    findings: &[Finding<'_, A>],
+) -> Option<u64>
+    ensures { result ≡ spec.network_surplus transport_stream_id (map finding_view findings.now) }
+{
+    let network = stream_network(transport_stream_id, findings);
+    surplus_from(
+        known_stream(transport_stream_id, findings),
+        network,
+        findings,
+    )
+}

@@ -1,0 +1,148 @@
+//! The services of a stream (EN 300 468, 5.2.3 and 6.2.33).
+
+ghost use Rattle.std.specs.Prelude.{◌≡◌, map, option_map};
+ghost use Rattle.demux.specs.Shown.{finding_view};
+ghost use Rattle.dvb_tables.specs.Services.{service_view, services_of};
+ghost use Rattle.descriptor_loops.specs.Descriptors.{descriptor_view, descriptors_in};
+ghost use Rattle.ts_services.specs.Services as spec;
+
+use crate::service_description::{SDT_PID, sdt_found};
+use demux::Finding;
+use descriptor_loops::{Descriptor, Descriptors};
+use dvb_tables::{Service, Services};
+use std::alloc::Allocator;
+use stream_programs::sections::is_on;
+
+// The tag of a service descriptor.
+const SERVICE: u8 = 0x48;
+
+/// What a service descriptor says. The texts are still coded (EN 300 468, annex A).
+#[derive(Clone, Copy)]
+pub struct FoundService<'f> {
+    pub service_type: u8,
+    pub provider: &'f [u8],
+    pub name: &'f [u8],
+}
+
+/// Returns the bytes after a byte with their number, and what follows them, if there are as many.
+#[tactic(auto, unfolding(crate::specs::Services::length_prefixed))]
+pub fn length_prefixed(bytes: &[u8]) -> Option<(&[u8], &[u8])>
+    ensures { option_map (λ p. (p.0.now, p.1.now)) result ≡ spec.length_prefixed bytes.now }
+{
+    match bytes {
+        [size, rest @ ..] => {
+            if rest.len() < *size as usize {
+                return None;
+            }
+            Some(rest.split_at(*size as usize))
+        }
+        _ => None,
+    }
+}
+
+// The service of a service descriptor with this service_type.
+#[tactic(auto, unfolding(crate::specs::Services::with_provider))]
+fn named(service_type: u8, rest: &[u8]) -> Option<FoundService<'_>>
+    ensures { option_map spec.found_service_view result ≡ spec.with_provider service_type
+        (spec.length_prefixed rest.now) }
+{
+    let (provider, after) = length_prefixed(rest)?;
+    let (name, _) = length_prefixed(after)?;
+    Some(FoundService {
+        service_type,
+        provider,
+        name,
+    })
+}
+
+// What the body of a service descriptor says.
+#[tactic(auto, unfolding(crate::specs::Services::service_in))]
+fn service_in(body: &[u8]) -> Option<FoundService<'_>>
+    ensures { option_map spec.found_service_view result ≡ spec.service_in body.now }
+{
+    match body {
+        [service_type, rest @ ..] => named(*service_type, rest),
+        _ => None,
+    }
+}
+
+// What a descriptor says of a service.
+#[tactic(auto, unfolding(crate::specs::Services::of_descriptor))]
+fn of_descriptor<'f>(descriptor: Descriptor<'f>) -> Option<FoundService<'f>>
+    ensures { option_map spec.found_service_view result ≡ spec.of_descriptor (descriptor_view descriptor.entry) }
+{
+    if descriptor.tag == SERVICE {
+        service_in(descriptor.body)
+    } else {
+        None
+    }
+}
+
+/// Returns what the first service descriptor says.
+#[tactic(auto, unfolding(crate::specs::Services::in_descriptors))]
+pub(crate) fn in_descriptors(bytes: &[u8]) -> Option<FoundService<'_>>
+    ensures { option_map spec.found_service_view result ≡ spec.in_descriptors (descriptors_in bytes.now) }
+{
+    for descriptor in Descriptors::of(bytes) {
+        if let Some(service) = of_descriptor(descriptor) {
+            return Some(service);
+        }
+    }
+    None
+}
+
+#[tactic(auto, unfolding(crate::specs::Services::of_entry))]
+fn of_entry<'f>(number: u16, entry: Service<'f>) -> Option<FoundService<'f>>
+    ensures { option_map spec.found_service_view result ≡ spec.of_entry number (service_view entry.entry) }
+{
+    if entry.service_id == number {
+        in_descriptors(entry.descriptors)
+    } else {
+        None
+    }
+}
+
+// What the entry of a program says.
+#[tactic(auto, unfolding(crate::specs::Services::in_entries))]
+fn in_entries<'f>(number: u16, entries: Services<'f>) -> Option<FoundService<'f>>
+    ensures { option_map spec.found_service_view result ≡ spec.in_entries number (services_of entries.entry) }
+{
+    for entry in entries {
+        if let Some(service) = of_entry(number, entry) {
+            return Some(service);
+        }
+    }
+    None
+}
+
+/// Returns what a finding says of a program.
+#[tactic(auto, unfolding(crate::specs::Services::service_found))]
+pub(crate) fn service_found<'f, A: Allocator>(
+    number: u16,
+    finding: &'f Finding<'_, A>,
+) -> Option<FoundService<'f>>
+    ensures { option_map spec.found_service_view result ≡ spec.service_found number (finding_view finding.now) }
+{
+    match sdt_found(finding) {
+        None => None,
+        Some(sdt) => in_entries(number, sdt.services),
+    }
+}
+
+/// Returns what the service descriptor of a program says, in the last service description section in force that
+/// has one.
+pub fn last_service<'f, A: Allocator>(
+    number: u16,
+    findings: &'f [Finding<'_, A>],
+) -> Option<FoundService<'f>>
+    ensures { option_map spec.found_service_view result ≡ spec.service number (map finding_view findings.now) }
+{
+    let mut last = None;
+    for finding in findings {
+        if !is_on(SDT_PID, finding) {
+            continue;
+        }
+        last = service_found(number, finding).or(last);
+    }
+    last
+}

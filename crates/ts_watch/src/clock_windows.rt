@@ -1,0 +1,126 @@
+//! The clock references of each PID, by window.
+ghost use Rattle.std.specs.Prelude.{◌≡◌, ◌++◌, OnOk};
+ghost use Rattle.ts_watch.specs.ClockWindows as spec;
+
+use events::{ClockFigures, Event, RuleEvent};
+use indexmap::IndexMap;
+use std::alloc::{AllocError, Global};
+use std::hash::{BuildHasherDefault, FoldHasher};
+use std::marker::Model;
+use tr101290::{PcrCounts, PcrReport};
+
+/// Counts of references by PID, in the order of the first references of a window.
+type CountEntries = IndexMap<u16, PcrCounts, BuildHasherDefault<FoldHasher>, Global>;
+
+/// The window of the last clock reference, and the counts of the references of each PID in it. Each PID has one entry,
+/// whatever the number of windows.
+#[derive(Drop)]
+pub struct ClockWindows {
+    number: u64,
+    counts: CountEntries,
+}
+
+impl Model for ClockWindows {
+    ghost use Rattle.ts_watch.specs.ClockWindows.{ClocksState};
+
+    ghost Value = { ClocksState };
+
+    ghost view = { λ w. record { number = w.number; counts = w.counts.entries } };
+}
+
+// The counts of a PID.
+#[tactic(auto, unfolding(crate::specs::ClockWindows::counts_or_none))]
+fn counts_of(counts: &CountEntries, pid: u16) -> PcrCounts
+    ensures { result ≡ spec.counts_of pid counts.now.entries }
+{
+    match counts.get(&pid) {
+        None => PcrCounts::new(),
+        Some(counts) => *counts,
+    }
+}
+
+fn window_event(number: u64, pid: u16, counts: PcrCounts) -> Event
+    ensures { result ≡ spec.window_event number (pid, counts) }
+{
+    Event::Rule(RuleEvent::ClockWindow(ClockFigures {
+        number,
+        pid,
+        references: counts.references,
+        interval: counts.interval,
+        inaccuracy: counts.inaccuracy,
+    }))
+}
+
+impl ClockWindows {
+    /// Returns the state before the first reference.
+    pub fn new(alloc: Global) -> ClockWindows
+        ensures { result ≡ spec.no_reference }
+    {
+        ClockWindows {
+            number: 0,
+            counts: IndexMap::new(alloc),
+        }
+    }
+
+    // Takes the report on a reference of a PID in the last window.
+    fn take_report(&mut self, pid: u16, report: &PcrReport) -> Result<(), AllocError>
+        ensures { OnOk result (self.new ≡ spec.with_report self.old pid report.now) }
+    {
+        let counts = counts_of(&self.counts, pid).with(report);
+        self.counts.insert(pid, counts)?;
+        Ok(())
+    }
+
+    // Begins a window, if it is another one than the last, and forgets the counts of the last.
+    #[tactic(auto, unfolding(crate::specs::ClockWindows::counts_in))]
+    fn enter(&mut self, window: u64)
+        ensures { self.new ≡ spec.entered self.old window }
+    {
+        if self.number != window {
+            self.number = window;
+            self.counts.clear();
+        }
+    }
+
+    /// Takes the report on the reference of a packet of a PID in a window, if the packet has one. Windows come in their
+    /// order.
+    ///
+    /// After an `AllocError` the state describes no stream: drop it.
+    #[tactic(auto, unfolding(crate::specs::ClockWindows::taken))]
+    pub fn take(
+        &mut self,
+        window: u64,
+        pid: u16,
+        report: &Option<PcrReport>,
+    ) -> Result<(), AllocError>
+        ensures { OnOk result (self.new ≡ spec.taken self.old window pid report.now) }
+    {
+        match report {
+            None => Ok(()),
+            Some(report) => {
+                self.enter(window);
+                self.take_report(pid, report)
+            }
+        }
+    }
+
+    // Appends the figures of each PID with a reference in the last window.
+    fn push_all(&self, events: &mut Vec<Event>) -> Result<(), AllocError>
+        ensures { OnOk result (events.new.items ≡ events.old.items ++ spec.all_events self.now) }
+    {
+        for (pid, counts) in &self.counts {
+            events.push(window_event(self.number, *pid, *counts))?;
+        }
+        Ok(())
+    }
+
+    /// Appends the figures of each PID with a reference in a window that has ended.
+    pub fn push(&self, window: u64, events: &mut Vec<Event>) -> Result<(), AllocError>
+        ensures { OnOk result (events.new.items ≡ events.old.items ++ spec.window_events self.now window) }
+    {
+        if self.number != window {
+            return Ok(());
+        }
+        self.push_all(events)
+    }
+}
