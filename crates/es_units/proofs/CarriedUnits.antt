@@ -1,5 +1,5 @@
 -- Units from findings, one by one.
-use Rattle.std.proofs.Common.{◌≡◌, ◌≤◌, ◌<◌, ℕ, ◌+◌, Bool, false, Option, None, unwrap_or, List, [], ◌∷◌, length, map, drop, get_or, refl, sym, inl, inr}
+use Rattle.std.proofs.Common.{◌≡◌, ◌≤◌, ◌<◌, ℕ, ◌+◌, ◌||◌, Bool, false, Option, None, unwrap_or, List, [], ◌∷◌, length, map, drop, get_or, refl, sym, inl, inr}
 use Rattle.std.proofs.Common.{add-one}
 use Rattle.std.specs.List.{list_any}
 use Rattle.std.specs.Option.{option_or}
@@ -15,11 +15,11 @@ use Rattle.es_moments.specs.WireUnits.{CarriedUnit}
 
 -- 1. What a finding of another PID is for the units
 
-other_pid_ignored : (pid : ℕ) (f : FindingView) → has_pid pid f.pid ≡ false → role_of pid f ≡ Ignored
+pub other_pid_ignored : (pid : ℕ) (f : FindingView) → has_pid pid f.pid ≡ false → role_of pid f ≡ Ignored
 unfolding role_of
 other_pid_ignored pid f other = rw other refl
 
-same_continuation : (id pid : ℕ) (fs : List FindingView) → continuation id pid (found_of pid fs) ≡ continuation id pid fs
+pub same_continuation : (id pid : ℕ) (fs : List FindingView) → continuation id pid (found_of pid fs) ≡ continuation id pid fs
 unfolding continuation continued_by more_bytes
 same_continuation id pid [] = refl
 same_continuation id pid (f ∷ fs) = elim (cases_Bool (has_pid pid f.pid)) [
@@ -27,7 +27,7 @@ same_continuation id pid (f ∷ fs) = elim (cases_Bool (has_pid pid f.pid)) [
   | inr other ↦ rw (other, other_pid_ignored pid f other, same_continuation id pid fs) refl
 ]
 
-same_cut : (id pid : ℕ) (fs : List FindingView) → is_cut id pid (found_of pid fs) ≡ is_cut id pid fs
+pub same_cut : (id pid : ℕ) (fs : List FindingView) → is_cut id pid (found_of pid fs) ≡ is_cut id pid fs
 unfolding is_cut end_of
 same_cut id pid [] = refl
 same_cut id pid (f ∷ fs) = elim (cases_Bool (has_pid pid f.pid)) [
@@ -35,7 +35,7 @@ same_cut id pid (f ∷ fs) = elim (cases_Bool (has_pid pid f.pid)) [
   | inr other ↦ rw (other, other_pid_ignored pid f other, same_cut id pid fs) refl
 ]
 
-same_first : (pid : ℕ) (fs : List FindingView) → first_id pid (found_of pid fs) ≡ first_id pid fs
+pub same_first : (pid : ℕ) (fs : List FindingView) → first_id pid (found_of pid fs) ≡ first_id pid fs
 unfolding first_id start_id
 same_first pid [] = refl
 same_first pid (f ∷ fs) = elim (cases_Bool (has_pid pid f.pid)) [
@@ -43,7 +43,7 @@ same_first pid (f ∷ fs) = elim (cases_Bool (has_pid pid f.pid)) [
   | inr other ↦ rw (other, other_pid_ignored pid f other, same_first pid fs) refl
 ]
 
-same_parts : (first : Option ℕ) (pid : ℕ) (fs : List FindingView) →
+pub same_parts : (first : Option ℕ) (pid : ℕ) (fs : List FindingView) →
     list_any (λ f. is_part first (role_of pid f)) (found_of pid fs) ≡ list_any (λ f. is_part first (role_of pid f)) fs
 unfolding is_part
 same_parts first pid [] = refl
@@ -68,7 +68,7 @@ ignored : (split : Bool) (pid : ℕ) (fs : List FindingView) (one other : List C
 unfolding units_from
 ignored split pid fs one other same = same
 
-same_in : (split : Bool) (pid : ℕ) (fs : List FindingView) → units_in split pid (found_of pid fs) ≡ units_in split pid fs
+pub same_in : (split : Bool) (pid : ℕ) (fs : List FindingView) → units_in split pid (found_of pid fs) ≡ units_in split pid fs
 unfolding units_in
 same_in split pid [] = refl
 same_in split pid (f ∷ fs) = elim (cases_Bool (has_pid pid f.pid)) [
@@ -108,3 +108,8 @@ first_at view pid i fs f below at = rw (drop-cons fs i f below, add-one i, sym a
 pub first_end : {X : Type 0} (view : X → FindingView) (pid i : ℕ) (fs : List X) → length fs ≤ i → first_id pid (map view (drop i fs)) ≡ None
 unfolding first_id
 first_end view pid i fs over = rw (drop_all i fs over) refl
+
+pub parts_at : {X : Type 0} (view : X → FindingView) (first : Option ℕ) (pid i : ℕ) (fs : List X) (f : X) → i < length fs → f ≡ get_or fs i f →
+    list_any (λ x. is_part first (role_of pid x)) (map view (drop i fs)) ≡
+    (is_part first (role_of pid (view f)) || list_any (λ x. is_part first (role_of pid x)) (map view (drop (i + 1) fs)))
+parts_at view first pid i fs f below at = rw (drop-cons fs i f below, add-one i, sym at) refl

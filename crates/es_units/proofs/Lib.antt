@@ -7,3 +7,4 @@ pub mod Conservation
 pub mod ApartSteps
 pub mod UnitSteps
 pub mod TakenUnits
+pub mod PidPlaces

@@ -1,15 +1,19 @@
 -- The units that findings give one by one are those that they carry.
 use Rattle.std.proofs.Common.{◌≡◌, ◌∙◌, ℕ, ◌≤◌, ◌<◌, ◌+◌, ◌++◌, ◌==◌, ◌&&◌, ◌||◌, Bool, true, false, if◌then◌else◌, Option, Some, None, unwrap_or, List, []}
-use Rattle.std.proofs.Common.{◌∷◌, length, map, drop, get_or, option_map, refl, sym, ap, add-one}
+use Rattle.std.proofs.Common.{◌∷◌, length, map, drop, get_or, option_map, refl, sym, ap, ap₂, add-one, inl, inr}
 use Rattle.std.specs.Option.{option_to_list}
 use Rattle.std.proofs.Math.Seq.{drop-cons}
 use Rattle.std.proofs.lemmas.List.{append_assoc, append-nil, drop_all}
+use Rattle.std.proofs.lemmas.Bool.{cases_Bool}
 use Rattle.demux.specs.Views.{FindingView}
+use Rattle.demux.specs.Laws.{found_of, has_pid}
 use Rattle.es_units.specs.CarriedUnits.{RoleView, Ignored, Start, Continuation, Interruption, role_of, more_bytes, continued_by}
 use Rattle.es_units.specs.CarriedUnits.{continuation, end_of, is_cut, is_split, with_more, whole_unit, units_from, units_in}
 use Rattle.es_units.specs.UnitWarnings.{current_after}
 use Rattle.es_units.specs.UnitSteps.{UnitsSoFar, if_whole, ended_unit, cuts, has_id, lengthened, made_whole, goes_on_as, after_finding, given, after_findings}
 use Rattle.es_units.specs.UnitSteps.{none_so_far, GivenInTurn, GivenAreCarried, is_start_cut, has_cut, UncutAreCarried}
+use Rattle.es_units.proofs.CarriedUnits.{other_pid_ignored, same_continuation, same_cut, same_in}
+use Rattle.es_units.proofs.PidPlaces.{ComesTo, same_past}
 use Rattle.es_moments.specs.WireUnits.{CarriedUnit, unit_with}
 
 -- 1. In turn
@@ -174,15 +178,6 @@ units_step view s t i fs f given_one all before after below at is gives goes pus
     rw (goes, grown) (is ∙ ap (λ (l : List FindingView). before ++ units_with s.split s.pid s.unit l) next
     ∙ ap (λ (us : List CarriedUnit). before ++ us) (with_next s (view f) (map view (drop (i + 1) fs))) ∙ sym (append_assoc before here rest))
 
--- a finding of another PID is passed over
-pub units_skip : {X : Type 0} (view : X → FindingView) (s : UnitsSoFar) (i : ℕ) (fs : List X) (f : X) (all before : List CarriedUnit) → i < length fs →
-    f ≡ get_or fs i f →
-    role_of s.pid (view f) ≡ Ignored → all ≡ before ++ units_with s.split s.pid s.unit (map view (drop i fs)) →
-    all ≡ before ++ units_with s.split s.pid s.unit (map view (drop (i + 1) fs))
-unfolding made_whole goes_on_as
-units_skip view s i fs f all before below at other is =
-    units_step view s s i fs f None all before before below at is (rw other refl) (rw other refl) (sym (append-nil before))
-
 pub units_start : {X : Type 0} (view : X → FindingView) (split : Bool) (pid : ℕ) (fs : List X) (none : List CarriedUnit) → none ≡ [] →
     units_in split pid (map view fs) ≡ none ++ units_with split pid None (map view (drop 0 fs))
 unfolding units_with
@@ -252,20 +247,6 @@ cut_step view pid i fs f current next cut now all below at cuts_as goes is =
     ∙ ap (λ (b : Bool). cut || b) (cut_cons pid current (view f) rest ∙ one_cut pid current (role_of pid (view f)) rest)
     ∙ or_group cut (cuts current (role_of pid (view f))) (cut_with pid (current_after current (role_of pid (view f))) rest))
 
-not_cut : (current : Option ℕ) → cuts current Ignored ≡ false
-unfolding cuts end_of
-not_cut None = refl
-not_cut (Some id) = refl
-
--- a finding of another PID is passed over
-pub cut_skip : {X : Type 0} (view : X → FindingView) (pid i : ℕ) (fs : List X) (f : X) (current : Option ℕ) (cut all : Bool) → i < length fs →
-    f ≡ get_or fs i f →
-    role_of pid (view f) ≡ Ignored → all ≡ (cut || cut_with pid current (map view (drop i fs))) →
-    all ≡ (cut || cut_with pid current (map view (drop (i + 1) fs)))
-unfolding current_after
-cut_skip view pid i fs f current cut all below at other is =
-    cut_step view pid i fs f current current cut cut all below at (rw (other, not_cut current) (sym (or_false cut))) (rw other refl) is
-
 none_cut : (pid : ℕ) (current : Option ℕ) → cut_with pid current [] ≡ false
 unfolding cut_with has_cut is_cut
 none_cut pid None = refl
@@ -301,3 +282,45 @@ pub cut_start : {X : Type 0} (view : X → FindingView) (pid : ℕ) (fs : List X
     has_cut pid (map view fs) ≡ (false || cut_with pid (id_under_way u) (map view (drop 0 fs)))
 unfolding cut_with
 cut_start view pid fs u is = rw is refl
+
+-- 7. Findings of other PIDs say nothing
+
+same_with : (split : Bool) (pid : ℕ) (u : Option CarriedUnit) (fs : List FindingView) → units_with split pid u (found_of pid fs) ≡ units_with split pid u fs
+unfolding units_with
+same_with split pid None fs = same_in split pid fs
+same_with split pid (Some u) fs = rw (same_cut u.stream_id pid fs, same_continuation u.stream_id pid fs, same_in split pid fs) refl
+
+same_start : (pid : ℕ) (b : RoleView) (fs : List FindingView) → is_start_cut pid b (found_of pid fs) ≡ is_start_cut pid b fs
+unfolding is_start_cut
+same_start pid Ignored fs = refl
+same_start pid (Start u) fs = same_cut u.stream_id pid fs
+same_start pid (Continuation id body) fs = refl
+same_start pid (Interruption unstamped) fs = refl
+
+no_start : (pid : ℕ) (b : RoleView) (fs : List FindingView) → b ≡ Ignored → (is_start_cut pid b fs || has_cut pid fs) ≡ has_cut pid fs
+unfolding is_start_cut
+no_start pid b fs is = rw is refl
+
+same_has : (pid : ℕ) (fs : List FindingView) → has_cut pid (found_of pid fs) ≡ has_cut pid fs
+unfolding has_cut
+same_has pid [] = refl
+same_has pid (f ∷ fs) = elim (cases_Bool (has_pid pid f.pid)) [
+  | inl own ↦ rw own (ap₂ (λ (a b : Bool). a || b) (same_start pid (role_of pid f) fs) (same_has pid fs))
+  | inr other ↦ rw other (same_has pid fs ∙ sym (no_start pid (role_of pid f) fs (other_pid_ignored pid f other)))
+]
+
+same_cut_with : (pid : ℕ) (current : Option ℕ) (fs : List FindingView) → cut_with pid current (found_of pid fs) ≡ cut_with pid current fs
+unfolding cut_with
+same_cut_with pid None fs = same_has pid fs
+same_cut_with pid (Some id) fs = ap₂ (λ (a b : Bool). a || b) (same_cut id pid fs) (same_has pid fs)
+
+pub units_past_others : {X : Type 0} (view : X → FindingView) (s : UnitsSoFar) (pid from at : ℕ) (fs : List X) (before : List CarriedUnit) →
+    s.pid ≡ pid → ComesTo view pid from at fs →
+    before ++ units_with s.split s.pid s.unit (map view (drop from fs)) ≡ before ++ units_with s.split s.pid s.unit (map view (drop at fs))
+units_past_others view s pid from at fs before own comes =
+    rw own (ap (λ (us : List CarriedUnit). before ++ us) (same_past view (units_with s.split pid s.unit) pid from at fs (same_with s.split pid s.unit) comes))
+
+pub cut_past_others : {X : Type 0} (view : X → FindingView) (pid from at : ℕ) (fs : List X) (current : Option ℕ) (cut : Bool) → ComesTo view pid from at fs →
+    (cut || cut_with pid current (map view (drop from fs))) ≡ (cut || cut_with pid current (map view (drop at fs)))
+cut_past_others view pid from at fs current cut comes =
+    ap (λ (b : Bool). cut || b) (same_past view (cut_with pid current) pid from at fs (same_cut_with pid current) comes)

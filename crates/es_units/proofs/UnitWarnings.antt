@@ -1,19 +1,23 @@
 -- What is left out, finding by finding.
 use Rattle.std.proofs.Common.{◌≡◌, ◌≤◌, ◌<◌, ℕ, suc, ◌+◌, ◌++◌, ◌==◌, ◌&&◌, Bool, true, false, ◌||◌, Option, None, List, [], ◌∷◌, length, map, drop, get_or}
-use Rattle.std.proofs.Common.{refl, sym, arith, add-one}
+use Rattle.std.proofs.Common.{◌∙◌, refl, sym, ap, ap₂, arith, add-one, inl, inr}
 use Rattle.std.proofs.Math.Seq.{drop-cons}
 use Rattle.std.proofs.lemmas.List.{append_assoc, drop_all, length-append}
+use Rattle.std.proofs.lemmas.Bool.{cases_Bool}
 use Rattle.pes_packet.specs.HeaderMarks.{header_marks}
 use Rattle.pes_packet.specs.declared.marks.Marks.{Marks}
 use Rattle.pes_packet.specs.declared.time_stamps.Stamps.{Stamps}
 use Rattle.pes_packet.specs.declared.time_stamps.Stamps.TheVariants.{Absent, Pts, PtsDts}
-use Rattle.demux.specs.Laws.{has_pid}
+use Rattle.demux.specs.Laws.{found_of, has_pid}
 use Rattle.demux.specs.Views.{WhatView, IsDuplicate, BreaksCounter, IsScrambled, IsTruncated, IsSection, IsBadSection, IsPes, IsBadPes, IsBadPacket, IsErrored}
 use Rattle.demux.specs.Views.{FindingView}
 use Rattle.es_units.specs.CarriedUnits.{role_of, role_of_what, pes_role, is_access_point, is_unstamped, is_cut, continuation, first_packet}
 use Rattle.es_units.specs.UnitWarnings.{current_after, first_cause, pes_cause, cause_of_what, is_empty, id_of, cause_of, warning_list, warnings_from}
 use Rattle.es_units.specs.declared.unit_warning.UnitWarning.{UnitWarning}
 use Rattle.es_units.specs.UnitSteps.{is_start_cut, has_cut}
+use Rattle.es_units.specs.declared.unit_warning.UnitWarningCause.{UnitWarningCause}
+use Rattle.es_units.proofs.CarriedUnits.{same_continuation, same_cut}
+use Rattle.es_units.proofs.PidPlaces.{ComesTo, same_past}
 use Rattle.es_units.proofs.UnitSteps.{and_false, or_none, cut_with, cut_start}
 use Rattle.es_units.proofs.QueueAcceptance.{not_none}
 
@@ -36,14 +40,6 @@ pub left_end : {X : Type 0} (view : X → FindingView) (split : Bool) (pid count
     warnings_from split pid count current (map view (drop i fs)) ≡ []
 unfolding warnings_from
 left_end view split pid count i current fs over = rw (drop_all i fs over) refl
-
--- a finding of another PID is passed over
-pub left_skip : {X : Type 0} (view : X → FindingView) (split : Bool) (pid count i : ℕ) (current : Option ℕ) (fs : List X) (f : X) → i < length fs →
-    f ≡ get_or fs i f →
-    has_pid pid (view f).pid ≡ false →
-    warnings_from split pid count current (map view (drop i fs)) ≡ warnings_from split pid count current (map view (drop (i + 1) fs))
-unfolding warnings_from warning_list cause_of role_of current_after
-left_skip view split pid count i current fs f below at other = rw (drop-cons fs i f below, add-one i, sym at, other) refl
 
 -- whether more bytes come later matters only of a PES packet without bytes
 twice : (a b : Bool) → (a && (a && b)) ≡ (a && b)
@@ -135,3 +131,31 @@ alone_more (x ∷ xs) ys none = absurd (let no : ⊥ = omega (arith, none) in no
 
 pub alone_some : (xs ys : List ℕ) → 0 < length xs → (length (xs ++ ys) == 0) ≡ false
 alone_some xs ys some = not_none (length (xs ++ ys)) (omega (arith, length-append xs ys, some))
+
+-- findings of other PIDs say nothing
+pub same_cause_of : (split : Bool) (pid count : ℕ) (current : Option ℕ) (f : FindingView) (fs : List FindingView) →
+    cause_of split pid count current f (found_of pid fs) ≡ cause_of split pid count current f fs
+unfolding cause_of
+same_cause_of split pid count current f fs = rw (same_cut (id_of f.what) pid fs, same_continuation (id_of f.what) pid fs) refl
+
+no_warning : (split : Bool) (pid count : ℕ) (current : Option ℕ) (f : FindingView) (fs : List FindingView) → has_pid pid f.pid ≡ false →
+    warnings_from split pid count current (f ∷ fs) ≡ warnings_from split pid count current fs
+unfolding warnings_from warning_list cause_of role_of current_after
+no_warning split pid count current f fs other = rw other refl
+
+same_warnings : (split : Bool) (pid count : ℕ) (current : Option ℕ) (fs : List FindingView) →
+    warnings_from split pid count current (found_of pid fs) ≡ warnings_from split pid count current fs
+unfolding warnings_from
+same_warnings split pid count current [] = refl
+same_warnings split pid count current (f ∷ fs) = elim (cases_Bool (has_pid pid f.pid)) [
+  | inl own ↦ rw own (ap₂ (λ (cause : Option UnitWarningCause) (ws : List UnitWarning). warning_list (first_packet f.packet f.begun) cause ++ ws)
+      (same_cause_of split pid count current f fs) (same_warnings split pid count (current_after current (role_of pid f)) fs))
+  | inr other ↦ rw other (same_warnings split pid count current fs ∙ sym (no_warning split pid count current f fs other))
+]
+
+pub warnings_past_others : {X : Type 0} (view : X → FindingView) (split : Bool) (pid count : ℕ) (current : Option ℕ) (from at : ℕ) (fs : List X)
+    (before : List UnitWarning) → ComesTo view pid from at fs →
+    before ++ warnings_from split pid count current (map view (drop from fs)) ≡ before ++ warnings_from split pid count current (map view (drop at fs))
+warnings_past_others view split pid count current from at fs before comes =
+    ap (λ (ws : List UnitWarning). before ++ ws)
+    (same_past view (warnings_from split pid count current) pid from at fs (same_warnings split pid count current) comes)

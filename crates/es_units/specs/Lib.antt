@@ -6,3 +6,4 @@ pub mod Laws
 pub mod UnitSteps
 pub mod ApartSteps
 pub mod TakenUnits
+pub mod PidPlaces

@@ -1,10 +1,12 @@
 //! Copies of the units of a PID in the findings of a stream.
 
 ghost use Rattle.std.specs.Prelude.{◌≡◌, IfOk, map};
+ghost use Rattle.es_units.specs.PidPlaces.{AreLinks, pids_in};
 ghost use Rattle.demux.specs.Shown.{finding_view};
 ghost use Rattle.es_units.specs.CarriedUnits as spec;
 
 use crate::found::found_units;
+use crate::pid_links::PidLinks;
 use demux::Finding;
 use es_moments::{FoundUnit, WireUnit};
 use std::alloc::{AllocError, Allocator};
@@ -33,10 +35,12 @@ pub fn carried_units<A: Allocator + Clone>(
     alloc: A,
     pid: u16,
     findings: &[Finding<'_, A>],
+    links: &PidLinks<A>,
 ) -> Result<Vec<WireUnit<Vec<u8, A>>, A>, AllocError>
+    requires links { AreLinks links.now (pids_in (map finding_view findings.now)) }
     ensures { IfOk result (λ units. units.items ≡ spec.carried_units pid (map finding_view findings.now)) }
 {
-    let found = found_units(alloc.clone()?, pid, findings)?;
+    let found = found_units(alloc.clone()?, pid, findings, links)?;
     let mut units = Vec::with_capacity(alloc.clone()?, found.len())?;
     for unit in &found {
         units.push(copied(alloc.clone()?, unit)?)?;

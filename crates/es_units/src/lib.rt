@@ -11,6 +11,7 @@ mod carried;
 mod found;
 mod laws;
 mod pes_role;
+mod pid_links;
 mod split_units;
 mod taken;
 mod unit_taker;
@@ -24,6 +25,7 @@ pub use laws::{
     apart_by_one, constant_is_least, findings_of_the_pid, given_as_carried, moved_by_one_constant,
     moved_in_turn, nothing_is_lost, taken_one_by_one, units_are_kept,
 };
+pub use pid_links::PidLinks;
 pub use taken::taken_units;
 pub use unit_taker::UnitTaker;
 pub use unit_warning::{UnitWarning, UnitWarningCause};

@@ -1,12 +1,14 @@
 //! Units that span several PES packets.
 
-ghost use Rattle.std.specs.Prelude.{◌≡◌, ◌&&◌, ◌||◌, map, option_map};
+ghost use Rattle.std.specs.Prelude.{◌≡◌, ◌&&◌, ◌||◌, drop, map, option_map};
+ghost use Rattle.es_units.specs.PidPlaces.{AreLinks, IsOnWay, pids_in};
 ghost use Rattle.demux.specs.Shown.{finding_view};
 ghost use Rattle.es_units.specs.CarriedUnits as spec;
 ghost use Rattle.es_units.specs.UnitSteps as steps;
 ghost use Rattle.es_units.specs.Shown.{role_view};
 
 use crate::pes_role::{PesRole, is_on, role_of};
+use crate::pid_links::PidLinks;
 use demux::Finding;
 use std::alloc::Allocator;
 
@@ -53,13 +55,16 @@ fn start_id(role: PesRole<'_>) -> Option<u8>
 }
 
 // The stream_id of the first unit.
-fn first_id<A: Allocator>(pid: u16, findings: &[Finding<'_, A>]) -> Option<u8>
+fn first_id<A: Allocator>(pid: u16, findings: &[Finding<'_, A>], links: &PidLinks<A>) -> Option<u8>
+    requires links { AreLinks links.now (pids_in (map finding_view findings.now)) }
     ensures { result ≡ spec.first_id pid (map finding_view findings.now) }
 {
-    for finding in findings {
-        if let Some(id) = start_id(role_of(pid, finding)) {
+    let mut at = links.first(pid);
+    while at < findings.len() {
+        if let Some(id) = start_id(role_of(pid, &findings[at])) {
             return Some(id);
         }
+        at = links.next(at);
     }
     None
 }
@@ -80,17 +85,21 @@ fn is_part(first: Option<u8>, role: PesRole<'_>) -> bool
 /// Returns whether units of a PID have several PES packets: then something that is lost after one may be a part of
 /// its unit.
 #[tactic(auto, unfolding(crate::specs::CarriedUnits::is_split, crate::specs::CarriedUnits::is_part))]
-pub(crate) fn is_split<A: Allocator>(pid: u16, findings: &[Finding<'_, A>]) -> bool
+pub(crate) fn is_split<A: Allocator>(
+    pid: u16,
+    findings: &[Finding<'_, A>],
+    links: &PidLinks<A>,
+) -> bool
+    requires links { AreLinks links.now (pids_in (map finding_view findings.now)) }
     ensures { result ≡ spec.is_split pid (map finding_view findings.now) }
 {
-    let first = first_id(pid, findings);
-    for finding in findings {
-        if !is_on(pid, finding) {
-            continue;
-        }
-        if is_part(first, role_of(pid, finding)) {
+    let first = first_id(pid, findings, links);
+    let mut at = links.first(pid);
+    while at < findings.len() {
+        if is_part(first, role_of(pid, &findings[at])) {
             return true;
         }
+        at = links.next(at);
     }
     false
 }
@@ -131,20 +140,39 @@ pub(crate) fn cuts_any(cut: bool, current: Option<u8>, role: PesRole<'_>) -> boo
 
 // Whether what follows ends a unit of this stream_id by something else than the start of the next one, or the end of
 // the input.
-fn is_cut<A: Allocator>(id: u8, pid: u16, later: &[Finding<'_, A>]) -> bool
-    ensures { result ≡ spec.is_cut id pid (map finding_view later.now) }
+fn is_cut<A: Allocator>(
+    id: u8,
+    pid: u16,
+    from: usize,
+    findings: &[Finding<'_, A>],
+    links: &PidLinks<A>,
+) -> bool
+    requires links { AreLinks links.now (pids_in (map finding_view findings.now)) }
+    requires on { IsOnWay pid from (pids_in (map finding_view findings.now)) }
+    ensures { result ≡ spec.is_cut id pid (drop from (map finding_view findings.now)) }
 {
-    for finding in later {
-        if let Some(cut) = end_of(id, role_of(pid, finding)) {
+    let mut at = from;
+    while at < findings.len() {
+        if let Some(cut) = end_of(id, role_of(pid, &findings[at])) {
             return cut;
         }
+        at = links.next(at);
     }
     false
 }
 
 /// Returns whether a part of a unit of this stream_id may be lost after its first PES packet.
-pub(crate) fn is_lost<A: Allocator>(split: bool, id: u8, pid: u16, later: &[Finding<'_, A>]) -> bool
-    ensures { result ≡ (split && spec.is_cut id pid (map finding_view later.now)) }
+pub(crate) fn is_lost<A: Allocator>(
+    split: bool,
+    id: u8,
+    pid: u16,
+    from: usize,
+    findings: &[Finding<'_, A>],
+    links: &PidLinks<A>,
+) -> bool
+    requires links { AreLinks links.now (pids_in (map finding_view findings.now)) }
+    requires on { IsOnWay pid from (pids_in (map finding_view findings.now)) }
+    ensures { result ≡ (split && spec.is_cut id pid (drop from (map finding_view findings.now))) }
 {
-    split && is_cut(id, pid, later)
+    split && is_cut(id, pid, from, findings, links)
 }

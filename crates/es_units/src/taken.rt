@@ -1,13 +1,14 @@
 //! The units of a PID, moved out of the findings of a stream.
 
 ghost use Rattle.std.specs.Prelude.{◌≡◌, ◌++◌, ◌∷◌, [], IfOk, OnOk, map};
+ghost use Rattle.es_units.specs.PidPlaces.{AreLinks, pids_in};
 ghost use Rattle.std.specs.Option.{option_to_list};
 ghost use Rattle.demux.specs.Shown.{finding_view};
 ghost use Rattle.es_units.specs.CarriedUnits as spec;
 ghost use Rattle.es_units.specs.TakenUnits.{OthersStay};
 ghost use Rattle.es_units.specs.UnitSteps as steps;
 
-use crate::pes_role::is_on;
+use crate::pid_links::PidLinks;
 use crate::split_units::is_split;
 use crate::unit_taker::UnitTaker;
 use demux::Finding;
@@ -29,9 +30,6 @@ pub(crate) fn push_unit<B: UnitBytes, A: Allocator>(
 }
 
 // Takes the next finding, and appends the unit that it makes whole, if there is one.
-// Inlined: most findings are of other PIDs, and the call ends with the test.
-#[inline(always)]
-#[tactic(auto, unfolding(crate::specs::UnitSteps::made_whole, crate::specs::UnitSteps::goes_on_as), using(crate::proofs::TakenUnits::stay_same))]
 fn take_next<A: Allocator + Clone>(
     alloc: &A,
     taker: &mut UnitTaker<Vec<u8, A>>,
@@ -43,31 +41,32 @@ fn take_next<A: Allocator + Clone>(
     ensures kept { OnOk result (taker.new ≡ steps.after_finding taker.old (finding_view finding.old)) }
     ensures others { OnOk result (OthersStay taker.old.pid (finding_view finding.old ∷ [])
         (finding_view finding.new ∷ [])) }
+    ensures pid { OnOk result (finding.new.pid ≡ finding.old.pid) }
 {
-    if !is_on(taker.pid(), finding) {
-        return Ok(());
-    }
     let unit = taker.take_moved(alloc, finding)?;
     push_unit(units, unit)
 }
 
 /// Returns the units that `found_units` gives. The body of the first PES packet of each is moved out of its finding,
 /// which then is the finding of a repeated packet: this PID has no more units, and the units of other PIDs are
-/// unchanged.
+/// unchanged. Each finding keeps its PID.
 pub fn taken_units<A: Allocator + Clone>(
     alloc: A,
     pid: u16,
     findings: &mut [Finding<'_, A>],
+    links: &PidLinks<A>,
 ) -> Result<Vec<WireUnit<Vec<u8, A>>, A>, AllocError>
+    requires links { AreLinks links.now (pids_in (map finding_view findings.old)) }
     ensures units { IfOk result (λ units. units.items ≡ spec.carried_units pid (map finding_view findings.old)) }
     ensures others { OnOk result (OthersStay pid (map finding_view findings.old) (map finding_view findings.new)) }
+    ensures pids { OnOk result (pids_in (map finding_view findings.new) ≡ pids_in (map finding_view findings.old)) }
 {
-    let mut taker = UnitTaker::new(pid, is_split(pid, findings));
+    let mut taker = UnitTaker::new(pid, is_split(pid, findings, links));
     let mut units = Vec::new(alloc.clone()?);
-    let mut at = 0;
+    let mut at = links.first(pid);
     'findings: while at < findings.len() {
         take_next(&alloc, &mut taker, &mut findings[at], &mut units)?;
-        at += 1;
+        at = links.next(at);
     }
     push_unit(&mut units, taker.finish())?;
     Ok(units)

@@ -102,6 +102,7 @@ fn moved_start<A: Allocator + Clone>(
         ≡ units.Start u)) }
     ensures none { IfOk result (λ unit. unit ≡ None → finding.new ≡ finding.old) }
     ensures others { OnOk result (OthersStay pid (finding_view finding.old ∷ []) (finding_view finding.new ∷ [])) }
+    ensures pid { OnOk result (finding.new.pid ≡ finding.old.pid) }
 {
     let Some((packet, stream_id, dts, pts, marks)) = start_in(pid, finding) else {
         return Ok(None);
@@ -299,6 +300,7 @@ impl<A: Allocator + Clone> UnitTaker<Vec<u8, A>> {
         ensures kept { OnOk result (self.new ≡ spec.after_finding self.old (finding_view finding.old)) }
         ensures others { OnOk result (OthersStay self.old.pid (finding_view finding.old ∷ [])
             (finding_view finding.new ∷ [])) }
+        ensures pid { OnOk result (finding.new.pid ≡ finding.old.pid) }
     {
         match moved_start(alloc, self.pid, finding)? {
             Some(next) => Ok(self.start(next)),

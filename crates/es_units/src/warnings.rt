@@ -1,13 +1,15 @@
 //! Findings of a PID that are in no unit.
 
-ghost use Rattle.std.specs.Prelude.{◌≡◌, ◌==◌, ◌&&◌, ◌++◌, IfOk, OnOk, None, length, map};
+ghost use Rattle.std.specs.Prelude.{◌≡◌, ◌==◌, ◌&&◌, ◌++◌, IfOk, OnOk, None, drop, length, map};
+ghost use Rattle.es_units.specs.PidPlaces.{AreLinks, IsOnWay, pids_in};
 ghost use Rattle.demux.specs.Shown.{finding_view, what_view};
 ghost use Rattle.es_units.specs.CarriedUnits.{continuation};
 ghost use Rattle.es_units.specs.UnitSteps.{has_cut};
 ghost use Rattle.es_units.specs.UnitWarnings as spec;
 ghost use Rattle.es_units.specs.Shown.{role_view};
 
-use crate::pes_role::{PADDING_STREAM, PesRole, first_packet, is_on, role_of};
+use crate::pes_role::{PADDING_STREAM, PesRole, first_packet, role_of};
+use crate::pid_links::PidLinks;
 use crate::split_units::{cuts_any, is_lost, is_split, more_bytes_on};
 use crate::unit_warning::{UnitWarning, UnitWarningCause};
 use demux::{Finding, What};
@@ -28,16 +30,26 @@ fn current_after(current: Option<u8>, role: PesRole<'_>) -> Option<u8>
 }
 
 // Whether no later finding has more bytes of a unit of this stream_id.
-fn has_no_continuation<A: Allocator>(id: u8, pid: u16, later: &[Finding<'_, A>]) -> bool
-    ensures { result ≡ (length (continuation id pid (map finding_view later.now)) == 0) }
+fn has_no_continuation<A: Allocator>(
+    id: u8,
+    pid: u16,
+    from: usize,
+    findings: &[Finding<'_, A>],
+    links: &PidLinks<A>,
+) -> bool
+    requires links { AreLinks links.now (pids_in (map finding_view findings.now)) }
+    requires on { IsOnWay pid from (pids_in (map finding_view findings.now)) }
+    ensures { result ≡ (length (continuation id pid (drop from (map finding_view findings.now))) == 0) }
 {
-    for finding in later {
-        let Some(body) = more_bytes_on(id, pid, finding) else {
+    let mut at = from;
+    while at < findings.len() {
+        let Some(body) = more_bytes_on(id, pid, &findings[at]) else {
             return true;
         };
         if !body.is_empty() {
             return false;
         }
+        at = links.next(at);
     }
     true
 }
@@ -190,11 +202,20 @@ fn is_empty<A: Allocator>(what: &What<'_, A>) -> bool
 }
 
 // Whether it is one, and no later finding has bytes of its unit: these are looked at only where it has none.
-fn is_alone<A: Allocator>(id: u8, pid: u16, what: &What<'_, A>, later: &[Finding<'_, A>]) -> bool
+fn is_alone<A: Allocator>(
+    id: u8,
+    pid: u16,
+    what: &What<'_, A>,
+    from: usize,
+    findings: &[Finding<'_, A>],
+    links: &PidLinks<A>,
+) -> bool
+    requires links { AreLinks links.now (pids_in (map finding_view findings.now)) }
+    requires on { IsOnWay pid from (pids_in (map finding_view findings.now)) }
     ensures { result ≡ (spec.is_empty (what_view what.now)
-        && (length (continuation id pid (map finding_view later.now)) == 0)) }
+        && (length (continuation id pid (drop from (map finding_view findings.now))) == 0)) }
 {
-    is_empty(what) && has_no_continuation(id, pid, later)
+    is_empty(what) && has_no_continuation(id, pid, from, findings, links)
 }
 
 // The warning about a finding of any PID, with the findings after it.
@@ -205,16 +226,20 @@ fn cause_of<A: Allocator>(
     count: u64,
     current: Option<u8>,
     finding: &Finding<'_, A>,
-    later: &[Finding<'_, A>],
+    from: usize,
+    findings: &[Finding<'_, A>],
+    links: &PidLinks<A>,
 ) -> Option<UnitWarningCause>
-    ensures { result ≡ spec.cause_of split pid count current (finding_view finding.now) (map finding_view later.now) }
+    requires links { AreLinks links.now (pids_in (map finding_view findings.now)) }
+    requires on { IsOnWay pid from (pids_in (map finding_view findings.now)) }
+    ensures { result ≡ spec.cause_of split pid count current (finding_view finding.now) (drop from (map finding_view findings.now)) }
 {
     if finding.pid != Some(pid) {
         return None;
     }
     let id = id_of(&finding.what);
-    let lost = is_lost(split, id, pid, later);
-    let alone = is_alone(id, pid, &finding.what, later);
+    let lost = is_lost(split, id, pid, from, findings, links);
+    let alone = is_alone(id, pid, &finding.what, from, findings, links);
     cause_of_what(count, finding.packet, current, lost, alone, &finding.what)
 }
 
@@ -241,7 +266,9 @@ fn warnings_by<A: Allocator>(
     pid: u16,
     count: u64,
     findings: &[Finding<'_, A>],
+    links: &PidLinks<A>,
 ) -> Result<(Vec<UnitWarning, A>, bool), AllocError>
+    requires links { AreLinks links.now (pids_in (map finding_view findings.now)) }
     ensures warnings { IfOk result (λ found. found.0.items
         ≡ spec.warnings_from split pid count None (map finding_view findings.now)) }
     ensures cut { IfOk result (λ found. found.1 ≡ has_cut pid (map finding_view findings.now)) }
@@ -249,16 +276,15 @@ fn warnings_by<A: Allocator>(
     let mut out = Vec::new(alloc);
     let mut current = None;
     let mut cut = false;
-    for (at, finding) in findings.iter().enumerate() {
-        if !is_on(pid, finding) {
-            continue;
-        }
-        let (_, later) = findings.split_at(at + 1);
+    let mut at = links.first(pid);
+    while at < findings.len() {
+        let finding = &findings[at];
+        at = links.next(at);
         let packet = first_packet(finding.packet, finding.begun);
         push_warning(
             &mut out,
             packet,
-            cause_of(split, pid, count, current, finding, later),
+            cause_of(split, pid, count, current, finding, at, findings, links),
         )?;
         let role = role_of(pid, finding);
         cut = cuts_any(cut, current, role);
@@ -275,15 +301,17 @@ pub fn unit_warnings<A: Allocator + Clone>(
     pid: u16,
     count: u64,
     findings: &[Finding<'_, A>],
+    links: &PidLinks<A>,
 ) -> Result<Vec<UnitWarning, A>, AllocError>
+    requires links { AreLinks links.now (pids_in (map finding_view findings.now)) }
     ensures { IfOk result (λ out. out.items ≡ spec.unit_warnings pid count (map finding_view findings.now)) }
 {
     // Where no unit is cut, it is all the same whether units have several PES packets, and this is not asked.
-    let (out, cut) = warnings_by(alloc.clone()?, false, pid, count, findings)?;
-    if !cut || !is_split(pid, findings) {
+    let (out, cut) = warnings_by(alloc.clone()?, false, pid, count, findings, links)?;
+    if !cut || !is_split(pid, findings, links) {
         return Ok(out);
     }
     drop(out);
-    let (out, _) = warnings_by(alloc, true, pid, count, findings)?;
+    let (out, _) = warnings_by(alloc, true, pid, count, findings, links)?;
     Ok(out)
 }

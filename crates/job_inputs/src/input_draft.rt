@@ -1,6 +1,7 @@
 //! What a job is made of before the bytes of its units are taken.
 
 ghost use Rattle.std.specs.Prelude.{◌≡◌, ◌++◌, IfOk, OnOk, All, filter, map};
+ghost use Rattle.es_units.specs.PidPlaces.{AreLinks, pids_in};
 ghost use Rattle.demux.specs.Shown.{finding_view};
 ghost use Rattle.job_inputs.specs.InputDrafts as drafts;
 ghost use Rattle.job_units.specs.Moments as moments;
@@ -13,6 +14,7 @@ use crate::earliest::earliest_of;
 use crate::job_tables::{JobTable, job_tables, told};
 use crate::nothing_carried::nothing_carried;
 use demux::Finding;
+use es_units::PidLinks;
 use given_values::ServiceName;
 use job_programs::clock_base::base0_of;
 use job_programs::information::information_of;
@@ -148,13 +150,15 @@ fn with_streams(
     alloc: Global,
     options: &JobOptions<'_>,
     findings: &[Finding<'_>],
+    links: &PidLinks<Global>,
     transport_stream_id: u16,
     programs: Vec<JobProgram>,
     tables: Vec<JobTable>,
     warnings: Vec<Warning>,
     streams: Vec<WireStream<'_>>,
 ) -> Result<InputDraft, JobError>
-    requires { All (IsCarried options.now.make_dts (map finding_view findings.now)) streams.items }
+    requires links { AreLinks links.now (pids_in (map finding_view findings.now)) }
+    requires carried { All (IsCarried options.now.make_dts (map finding_view findings.now)) streams.items }
     ensures value { Leads (spec.with_streams options.now (map finding_view findings.now) transport_stream_id
         programs.items tables.items warnings.items streams.entry.items)
         (drafts.finished options.now (map finding_view findings.now)) result }
@@ -176,6 +180,7 @@ fn with_streams(
         &programs,
         streams,
         findings,
+        links,
     )?;
     let information = information_of(alloc, options, transport_stream_id, findings, &programs)?;
     Ok(InputDraft {
@@ -222,16 +227,18 @@ fn with_pids(
         (map (moments.timed_stream (map finding_view findings.now)) d.streams)) }
 {
     let mut warnings = table_warnings(alloc, options, association, named, findings, &found)?;
+    let links = PidLinks::new(alloc, findings)?;
     let streams = wire_streams(
         alloc,
         options,
         count,
         found.streams,
         findings,
+        &links,
         &mut warnings,
     )?;
     let programs = job_programs(alloc, &streams, found.programs, assigned, &mut warnings)?;
-    push_stream_warnings(alloc, count, &streams, findings, &mut warnings)?;
+    push_stream_warnings(alloc, count, &streams, findings, &links, &mut warnings)?;
     push_service_warnings(alloc, options.names, &programs, findings, &mut warnings)?;
     let tables = job_tables(
         alloc,
@@ -245,7 +252,7 @@ fn with_pids(
     let told = told(&tables, warnings);
     let id = association.transport_stream_id;
     with_streams(
-        alloc, options, findings, id, programs, tables, told, streams,
+        alloc, options, findings, &links, id, programs, tables, told, streams,
     )
 }
 

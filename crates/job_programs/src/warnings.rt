@@ -1,6 +1,7 @@
 //! The warnings about the packets and the streams of a job.
 
 ghost use Rattle.std.specs.Prelude.{◌≡◌, ◌++◌, ◌∷◌, [], IfOk, OnOk, List, length, map, flat_map, option_to_list};
+ghost use Rattle.es_units.specs.PidPlaces.{AreLinks, pids_in};
 ghost use Rattle.demux.specs.Shown.{finding_view};
 ghost use Rattle.demux.specs.Views.{FindingView};
 ghost use Rattle.stream_programs.specs.MapPlaces.{AreChanges};
@@ -11,7 +12,7 @@ ghost use Rattle.job_programs.specs.declared.warning.Warning.TheVariants.{Table,
 use crate::job_stream::WireStream;
 use crate::warning::{PacketWarning, Warning};
 use demux::{Finding, What};
-use es_units::{UnitWarning, unit_warnings};
+use es_units::{PidLinks, UnitWarning, unit_warnings};
 use psi_tables::Program;
 use std::alloc::{AllocError, Global};
 use stream_programs::{
@@ -239,12 +240,18 @@ pub fn push_pid_warnings(
     pid: u16,
     count: u64,
     findings: &[Finding<'_>],
+    links: &PidLinks<Global>,
     warnings: &mut Vec<Warning>,
 ) -> Result<(), AllocError>
+    requires links { AreLinks links.now (pids_in (map finding_view findings.now)) }
     ensures { OnOk result (warnings.new.items ≡ warnings.old.items
         ++ spec.pid_warnings count (map finding_view findings.now) pid) }
 {
-    push_unit_warnings(pid, &unit_warnings(alloc, pid, count, findings)?, warnings)
+    push_unit_warnings(
+        pid,
+        &unit_warnings(alloc, pid, count, findings, links)?,
+        warnings,
+    )
 }
 
 /// Appends the warnings about the units of streams.
@@ -253,13 +260,15 @@ pub fn push_stream_warnings(
     count: u64,
     streams: &[WireStream<'_>],
     findings: &[Finding<'_>],
+    links: &PidLinks<Global>,
     warnings: &mut Vec<Warning>,
 ) -> Result<(), AllocError>
+    requires links { AreLinks links.now (pids_in (map finding_view findings.now)) }
     ensures { OnOk result (warnings.new.items ≡ warnings.old.items
         ++ flat_map (λ s. spec.pid_warnings count (map finding_view findings.now) s.pid) streams.now) }
 {
     for stream in streams {
-        push_pid_warnings(alloc, stream.pid, count, findings, warnings)?;
+        push_pid_warnings(alloc, stream.pid, count, findings, links, warnings)?;
     }
     Ok(())
 }

@@ -1,6 +1,7 @@
 //! The moments of streams' units in a run.
 
 ghost use Rattle.std.specs.Prelude.{◌≡◌, ◌<◌, ◌^◌, IfOk, IfErr, Ok, All, map};
+ghost use Rattle.es_units.specs.PidPlaces.{AreLinks, pids_in};
 ghost use Rattle.demux.specs.Shown.{finding_view};
 ghost use Rattle.job_programs.specs.Answers.{Refuses, each, Leads};
 ghost use Rattle.job_units.specs.Moments as spec;
@@ -11,7 +12,7 @@ use crate::pts_limit::stream_limit;
 use clock27::STAMP_MODULUS;
 use demux::Finding;
 use es_moments::{DtsError, StampError, StampFault, constant, found_moments, units_with_made_dts};
-use es_units::found_units;
+use es_units::{PidLinks, found_units};
 use job_programs::job_programs::clock_in;
 use job_programs::program_clock::is_same_clock;
 use job_programs::{JobError, JobProgram, JobRefusal, ProgramClock, StreamMoments, WireStream};
@@ -103,10 +104,12 @@ fn packet_of(
     pid: u16,
     index: usize,
     findings: &[Finding<'_>],
+    links: &PidLinks<Global>,
 ) -> Result<u64, AllocError>
+    requires links { AreLinks links.now (pids_in (map finding_view findings.now)) }
     ensures { IfOk result (λ packet. packet ≡ spec.packet_of (map finding_view findings.now) pid index) }
 {
-    let units = found_units(alloc, pid, findings)?;
+    let units = found_units(alloc, pid, findings, links)?;
     match units.get(index) {
         Some(unit) => Ok(unit.packet),
         None => Ok(0),
@@ -115,10 +118,16 @@ fn packet_of(
 
 // Whether DTS can be made from the PTS of a PID.
 #[tactic(auto, unfolding(crate::specs::Moments::is_mended))]
-fn is_mended(alloc: Global, pid: u16, findings: &[Finding<'_>]) -> Result<bool, AllocError>
+fn is_mended(
+    alloc: Global,
+    pid: u16,
+    findings: &[Finding<'_>],
+    links: &PidLinks<Global>,
+) -> Result<bool, AllocError>
+    requires links { AreLinks links.now (pids_in (map finding_view findings.now)) }
     ensures { IfOk result (λ mended. mended ≡ spec.is_mended (map finding_view findings.now) pid) }
 {
-    let units = found_units(alloc, pid, findings)?;
+    let units = found_units(alloc, pid, findings, links)?;
     match units_with_made_dts(alloc, units) {
         Ok(_) => Ok(true),
         Err(DtsError::Fault(_)) => Ok(false),
@@ -134,12 +143,14 @@ pub(crate) fn stamps_refusal(
     index: usize,
     fault: StampFault,
     findings: &[Finding<'_>],
+    links: &PidLinks<Global>,
 ) -> Result<JobRefusal, AllocError>
+    requires links { AreLinks links.now (pids_in (map finding_view findings.now)) }
     ensures { IfOk result (λ refusal. refusal ≡ spec.stamps_refusal (map finding_view findings.now) pid
         (index, fault)) }
 {
-    let packet = packet_of(alloc, pid, index, findings)?;
-    let mended = is_mended(alloc, pid, findings)?;
+    let packet = packet_of(alloc, pid, index, findings, links)?;
+    let mended = is_mended(alloc, pid, findings, links)?;
     Ok(JobRefusal::Stamps {
         packet,
         pid,
@@ -158,8 +169,10 @@ fn moved_by(
     firsts: &[FirstDts],
     stream: WireStream<'_>,
     findings: &[Finding<'_>],
+    links: &PidLinks<Global>,
 ) -> Result<StreamMoments, JobError>
-    requires { IsCarried make_dts (map finding_view findings.now) stream }
+    requires links { AreLinks links.now (pids_in (map finding_view findings.now)) }
+    requires carried { IsCarried make_dts (map finding_view findings.now) stream }
     ensures value { Leads (spec.moved_by (map finding_view findings.now) earliest programs.now firsts.now
         stream.entry) (λ s. Ok (timed_stream (map finding_view findings.now) s)) result }
     ensures moved { IfOk result (λ s. IsMoved make_dts (map finding_view findings.now)
@@ -181,7 +194,7 @@ fn moved_by(
         }),
         Err(StampError::Memory) => Err(JobError::Memory),
         Err(StampError::Unit { index, fault }) => {
-            let refusal = stamps_refusal(alloc, pid, index, fault, findings)?;
+            let refusal = stamps_refusal(alloc, pid, index, fault, findings, links)?;
             Err(JobError::Refused(refusal))
         }
     }
@@ -197,8 +210,10 @@ fn each_moved(
     firsts: &[FirstDts],
     streams: Vec<WireStream<'_>>,
     findings: &[Finding<'_>],
+    links: &PidLinks<Global>,
 ) -> Result<Vec<StreamMoments>, JobError>
-    requires { All (IsCarried make_dts (map finding_view findings.now)) streams.items }
+    requires links { AreLinks links.now (pids_in (map finding_view findings.now)) }
+    requires carried { All (IsCarried make_dts (map finding_view findings.now)) streams.items }
     ensures streams { IfOk result (λ moved. each (spec.moved_by (map finding_view findings.now) earliest programs.now
         firsts.now) streams.entry.items ≡ Ok (map (timed_stream (map finding_view findings.now)) moved.items)) }
     ensures refused { IfErr result (Refuses (each (spec.moved_by (map finding_view findings.now) earliest programs.now
@@ -209,7 +224,7 @@ fn each_moved(
     let mut moved = Vec::new(alloc);
     for stream in streams {
         let next = moved_by(
-            alloc, make_dts, earliest, programs, firsts, stream, findings,
+            alloc, make_dts, earliest, programs, firsts, stream, findings, links,
         )?;
         moved.push(next)?;
     }
@@ -243,8 +258,10 @@ pub fn moved_streams(
     programs: &[JobProgram],
     streams: Vec<WireStream<'_>>,
     findings: &[Finding<'_>],
+    links: &PidLinks<Global>,
 ) -> Result<Vec<StreamMoments>, JobError>
-    requires { All (IsCarried make_dts (map finding_view findings.now)) streams.items }
+    requires links { AreLinks links.now (pids_in (map finding_view findings.now)) }
+    requires carried { All (IsCarried make_dts (map finding_view findings.now)) streams.items }
     ensures streams { IfOk result (λ moved. spec.moved_streams (map finding_view findings.now) earliest programs.now
         streams.entry.items ≡ Ok (map (timed_stream (map finding_view findings.now)) moved.items)) }
     ensures refused { IfErr result (Refuses (spec.moved_streams (map finding_view findings.now) earliest programs.now
@@ -254,6 +271,6 @@ pub fn moved_streams(
 {
     let firsts = firsts_of(alloc, programs, &streams)?;
     each_moved(
-        alloc, make_dts, earliest, programs, &firsts, streams, findings,
+        alloc, make_dts, earliest, programs, &firsts, streams, findings, links,
     )
 }

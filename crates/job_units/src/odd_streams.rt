@@ -1,6 +1,7 @@
 //! Streams with units that are left out: a job can't carry them.
 
 ghost use Rattle.std.specs.Prelude.{◌≡◌, ◌<◌, ◌^◌, IfOk, IfErr, OnOk, None, map};
+ghost use Rattle.es_units.specs.PidPlaces.{AreLinks, pids_in};
 ghost use Rattle.demux.specs.Shown.{finding_view};
 ghost use Rattle.es_moments.specs.Stamps.{moved};
 ghost use Rattle.es_moments.specs.UnitMoments.{moment_of};
@@ -16,6 +17,7 @@ use crate::stream_measures::{StreamMeasures, found_measured, measured};
 use clock27::STAMP_MODULUS;
 use demux::Finding;
 use es_moments::{FoundUnit, StampError, UnitMoment, WireUnit, found_moments, units_at};
+use es_units::PidLinks;
 use job_programs::{JobError, JobOptions, JobRefusal, TimedStream, WireStream};
 use pes_packet::Unit;
 use std::alloc::{AllocError, Global};
@@ -39,7 +41,9 @@ fn own_moments(
     alloc: Global,
     stream: &WireStream<'_>,
     findings: &[Finding<'_>],
+    links: &PidLinks<Global>,
 ) -> Result<Vec<UnitMoment>, JobError>
+    requires links { AreLinks links.now (pids_in (map finding_view findings.now)) }
     ensures moments { IfOk result (λ ms. ms.items ≡ map moment_of (moved (spec.own_base stream.now) None (wire_of stream.now))) }
     ensures even { OnOk result (spec.odd_stamps (map finding_view findings.now) stream.now ≡ None) }
     ensures odd { IfErr result (spec.IsOddBy (spec.odd_stamps (map finding_view findings.now) stream.now)) }
@@ -50,7 +54,7 @@ fn own_moments(
         Ok(moments) => Ok(moments),
         Err(StampError::Memory) => Err(JobError::Memory),
         Err(StampError::Unit { index, fault }) => {
-            let refusal = stamps_refusal(alloc, stream.pid, index, fault, findings)?;
+            let refusal = stamps_refusal(alloc, stream.pid, index, fault, findings, links)?;
             Err(JobError::Refused(refusal))
         }
     }
@@ -184,10 +188,12 @@ pub(crate) fn odd_stream(
     options: &JobOptions<'_>,
     stream: &WireStream<'_>,
     findings: &[Finding<'_>],
+    links: &PidLinks<Global>,
 ) -> Result<Option<JobRefusal>, AllocError>
+    requires links { AreLinks links.now (pids_in (map finding_view findings.now)) }
     ensures { IfOk result (λ odd. odd ≡ spec.odd_stream options.now (map finding_view findings.now) stream.now) }
 {
-    match own_moments(alloc, stream, findings) {
+    match own_moments(alloc, stream, findings, links) {
         Ok(moments) => odd_bytes(alloc, options, stream, &moments),
         Err(JobError::Refused(refusal)) => Ok(Some(refusal)),
         Err(JobError::Memory) => Err(AllocError),

@@ -1,6 +1,7 @@
 //! The units of streams, moved out of the findings.
 
-ghost use Rattle.std.specs.Prelude.{◌≡◌, IfOk, map};
+ghost use Rattle.std.specs.Prelude.{◌≡◌, IfOk, OnOk, map};
+ghost use Rattle.es_units.specs.PidPlaces.{AreLinks, pids_in};
 ghost use Rattle.demux.specs.Shown.{finding_view};
 ghost use Rattle.job_units.specs.Moments as spec;
 ghost use Rattle.job_units.specs.TakenStreams.{StayCarried};
@@ -8,7 +9,7 @@ ghost use Rattle.es_units.specs.CarriedUnits.{carried_units};
 
 use demux::Finding;
 use es_moments::{WireUnit, units_at};
-use es_units::{carried_units, taken_units};
+use es_units::{PidLinks, carried_units, taken_units};
 use job_programs::job_options::is_among;
 use job_programs::{StreamMoments, TimedStream};
 use std::alloc::{AllocError, Global};
@@ -21,15 +22,18 @@ fn units_of(
     pid: u16,
     later: &[u16],
     findings: &mut [Finding<'_>],
+    links: &PidLinks<Global>,
 ) -> Result<Vec<WireUnit>, AllocError>
+    requires links { AreLinks links.now (pids_in (map finding_view findings.old)) }
     ensures units { IfOk result (λ units. units.items ≡ carried_units pid (map finding_view findings.old)) }
     ensures others { IfOk result (λ units. StayCarried later.now (map finding_view findings.old)
         (map finding_view findings.new)) }
+    ensures pids { OnOk result (pids_in (map finding_view findings.new) ≡ pids_in (map finding_view findings.old)) }
 {
     if is_among(pid, later) {
-        carried_units(alloc, pid, findings)
+        carried_units(alloc, pid, findings, links)
     } else {
-        taken_units(alloc, pid, findings)
+        taken_units(alloc, pid, findings, links)
     }
 }
 
@@ -70,6 +74,7 @@ pub fn timed_streams(
     ensures { IfOk result (λ timed. timed.items
         ≡ map (spec.timed_stream (map finding_view findings.old)) streams.items) }
 {
+    let links = PidLinks::new(alloc, findings)?;
     let pids = pids_of(alloc, &streams)?;
     let mut timed = Vec::with_capacity(alloc, streams.len())?;
     let mut left = VecDeque::from(streams);
@@ -78,7 +83,7 @@ pub fn timed_streams(
         let Some((pid, rest)) = later.split_first() else {
             return Err(AllocError);
         };
-        let units = units_of(alloc, *pid, rest, findings)?;
+        let units = units_of(alloc, *pid, rest, findings, &links)?;
         timed.push(timed_stream(alloc, next, units)?)?;
         later = rest;
     }

@@ -1,6 +1,7 @@
 //! The streams of a transport stream, their units with the stamps on the wire.
 
 ghost use Rattle.std.specs.Prelude.{◌≡◌, ◌++◌, IfOk, IfErr, OnOk, Ok, All, flat_map, map, option_to_list};
+ghost use Rattle.es_units.specs.PidPlaces.{AreLinks, pids_in};
 ghost use Rattle.std.specs.List.{list_any};
 ghost use Rattle.demux.specs.Shown.{finding_view};
 ghost use Rattle.job_programs.specs.Answers.{Answers, Refuses};
@@ -13,7 +14,7 @@ ghost use Rattle.job_programs.specs.FoundUnits.{IsCarried};
 use crate::odd_streams::odd_stream;
 use demux::Finding;
 use es_moments::{DtsError, FoundUnit, apart_units, first_other, units_with_made_dts, written_id};
-use es_units::{UnitWarning, UnitWarningCause, found_units, unit_warnings};
+use es_units::{PidLinks, UnitWarning, UnitWarningCause, found_units, unit_warnings};
 use job_programs::job_options::is_among;
 use job_programs::warnings::push_pid_warnings;
 use job_programs::{JobError, JobOptions, JobRefusal, Warning, WireStream};
@@ -126,10 +127,12 @@ fn stream_if_any<'f>(
     make_dts: bool,
     stream: FoundStream,
     findings: &'f [Finding<'_>],
+    links: &PidLinks<Global>,
 ) -> Result<Option<WireStream<'f>>, JobError>
+    requires links { AreLinks links.now (pids_in (map finding_view findings.now)) }
     ensures { Answers (spec.stream_if_any make_dts (map finding_view findings.now) stream) result }
 {
-    let units = found_units(alloc, stream.pid, findings)?;
+    let units = found_units(alloc, stream.pid, findings, links)?;
     if !is_written(&stream, &units) {
         return Ok(None);
     }
@@ -183,13 +186,15 @@ fn push_empty_stream_warnings(
     program: u16,
     pid: u16,
     findings: &[Finding<'_>],
+    links: &PidLinks<Global>,
     warnings: &mut Vec<Warning>,
 ) -> Result<(), AllocError>
+    requires links { AreLinks links.now (pids_in (map finding_view findings.now)) }
     ensures { OnOk result (warnings.new.items ≡ warnings.old.items
         ++ spec.why_not_carried count (map finding_view findings.now) program pid
         (carried_units pid (map finding_view findings.now))) }
 {
-    let units = found_units(alloc, pid, findings)?;
+    let units = found_units(alloc, pid, findings, links)?;
     match units.first() {
         Some(first) => {
             warnings.push(Warning::StreamId {
@@ -201,9 +206,9 @@ fn push_empty_stream_warnings(
             Ok(())
         }
         None => {
-            let found = unit_warnings(alloc, pid, count, findings)?;
+            let found = unit_warnings(alloc, pid, count, findings, links)?;
             warnings.push(no_unit_warning(program, pid, &found))?;
-            push_pid_warnings(alloc, pid, count, findings, warnings)
+            push_pid_warnings(alloc, pid, count, findings, links, warnings)
         }
     }
 }
@@ -246,15 +251,17 @@ fn push_unless_odd<'f>(
     pid: u16,
     stream: WireStream<'f>,
     findings: &[Finding<'_>],
+    links: &PidLinks<Global>,
     streams: &mut Vec<WireStream<'f>>,
     warnings: &mut Vec<Warning>,
 ) -> Result<(), AllocError>
+    requires links { AreLinks links.now (pids_in (map finding_view findings.now)) }
     ensures streams { OnOk result (streams.new.items ≡ streams.old.items ++ option_to_list
         (spec.unless_odd (odd_stream options.now (map finding_view findings.now) stream.entry) stream.entry)) }
     ensures warnings { OnOk result (warnings.new.items ≡ warnings.old.items
         ++ spec.left_out_for pid (odd_stream options.now (map finding_view findings.now) stream.entry)) }
 {
-    let odd = odd_stream(alloc, options, &stream, findings)?;
+    let odd = odd_stream(alloc, options, &stream, findings, links)?;
     push_left_out(pid, odd, warnings)?;
     push_unless(odd, stream, streams)
 }
@@ -267,20 +274,26 @@ fn push_stream<'f>(
     count: u64,
     stream: FoundStream,
     findings: &'f [Finding<'_>],
+    links: &PidLinks<Global>,
     streams: &mut Vec<WireStream<'f>>,
     warnings: &mut Vec<Warning>,
 ) -> Result<(), AllocError>
+    requires links { AreLinks links.now (pids_in (map finding_view findings.now)) }
     ensures streams { OnOk result (streams.new.items ≡ streams.old.items
         ++ spec.carried_stream options.now (map finding_view findings.now) stream) }
     ensures warnings { OnOk result (warnings.new.items ≡ warnings.old.items
         ++ spec.left_out_warnings options.now count (map finding_view findings.now) stream) }
 {
     let (program, pid) = (stream.program, stream.pid);
-    match stream_if_any(alloc, options.make_dts, stream, findings) {
+    match stream_if_any(alloc, options.make_dts, stream, findings, links) {
         Ok(Some(stream)) => {
-            push_unless_odd(alloc, options, pid, stream, findings, streams, warnings)
+            push_unless_odd(
+                alloc, options, pid, stream, findings, links, streams, warnings,
+            )
         }
-        Ok(None) => push_empty_stream_warnings(alloc, count, program, pid, findings, warnings),
+        Ok(None) => push_empty_stream_warnings(
+            alloc, count, program, pid, findings, links, warnings,
+        ),
         Err(JobError::Refused(why)) => push_left_out(pid, Some(why), warnings),
         Err(JobError::Memory) => Err(AllocError),
     }
@@ -293,8 +306,10 @@ fn carried_streams<'f>(
     count: u64,
     selected: Vec<FoundStream>,
     findings: &'f [Finding<'_>],
+    links: &PidLinks<Global>,
     warnings: &mut Vec<Warning>,
 ) -> Result<Vec<WireStream<'f>>, AllocError>
+    requires links { AreLinks links.now (pids_in (map finding_view findings.now)) }
     ensures streams { IfOk result (λ streams. streams.items
         ≡ spec.carried_streams options.now (map finding_view findings.now) selected.items) }
     ensures warnings { OnOk result (warnings.new.items ≡ warnings.old.items
@@ -308,6 +323,7 @@ fn carried_streams<'f>(
             count,
             stream,
             findings,
+            links,
             &mut streams,
             warnings,
         )?;
@@ -333,8 +349,10 @@ pub fn wire_streams<'f>(
     count: u64,
     found: Vec<FoundStream>,
     findings: &'f [Finding<'_>],
+    links: &PidLinks<Global>,
     warnings: &mut Vec<Warning>,
 ) -> Result<Vec<WireStream<'f>>, AllocError>
+    requires links { AreLinks links.now (pids_in (map finding_view findings.now)) }
     ensures streams { IfOk result (λ streams. streams.items
         ≡ spec.wire_streams options.now (map finding_view findings.now) found.items) }
     ensures warnings { OnOk result (warnings.new.items ≡ warnings.old.items
@@ -343,5 +361,5 @@ pub fn wire_streams<'f>(
         streams.items) }
 {
     let selected = selected(options.without, found);
-    carried_streams(alloc, options, count, selected, findings, warnings)
+    carried_streams(alloc, options, count, selected, findings, links, warnings)
 }

@@ -5,7 +5,9 @@ mod moments;
 
 use demux::{Finding, Kind, Part, What};
 use es_moments::{FoundUnit, LentBytes, WireUnit, first_other, written_id};
-use es_units::{UnitWarning, UnitWarningCause, carried_units, taken_units, unit_warnings};
+use es_units::{
+    PidLinks, UnitWarning, UnitWarningCause, carried_units, taken_units, unit_warnings,
+};
 use pes_packet::{Marks, PesFlags, PesHeader, Stamps};
 use std::alloc::{AllocError, Global};
 
@@ -117,7 +119,10 @@ fn are_units(units: &[WireUnit]) -> bool {
 // PES packets without a stamp join the one before them, across duplicates and other PIDs; of one before a break a part
 // may be lost, and it is left out.
 fn are_carried(alloc: Global, found: &[Finding<'_>]) -> bool {
-    match carried_units(alloc, 256, found) {
+    let Ok(links) = PidLinks::new(alloc, found) else {
+        return false;
+    };
+    match carried_units(alloc, 256, found, &links) {
         Ok(units) => are_units(&units),
         Err(_) => false,
     }
@@ -126,8 +131,9 @@ fn are_carried(alloc: Global, found: &[Finding<'_>]) -> bool {
 // The same units are moved out of the findings, and then none is left.
 fn are_taken(alloc: Global) -> Result<bool, AllocError> {
     let mut found = worked_findings(alloc)?;
-    let taken = taken_units(alloc, 256, &mut found)?;
-    let left = taken_units(alloc, 256, &mut found)?;
+    let links = PidLinks::new(alloc, &found)?;
+    let taken = taken_units(alloc, 256, &mut found, &links)?;
+    let left = taken_units(alloc, 256, &mut found, &links)?;
     Ok(are_units(&taken) && left.is_empty())
 }
 
@@ -162,7 +168,10 @@ fn is_left_out(found: &[UnitWarning]) -> bool {
 }
 
 fn are_left_out(alloc: Global, found: &[Finding<'_>]) -> bool {
-    match unit_warnings(alloc, 256, 20, found) {
+    let Ok(links) = PidLinks::new(alloc, found) else {
+        return false;
+    };
+    match unit_warnings(alloc, 256, 20, found, &links) {
         Ok(left) => is_left_out(&left),
         Err(_) => false,
     }

@@ -1,7 +1,14 @@
-use Rattle.std.proofs.Common.{◌≡◌, drop, map}
+use Rattle.std.proofs.Common.{◌≡◌, ◌-◌, drop, length, map}
 use Rattle.demux.specs.Shown.{finding_view}
 use Rattle.es_units.specs.CarriedUnits.{first_id}
+use Rattle.es_units.proofs.PidPlaces.{IsOn}
 use Rattle.es_units.proofs.split_units.first_id.Given as goal
 
-abbrev pub invariant-loop-finding : goal.invariant-loop-finding
-invariant-loop-finding g l = first_id l.pid (map finding_view l.findings) ≡ first_id l.pid (map finding_view (drop l.finding-index l.findings))
+abbrev pub invariant-loop-at : goal.invariant-loop-at
+invariant-loop-at g l = record {
+  on : IsOn finding_view l.pid l.at l.findings;
+  first : first_id l.pid (map finding_view l.findings) ≡ first_id l.pid (map finding_view (drop l.at l.findings));
+}
+
+abbrev pub decreases-loop-at : goal.decreases-loop-at
+decreases-loop-at g l = length l.findings - l.at

@@ -15,7 +15,7 @@ pub loop-stream-init : goal.loop-stream-init
 loop-stream-init c =
     let fs = map finding_view c.args.findings.now in
     let same : c.into_iter-stream-iterator.result.rest.items ≡ c.args.streams.items = search rules in
-    let carried = subst (All (IsCarried c.args.make_dts fs)) (sym same) c.requires in
+    let carried = subst (All (IsCarried c.args.make_dts fs)) (sym same) c.requires.carried in
     let empty : map (timed_stream fs) c.new-moved.result.items ≡ [] = ap (map (timed_stream fs)) c.new-moved.ensures.items in
     let none = subst (All (IsMoved c.args.make_dts fs)) (sym empty) (All-nil (IsMoved c.args.make_dts fs)) in
     let start = each_start (moved_by fs c.args.earliest c.args.programs.now c.args.firsts.now) c.args.streams.items

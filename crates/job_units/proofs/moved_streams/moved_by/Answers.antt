@@ -26,7 +26,7 @@ returns-in-Ok-clause-value c =
     (c.in-Ok.ensures.sound)) in
     let moments = c.in-Ok.ensures.moments ∙ ap (λ (l : List CarriedUnit). map moment_of (moved base None (map (λ (u : CarriedUnit). u.unit) l))) us in
     moved_leads c.args.make_dts (map finding_view c.args.findings.now) c.args.earliest base c.args.programs.now c.args.firsts.now s c.in-Ok.units.items _
-    based c.requires sound moments (ap (λ (w : WireStreamView). head_of w c.in-Ok.units.items) c.stream.view_is)
+    based c.requires.carried sound moments (ap (λ (w : WireStreamView). head_of w c.in-Ok.units.items) c.stream.view_is)
 
 pub returns-in-Ok-clause-moved : goal.returns-in-Ok-clause-moved
 returns-in-Ok-clause-moved c =
@@ -39,4 +39,4 @@ returns-in-Ok-clause-moved c =
     (c.in-Ok.ensures.sound)) in
     let moments = c.in-Ok.ensures.moments ∙ ap (λ (l : List CarriedUnit). map moment_of (moved base None (map (λ (u : CarriedUnit). u.unit) l))) us in
     moved_is c.args.make_dts (map finding_view c.args.findings.now) base s c.in-Ok.units.items _
-    c.in_ok-base.ensures.bound c.requires sound moments (ap (λ (w : WireStreamView). head_of w c.in-Ok.units.items) c.stream.view_is)
+    c.in_ok-base.ensures.bound c.requires.carried sound moments (ap (λ (w : WireStreamView). head_of w c.in-Ok.units.items) c.stream.view_is)
