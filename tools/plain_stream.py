@@ -55,6 +55,9 @@ class Pid(syntax.Pid):
         super().truncate(packet)
         self.begun = None
 
+    def stray(self, packet, payload):
+        self.found.append((packet, packet, "stray", (len(payload),)))
+
     def unstamped(self, part):
         """Whether a part of a PES packet was cut short that has no PTS, as far as it was read."""
         kind, data = part
@@ -440,7 +443,7 @@ def steady(stream, pid):
     for packet, begins, kind, value in stream.found(pid):
         if kind == "section":
             found.setdefault(bytes(value), []).append(begins)
-        elif kind != "duplicate" and not (kind == "truncated" and packet >= stream.count):
+        elif kind not in ("duplicate", "stray") and not (kind == "truncated" and packet >= stream.count):
             return None
     gaps = [max((after - before for before, after in zip(starts, starts[1:])), default=0) for starts in found.values()]
     whole = 1 <= len(found) <= 8 and all(gaps) and len({place_of(s) for s in found}) == len(found)

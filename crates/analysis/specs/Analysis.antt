@@ -37,14 +37,14 @@ pub record IsAnalysed (analyser : Analyser) (s : AnalysisState) : Type 0 where
   pub window : analyser.window ≡ s.window
   pub stamps : analyser.stamps ≡ s.stamps
 
--- before the first packet
+-- before the first packet: packets that arrive by stamps have no constant rate
 abbrev pub first_stamps : Bool → Option StampState
 first_stamps asked = if asked then Some no_stamp else None
 
 abbrev pub start : RequestView → AnalysisState
 start request = record {
   view = views.start request;
-  summary = nothing;
+  summary = nothing request.stamps;
   span = request.span;
   window = request.options.window;
   stamps = first_stamps request.stamps;

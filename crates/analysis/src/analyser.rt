@@ -171,11 +171,12 @@ impl Analyser {
     {
         let span = request.span;
         let window = request.options.window;
-        let stamps = first_stamps(request.stamps);
+        let stamped = request.stamps;
+        let stamps = first_stamps(stamped);
         Analyser {
             alloc,
             view: ClockedView::new(alloc, request),
-            summary: Summary::new(alloc),
+            summary: Summary::new(alloc, stamped),
             span,
             window,
             stamps,

@@ -1,9 +1,9 @@
-//! A job: a description, the text of a plan that serves it, on request the text of a second plan that may follow the
-//! first, and the bytes after these.
+//! A job: a description, its plans, and the bytes after them.
 //!
-//! `job_parts` is where the plans begin, `jobs` reads and checks them, `job_fault` is the first fault in a job with its
-//! line, and `fault_lines` has the lines for faults in records and units. `specs/JobSchedules` says which slots the
-//! plans of a job give.
+//! The first plan serves the description, and on request a second one may follow the first. `job_parts` is where
+//! the plans begin, `jobs` reads and checks them, `job_fault` is the first fault in a job with its line, and
+//! `fault_lines` has the lines for faults in records and units. `specs/JobSchedules` says which slots the plans of
+//! a job give.
 #![tactic(auto)]
 
 mod fault_lines;

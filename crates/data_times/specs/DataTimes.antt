@@ -11,7 +11,7 @@ use Rattle.demux.specs.declared.finding.Kind.{Kind}
 use Rattle.demux.specs.declared.finding.Kind.TheVariants.{Table, Pes}
 use Rattle.demux.specs.Views.{FindingView, WhatView, IsPes}
 use Rattle.demux.specs.OpenUnits.{is_stamped}
-use Rattle.stream_programs.specs.Association.{AssociationView, association}
+use Rattle.program_tables.specs.Association.{AssociationView, association}
 use Rattle.descriptor_loops.specs.Descriptors.{has_tag}
 use Rattle.stream_programs.specs.Programs.{FoundProgramView, FoundProgramsView, programs_of}
 use Rattle.stream_programs.specs.Streams.{FoundStreamView}

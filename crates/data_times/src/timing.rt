@@ -2,7 +2,7 @@
 
 ghost use Rattle.std.specs.Prelude.{◌≡◌, ◌==◌, [], IfOk, find, map, option_map};
 ghost use Rattle.demux.specs.Shown.{finding_view, what_view};
-ghost use Rattle.stream_programs.specs.Association.{association};
+ghost use Rattle.program_tables.specs.Association.{association};
 ghost use Rattle.data_times.specs.DataTimes as spec;
 
 use crate::clock_line::{ClockLine, ShownClocks};
@@ -11,10 +11,11 @@ use demux::{Finding, Kind, What};
 use descriptor_loops::has_tag;
 use packet_pcr::FoundPcr;
 use pes_packet::{PesHeader, Stamps};
+use program_tables::named_programs;
 use std::alloc::{AllocError, Global};
 use std::collections::VecDeque;
 use std::marker::Model;
-use stream_programs::{FoundProgram, FoundPrograms, FoundStream, found_programs, named_programs};
+use stream_programs::{FoundProgram, FoundPrograms, FoundStream, found_programs};
 
 // Tag of a teletext_descriptor (EN 300 468, table 12).
 const TELETEXT: u8 = 0x56;

@@ -6,7 +6,7 @@ use Rattle.ts_packet.specs.PidList.{Entry}
 use Rattle.pes_packet.specs.Reading.{header_at}
 use Rattle.pes_packet.specs.declared.reading.PesHeader.{PesHeader}
 use Rattle.pes_packet.specs.declared.refusal.PesError.{PesError}
-use Rattle.demux.specs.Views.{WhatView, IsDuplicate, BreaksCounter, IsScrambled, IsTruncated, IsSection, IsBadSection, IsPes, IsBadPes, IsBadPacket, IsErrored}
+use Rattle.demux.specs.Views.{WhatView, IsDuplicate, BreaksCounter, IsScrambled, IsTruncated, IsSection, IsBadSection, IsPes, IsBadPes, IsBadPacket, IsErrored, IsStray}
 use Rattle.demux.specs.Views.{Found, FindingView}
 use Rattle.demux.specs.OpenUnits.{UnitKind, OpenUnit, decided}
 use Rattle.demux.specs.declared.open_unit.UnitKind.TheVariants as unit_kinds
@@ -32,6 +32,7 @@ without_body (IsBadSection error) = IsBadSection error
 without_body (IsBadPes error) = IsBadPes error
 without_body (IsBadPacket error) = IsBadPacket error
 without_body IsErrored = IsErrored
+without_body (IsStray size) = IsStray size
 
 abbrev pub found_without_body : Found → Found
 found_without_body found = record found { what = without_body found.what }

@@ -1,12 +1,12 @@
 -- What is found in a PID's packets: at each packet, a function of that packet and of the PID's packets before it.
 use Rattle.std.specs.Prelude.{ℕ, ◌==◌, ◌||◌, Bool, true, false, if◌then◌else◌, List, [], ◌∷◌, ◌++◌, drop, map, reverse, Option, Some, None, is_some, option_map}
-use Rattle.std.specs.Prelude.{option_and_then, Result, Ok}
+use Rattle.std.specs.Prelude.{length, option_and_then, Result, Ok}
 use Rattle.pes_packet.specs.Reading.{header_at}
 use Rattle.pes_packet.specs.declared.reading.PesHeader.{PesHeader}
 use Rattle.pes_packet.specs.declared.refusal.PesError.{PesError}
 use Rattle.ts_packet.specs.PidList.{Entry}
 use Rattle.psi_tables.specs.declared.error.SectionError.TheVariants as section_errors
-use Rattle.demux.specs.Views.{WhatView, IsDuplicate, BreaksCounter, IsScrambled, IsTruncated, IsBadSection, IsPes, Found, PidFinding}
+use Rattle.demux.specs.Views.{WhatView, IsDuplicate, BreaksCounter, IsScrambled, IsTruncated, IsBadSection, IsPes, IsStray, Found, PidFinding}
 use Rattle.demux.specs.Marks.{Marked, marked}
 use Rattle.demux.specs.Roles.{Role, NoPayload, ScrambledPayload, PesStart, SectionStart, PointerPastEnd, Continuation, role, role_divides}
 use Rattle.demux.specs.OpenUnits.{UnitKind, OpenUnit, decided, about, about_within, plain, appended, section, sections_in, last_in}
@@ -99,9 +99,13 @@ unfoldable pub last_bytes : List ℕ → Option OpenUnit → List Found
 last_bytes bytes None = []
 last_bytes bytes (Some unit) = last_bytes_by bytes unit unit.kind
 
--- a payload that goes on with the open unit
+-- bytes that belong to nothing that was begun, if there are any
+abbrev pub stray : List ℕ → List Found
+stray payload = if length payload == 0 then [] else plain (IsStray (length payload)) ∷ []
+
+-- a payload that goes on with the open unit; where none is open, it is stray
 unfoldable pub found_appended : List ℕ → Option OpenUnit → List Found
-found_appended payload None = []
+found_appended payload None = stray payload
 found_appended payload (Some unit) = decided_by (appended unit payload)
 
 unfoldable pub by_role : ℕ → Role → Option OpenUnit → List Found

@@ -4,7 +4,7 @@ use Rattle.std.specs.List.{list_any}
 use Rattle.demux.specs.declared.finding.Part.{Part}
 use Rattle.demux.specs.declared.finding.Part.TheVariants.{Span, Joined}
 use Rattle.demux.specs.declared.finding.What.{What}
-use Rattle.demux.specs.declared.finding.What.TheVariants.{Duplicate, CounterBreak, Scrambled, Truncated, Section, BadSection, Pes, BadPes, BadPacket, Errored}
+use Rattle.demux.specs.declared.finding.What.TheVariants.{Duplicate, CounterBreak, Scrambled, Truncated, Section, BadSection, Pes, BadPes, BadPacket, Errored, Stray}
 use Rattle.demux.specs.declared.finding.Finding.{Finding}
 use Rattle.demux.specs.declared.payload_bytes.PayloadBytes.{PayloadBytes}
 use Rattle.demux.specs.declared.payload_bytes.PayloadBytes.TheVariants.{Borrowed, Copied}
@@ -22,7 +22,7 @@ use Rattle.demux.specs.Roles.{Role, NoPayload, ScrambledPayload, PesStart, Secti
 use Rattle.demux.specs.OpenUnits.{OpenUnit, plain}
 use Rattle.demux.specs.Findings.{by_break}
 use Rattle.demux.specs.Roles.{role_divides}
-use Rattle.demux.specs.Views.{WhatView, IsDuplicate, BreaksCounter, IsScrambled, IsTruncated, IsSection, IsBadSection, IsPes, IsBadPes, IsBadPacket, IsErrored}
+use Rattle.demux.specs.Views.{WhatView, IsDuplicate, BreaksCounter, IsScrambled, IsTruncated, IsSection, IsBadSection, IsPes, IsBadPes, IsBadPacket, IsErrored, IsStray}
 use Rattle.demux.specs.Views.{Found, FindingView}
 
 -- the bytes of a finding
@@ -42,6 +42,7 @@ what_view (Pes header unended body) = IsPes header unended (part_bytes body)
 what_view (BadPes error) = IsBadPes error
 what_view (BadPacket error) = IsBadPacket error
 what_view Errored = IsErrored
+what_view (Stray size) = IsStray size
 
 -- the bytes are a slice of the packet
 abbrev pub part_is_span : {A : Type 0} → Part A → Bool
@@ -59,6 +60,7 @@ has_span (Pes header unended body) = part_is_span body
 has_span (BadPes error) = false
 has_span (BadPacket error) = false
 has_span Errored = false
+has_span (Stray size) = false
 
 abbrev pub is_span : {A : Type 0} → Finding A → Bool
 is_span finding = has_span finding.what

@@ -18,6 +18,7 @@ pub data WhatView : Type 0 where
   IsBadPes : PesError → WhatView
   IsBadPacket : PacketError → WhatView
   IsErrored : WhatView
+  IsStray : ℕ → WhatView
 
 -- a section or a PES packet that came whole
 abbrev pub is_whole : WhatView → Bool
@@ -31,6 +32,7 @@ is_whole (IsBadSection error) = false
 is_whole (IsBadPes error) = false
 is_whole (IsBadPacket error) = false
 is_whole IsErrored = false
+is_whole (IsStray size) = false
 
 -- what is found of a section or a PES packet has the packet of its first byte and what begins there; within, that it is
 -- whole and lies in the packet at which it is found

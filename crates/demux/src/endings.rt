@@ -363,7 +363,25 @@ fn append_last<'a, A: Allocator + Clone>(
     )
 }
 
-/// Appends a payload to the open unit, and closes the unit if that decides it.
+/// Notes a payload that belongs to nothing that was begun, if it has a byte. It stays a call of its own: few packets
+/// have one.
+#[inline(never)]
+pub(crate) fn note_stray<'a, A: Allocator>(
+    place: Place,
+    payload: &[u8],
+    found: &mut Vec<Finding<'a, A>, A>,
+) -> Result<(), AllocError>
+    ensures ok { OnOk result (Finds place found.old.items found.new.items (findings.stray payload.now)) }
+    ensures err { OnErr result (KeepsFindings found.old.items found.new.items) }
+{
+    if payload.is_empty() {
+        return Ok(());
+    }
+    note(place, None, What::Stray(payload.len()), found)
+}
+
+/// Appends a payload to the open unit, and closes the unit if that decides it. Without an open unit the payload is
+/// stray.
 #[tactic(auto, unfolding(crate::specs::Findings::found_appended, crate::specs::Findings::found_if, crate::specs::Findings::undecided, crate::specs::Findings::unless_decided, crate::specs::Machine::next_open), using(crate::proofs::LeastSizes::still_open))]
 pub(crate) fn append_payload<'a, A: Allocator + Clone>(
     alloc: &A,
@@ -379,7 +397,7 @@ pub(crate) fn append_payload<'a, A: Allocator + Clone>(
     ensures none { OnErr result (KeepsFindings found.old.items found.new.items) }
 {
     let Some(unit) = open_unit else {
-        return Ok(());
+        return note_stray(place, payload, found);
     };
     if unit.len() + payload.len() < unit.least {
         return unit.bytes.extend_from_slice(payload);

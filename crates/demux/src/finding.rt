@@ -71,6 +71,8 @@ pub enum What<'a, A: Allocator = Global> {
     BadPacket(PacketError),
     /// a packet with transport_error_indicator
     Errored,
+    /// a payload that goes on where no section and no PES packet is open: how many bytes it has
+    Stray(usize),
 }
 
 /// A finding, at the packet that decides it.

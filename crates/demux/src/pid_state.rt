@@ -10,7 +10,9 @@ ghost use Rattle.demux.specs.Shown.{is_borrowed, kept_by, payload_list};
 ghost use Rattle.demux.specs.Shown.{mark_broken, marked_findings, marked_role, role_borrowed, role_view};
 
 use crate::beginnings::begin_pes;
-use crate::endings::{append_payload, cut_short, end_before_pointer, end_moved, end_unit};
+use crate::endings::{
+    append_payload, cut_short, end_before_pointer, end_moved, end_unit, note_stray,
+};
 use crate::finding::{Finding, What};
 use crate::going_on::{grow, is_next, keep_plain};
 use crate::last::Last;
@@ -40,7 +42,7 @@ impl<A: Allocator> Model for PidState<A> {
     ghost view = { λ s. record { last = s.last; open_unit = s.open_unit } };
 }
 
-// What a start, a scrambled packet or a wrong pointer_field finds, and the unit that is open after it.
+// What a start, a scrambled packet, a wrong pointer_field or stray payload finds, and the unit that is open after it.
 #[tactic(auto, unfolding(crate::specs::Findings::by_role, crate::specs::Machine::next_open, crate::specs::Findings::found_appended))]
 fn start_unit<'p, 'a: 'p, A: Allocator + Clone>(
     alloc: &A,
@@ -58,7 +60,10 @@ fn start_unit<'p, 'a: 'p, A: Allocator + Clone>(
 {
     match role {
         PayloadRole::NoPayload => Ok(None),
-        PayloadRole::Continuation(_) => Ok(None),
+        PayloadRole::Continuation(payload) => {
+            note_stray(place, payload, found)?;
+            Ok(None)
+        }
         PayloadRole::Scrambled => {
             note(place, None, What::Scrambled, found)?;
             cut_short(alloc, place, open_unit, found)?;

@@ -8,10 +8,10 @@ use Rattle.description_keys.specs.declared.fault.DescFault.TheVariants.{Text, Un
 use Rattle.description_keys.specs.declared.fault.DescError.TheVariants.{Refused, Memory}
 use Rattle.slot_plan.specs.Planned.{Planned}
 use Rattle.checked_jobs.specs.Jobs.{described, parts_of, planned}
-use Rattle.diagnosis.specs.ConditionLines.{condition_lines}
+use Rattle.plan_diagnosis.specs.ConditionLines.{condition_lines}
 use Rattle.diagnosis.specs.FaultLines.{fault_line}
 use Rattle.diagnosis.specs.KeyPlaces.{lines_of}
-use Rattle.diagnosis.specs.ReasonLines.{reason_lines}
+use Rattle.plan_diagnosis.specs.ReasonLines.{reason_lines}
 use Rattle.diagnosis.specs.TomlNotes.{TomlNoteView, note_line}
 use Rattle.diagnosis.specs.UnknownWords.{unknown_line}
 

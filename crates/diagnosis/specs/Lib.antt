@@ -1,6 +1,3 @@
-pub mod ItemNames
-pub mod ReasonLines
-pub mod ConditionLines
 pub mod KeyPlaces
 pub mod KeyWords
 pub mod KeyTables

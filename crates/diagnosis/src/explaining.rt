@@ -4,15 +4,14 @@ ghost use Rattle.std.specs.Prelude.{◌≡◌, ◌++◌, IfOk, OnOk, Ok, map, op
 ghost use Rattle.checked_jobs.specs.Jobs.{described, planned};
 ghost use Rattle.diagnosis.specs.Explained as spec;
 
-use crate::conditions::write_conditions;
 use crate::fault_lines::write_fault;
 use crate::key_places::lines_of;
-use crate::reasons::write_reasons;
 use crate::toml_note::{TomlNote, note_of, write_note};
 use crate::unknown_words::write_unknown;
 use checked_jobs::{parts_of, read_description};
 use description::Description;
 use description_keys::{DescError, DescFault};
+use plan_diagnosis::{write_conditions, write_reasons};
 use slot_plan::{Plan, PlanTextError};
 use std::alloc::{AllocError, Global};
 use std::fmt::Write;

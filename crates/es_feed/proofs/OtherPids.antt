@@ -4,12 +4,12 @@ use Rattle.std.proofs.Common.{◌∷◌, map, slice_get, slice_set, refl, sym, a
 use Rattle.std.specs.Prelude.{option_and_then, option_map}
 use Rattle.std.specs.Option.{option_or, option_to_list}
 use Rattle.psi_tables.specs.ProgramMap.{PmtView}
-use Rattle.stream_programs.specs.ProgramMaps.{pmt_found, pmt_in, program_map}
-use Rattle.stream_programs.specs.Sections.{section_bytes, section_on}
+use Rattle.program_tables.specs.ProgramMaps.{pmt_found, pmt_in, program_map}
+use Rattle.program_tables.specs.Sections.{section_bytes, section_on}
 use Rattle.demux.specs.Bodies.{finding_without_body, without_body}
 use Rattle.demux.specs.KeptBodies.{all_but, finding_but, is_kept, is_of_kept}
 use Rattle.demux.specs.Laws.{has_pid}
-use Rattle.demux.specs.Views.{WhatView, IsDuplicate, BreaksCounter, IsScrambled, IsTruncated, IsSection, IsBadSection, IsPes, IsBadPes, IsBadPacket, IsErrored}
+use Rattle.demux.specs.Views.{WhatView, IsDuplicate, BreaksCounter, IsScrambled, IsTruncated, IsSection, IsBadSection, IsPes, IsBadPes, IsBadPacket, IsErrored, IsStray}
 use Rattle.demux.specs.Views.{FindingView}
 use Rattle.demux.specs.declared.finding.Kind.{Kind}
 use Rattle.demux.specs.declared.finding.Kind.TheVariants as kinds
@@ -107,6 +107,7 @@ section_aligned (IsPes header unended body) = refl
 section_aligned (IsBadPes error) = refl
 section_aligned (IsBadPacket error) = refl
 section_aligned IsErrored = refl
+section_aligned (IsStray size) = refl
 
 section_bodiless : (w : WhatView) → section_bytes (without_body w) ≡ section_bytes w
 unfolding section_bytes
@@ -120,6 +121,7 @@ section_bodiless (IsPes header unended body) = refl
 section_bodiless (IsBadPes error) = refl
 section_bodiless (IsBadPacket error) = refl
 section_bodiless IsErrored = refl
+section_bodiless (IsStray size) = refl
 
 section_if : (b : Bool) (w : WhatView) → section_bytes (if b then with_alignment w else w) ≡ section_bytes w
 section_if true w = section_aligned w

@@ -9,7 +9,7 @@ use Rattle.pes_packet.specs.HeaderMarks.{header_marks}
 use Rattle.pes_packet.specs.declared.marks.Marks.{Marks}
 use Rattle.pes_packet.specs.declared.time_stamps.Stamps.{Stamps}
 use Rattle.pes_packet.specs.declared.time_stamps.Stamps.TheVariants.{Absent, Pts, PtsDts}
-use Rattle.demux.specs.Views.{WhatView, IsDuplicate, BreaksCounter, IsScrambled, IsTruncated, IsSection, IsBadSection, IsPes, IsBadPes, IsBadPacket, IsErrored}
+use Rattle.demux.specs.Views.{WhatView, IsDuplicate, BreaksCounter, IsScrambled, IsTruncated, IsSection, IsBadSection, IsPes, IsBadPes, IsBadPacket, IsErrored, IsStray}
 use Rattle.demux.specs.Views.{FindingView}
 use Rattle.demux.specs.Laws.{has_pid}
 use Rattle.es_units.specs.CarriedUnits.{RoleView, Ignored, Start, Continuation, pes_role, role_of_what, is_access_point, is_unstamped}
@@ -142,6 +142,7 @@ unfolding cause_of_what role_of_what id_of
 by_what split pid count packet at place current unstamped access IsDuplicate fs quiet next = by_ignored split pid current fs next
 by_what split pid count packet at place current unstamped access (IsBadPacket error) fs quiet next = by_ignored split pid current fs next
 by_what split pid count packet at place current unstamped access IsErrored fs quiet next = by_ignored split pid current fs next
+by_what split pid count packet at place current unstamped access (IsStray size) fs quiet next = absurd (told place causes.Stray quiet refl)
 by_what split pid count packet at place current unstamped access (BreaksCounter expected found) fs quiet next =
     absurd (told place (causes.Counter expected found) quiet refl)
 by_what split pid count packet at place current unstamped access IsScrambled fs quiet next = absurd (told place causes.Scrambled quiet refl)

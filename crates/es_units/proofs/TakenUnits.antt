@@ -9,7 +9,7 @@ use Rattle.pes_packet.specs.declared.marks.Marks.{Marks}
 use Rattle.pes_packet.specs.declared.time_stamps.Stamps.{Stamps}
 use Rattle.pes_packet.specs.declared.time_stamps.Stamps.TheVariants.{Absent, Pts, PtsDts}
 use Rattle.demux.specs.Laws.{has_pid, found_of}
-use Rattle.demux.specs.Views.{WhatView, IsDuplicate, BreaksCounter, IsScrambled, IsTruncated, IsSection, IsBadSection, IsPes, IsBadPes, IsBadPacket, IsErrored}
+use Rattle.demux.specs.Views.{WhatView, IsDuplicate, BreaksCounter, IsScrambled, IsTruncated, IsSection, IsBadSection, IsPes, IsBadPes, IsBadPacket, IsErrored, IsStray}
 use Rattle.demux.specs.Views.{FindingView}
 use Rattle.es_units.specs.CarriedUnits.{RoleView, Ignored, Start, Continuation, pes_role, role_of_what, role_of, is_access_point}
 use Rattle.es_units.specs.CarriedUnits.{is_unstamped, first_packet, carried_units}
@@ -52,6 +52,7 @@ in_what packet unstamped access (IsPes header unended body) = in_pes packet head
 in_what packet unstamped access (IsBadPes error) = refl
 in_what packet unstamped access (IsBadPacket error) = refl
 in_what packet unstamped access IsErrored = refl
+in_what packet unstamped access (IsStray size) = refl
 
 in_own : (own : Bool) (r : RoleView) (bytes : List ℕ) → in_role r bytes ≡ r → (let t : RoleView = if own then r else Ignored in in_role t bytes ≡ t)
 unfolding in_role

@@ -9,7 +9,7 @@ use Rattle.pes_packet.specs.declared.marks.Marks.{Marks}
 use Rattle.pes_packet.specs.declared.time_stamps.Stamps.{Stamps}
 use Rattle.pes_packet.specs.declared.time_stamps.Stamps.TheVariants.{Absent, Pts, PtsDts}
 use Rattle.demux.specs.Laws.{found_of, has_pid}
-use Rattle.demux.specs.Views.{WhatView, IsDuplicate, BreaksCounter, IsScrambled, IsTruncated, IsSection, IsBadSection, IsPes, IsBadPes, IsBadPacket, IsErrored}
+use Rattle.demux.specs.Views.{WhatView, IsDuplicate, BreaksCounter, IsScrambled, IsTruncated, IsSection, IsBadSection, IsPes, IsBadPes, IsBadPacket, IsErrored, IsStray}
 use Rattle.demux.specs.Views.{FindingView}
 use Rattle.es_units.specs.CarriedUnits.{role_of, role_of_what, pes_role, is_access_point, is_unstamped, is_cut, continuation, first_packet}
 use Rattle.es_units.specs.UnitWarnings.{current_after, first_cause, pes_cause, cause_of_what, is_empty, id_of, cause_of, warning_list, warnings_from}
@@ -65,6 +65,7 @@ alone_if_empty count packet current lost alone (IsBadSection error) = refl
 alone_if_empty count packet current lost alone (IsBadPes error) = refl
 alone_if_empty count packet current lost alone (IsBadPacket error) = refl
 alone_if_empty count packet current lost alone IsErrored = refl
+alone_if_empty count packet current lost alone (IsStray size) = refl
 alone_if_empty count packet current lost alone (IsPes header unended body) = alone_of_pes current lost alone unended header.id header.stamps (length body)
 
 -- before the first finding
@@ -102,6 +103,7 @@ by_what a b pid count packet current alone first unstamped access (IsBadSection 
 by_what a b pid count packet current alone first unstamped access (IsBadPes error) fs whole = refl
 by_what a b pid count packet current alone first unstamped access (IsBadPacket error) fs whole = refl
 by_what a b pid count packet current alone first unstamped access IsErrored fs whole = refl
+by_what a b pid count packet current alone first unstamped access (IsStray size) fs whole = refl
 by_what a b pid count packet current alone first unstamped access (IsPes header unended body) fs whole =
     by_stamps a b pid current alone unended header.id first (header_marks access header) header.stamps body fs whole
 

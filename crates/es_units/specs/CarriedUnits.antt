@@ -9,14 +9,14 @@ use Rattle.pes_packet.specs.declared.time_stamps.Stamps.{Stamps}
 use Rattle.pes_packet.specs.declared.time_stamps.Stamps.TheVariants.{Absent, Pts, PtsDts}
 use Rattle.demux.specs.declared.finding.Kind.{Kind}
 use Rattle.demux.specs.declared.finding.Kind.TheVariants as kinds
-use Rattle.demux.specs.Views.{WhatView, IsDuplicate, IsTruncated, IsPes, IsBadPacket, IsErrored, FindingView}
+use Rattle.demux.specs.Views.{WhatView, IsDuplicate, IsTruncated, IsPes, IsBadPacket, IsErrored, IsStray, FindingView}
 use Rattle.demux.specs.Laws.{has_pid}
 use Rattle.es_moments.specs.ApartUnits.{apart_units}
 use Rattle.es_moments.specs.WireUnits.{CarriedUnit, unit_with}
 
 -- 1. Roles
 
--- the role of a finding among the units of a PID: none (a duplicate packet, padding_stream, a finding of no PID or of another one);
+-- the role of a finding among the units of a PID: none (a duplicate packet, stray payload, padding_stream, a finding of no PID or of another one);
 -- the start of a unit (a PES packet with a PTS); more bytes of one, with the stream_id that they have (a PES packet without a PTS);
 -- or an interruption (anything else), and whether a PES packet without a PTS is cut short there
 pub data RoleView : Type 0 where
@@ -47,6 +47,7 @@ unfoldable pub role_of_what : ℕ → Bool → Bool → WhatView → RoleView
 role_of_what packet unstamped access IsDuplicate = Ignored
 role_of_what packet unstamped access (IsBadPacket error) = Ignored
 role_of_what packet unstamped access IsErrored = Ignored
+role_of_what packet unstamped access (IsStray size) = Ignored
 role_of_what packet unstamped access (IsPes header unended body) = pes_role packet header.id (header_marks access header) header.stamps body
 role_of_what packet unstamped access (IsTruncated bytes) = Interruption unstamped
 role_of_what packet unstamped access _ = Interruption false

@@ -2,7 +2,7 @@
 use Rattle.std.specs.Prelude.{Bool, true, false}
 use Rattle.es_units.specs.declared.unit_warning.UnitWarningCause.{UnitWarningCause}
 use Rattle.es_units.specs.declared.unit_warning.UnitWarningCause.TheVariants.{Counter, Scrambled, Truncated, TruncatedByEnd, Section, BadSection, BadPes}
-use Rattle.es_units.specs.declared.unit_warning.UnitWarningCause.TheVariants.{NoUnitBefore, OtherStreamId, PartLost, EmptyUnit, OpenEnded}
+use Rattle.es_units.specs.declared.unit_warning.UnitWarningCause.TheVariants.{NoUnitBefore, OtherStreamId, PartLost, EmptyUnit, OpenEnded, Stray}
 
 -- the end of a capture, a PES packet that may go on with a unit from before it, and a unit without bytes are no damage; nor is
 -- that a part of a unit is lost, since what it is lost by is damage, unless it is the end of a capture. A unit that is carried
@@ -20,6 +20,7 @@ is_damage (OtherStreamId id size) = true
 is_damage PartLost = false
 is_damage EmptyUnit = false
 is_damage OpenEnded = true
+is_damage Stray = true
 
 -- bytes are in no unit
 abbrev pub is_left_out : UnitWarningCause → Bool
@@ -35,6 +36,7 @@ is_left_out (OtherStreamId id size) = true
 is_left_out PartLost = true
 is_left_out EmptyUnit = false
 is_left_out OpenEnded = false
+is_left_out Stray = true
 
 -- packets are scrambled
 abbrev pub is_scrambled : UnitWarningCause → Bool

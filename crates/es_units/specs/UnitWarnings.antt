@@ -2,7 +2,7 @@
 use Rattle.std.specs.Prelude.{ℕ, ◌==◌, ◌&&◌, Bool, false, nat_le, if◌then◌else◌, Option, Some, None, List, [], ◌∷◌, ◌++◌, length}
 use Rattle.pes_packet.specs.declared.time_stamps.Stamps.{Stamps}
 use Rattle.pes_packet.specs.declared.time_stamps.Stamps.TheVariants.{Absent, Pts, PtsDts}
-use Rattle.demux.specs.Views.{WhatView, IsDuplicate, BreaksCounter, IsScrambled, IsTruncated, IsSection, IsBadSection, IsPes, IsBadPes, IsBadPacket, IsErrored}
+use Rattle.demux.specs.Views.{WhatView, IsDuplicate, BreaksCounter, IsScrambled, IsTruncated, IsSection, IsBadSection, IsPes, IsBadPes, IsBadPacket, IsErrored, IsStray}
 use Rattle.demux.specs.Views.{FindingView}
 use Rattle.demux.specs.Laws.{has_pid}
 use Rattle.es_units.specs.CarriedUnits.{RoleView, Ignored, Start, Continuation, Interruption, role_of, first_packet, continuation, is_cut, is_split}
@@ -54,6 +54,7 @@ cause_of_what count packet current lost alone (IsPes header unended body) = pes_
 cause_of_what count packet current lost alone (IsBadPes error) = Some (causes.BadPes error)
 cause_of_what count packet current lost alone (IsBadPacket error) = None
 cause_of_what count packet current lost alone IsErrored = None
+cause_of_what count packet current lost alone (IsStray size) = Some causes.Stray
 
 -- of a finding, with those after it
 unfoldable pub id_of : WhatView → ℕ

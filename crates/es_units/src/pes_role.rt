@@ -24,7 +24,7 @@ pub(crate) struct UnitStart<'f> {
 /// The role of a finding among the units of a PID.
 #[derive(Clone, Copy)]
 pub(crate) enum PesRole<'f> {
-    /// A duplicate packet, padding_stream, or a finding of no PID or of another one.
+    /// A duplicate packet, stray payload, padding_stream, or a finding of no PID or of another one.
     Ignored,
     /// A PES packet with a PTS: the first of a unit.
     Start(UnitStart<'f>),
@@ -123,6 +123,7 @@ pub(crate) fn role_of<'f, A: Allocator>(pid: u16, finding: &'f Finding<'_, A>) -
         What::Duplicate => PesRole::Ignored,
         What::BadPacket(_) => PesRole::Ignored,
         What::Errored => PesRole::Ignored,
+        What::Stray(_) => PesRole::Ignored,
         What::Pes { header, body, .. } => pes_role(
             first_packet(finding.packet, finding.begun),
             header.id,

@@ -31,6 +31,8 @@ pub enum UnitWarningCause {
     PartLost,
     /// A unit without bytes.
     EmptyUnit,
+    /// A packet whose payload is in no PES packet: nothing that it continues is open.
+    Stray,
     /// The last PES packet of a PID, which has neither a length nor an end, is taken as it stands: it may be cut.
     OpenEnded,
 }

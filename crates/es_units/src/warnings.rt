@@ -176,6 +176,7 @@ fn cause_of_what<A: Allocator>(
         What::BadPes(error) => Some(UnitWarningCause::BadPes(*error)),
         What::BadPacket(_) => None,
         What::Errored => None,
+        What::Stray(_) => Some(UnitWarningCause::Stray),
     }
 }
 

@@ -1,6 +1,6 @@
 -- Frames that enter the buffers of a stream one by one.
 use Rattle.std.proofs.Common.{◌≡◌, ◌∙◌, sym, ℕ, List, [], ◌∷◌, ◌++◌, Option, refl, ap, subst, append_assoc, append-nil}
-use Rattle.stream_coding.specs.declared.frame_walk.FramePart.{FramePart}
+use Rattle.sound_frames.specs.declared.frame_walk.FramePart.{FramePart}
 use Rattle.tstd_rows.specs.Held.{Held}
 use Rattle.tstd_rows.specs.HeldVideo.{HoldsVideoOf, VideoSizes}
 use Rattle.events.specs.declared.event.Event.{Event}

@@ -1,8 +1,8 @@
 -- A stream that is viewed by access units, or is not.
 use Rattle.std.proofs.Common.{◌≡◌, ◌∙◌, sym, ℕ, Bool, List, ◌++◌, Option, Some, None, refl, ap, subst}
 use Rattle.std.specs.Prelude.{unwrap_or, is_some, if◌then◌else◌}
-use Rattle.stream_coding.specs.declared.frame_headers.FrameKind.{FrameKind}
-use Rattle.stream_coding.specs.FrameWalks.{WalkView, walk_after}
+use Rattle.sound_frames.specs.declared.frame_headers.FrameKind.{FrameKind}
+use Rattle.sound_frames.specs.FrameWalks.{WalkView, walk_after}
 use Rattle.ts_packet.specs.Views.{PacketView}
 use Rattle.arrival.specs.declared.clock.PcrSample.{PcrSample}
 use Rattle.tstd_rows.specs.Held.{Held, IsHeld}

@@ -3,3 +3,4 @@ pub mod Frames
 pub mod Payloads
 pub mod Joins
 pub mod Framings
+pub mod MainNow

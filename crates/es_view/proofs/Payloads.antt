@@ -1,8 +1,8 @@
 -- A payload whose frames enter the buffers of a stream.
 use Rattle.std.proofs.Common.{◌≡◌, ◌∙◌, ℕ, Bool, List, ◌++◌, Option, refl, sym, ap, subst, append_assoc}
 use Rattle.std.specs.Prelude.{min}
-use Rattle.stream_coding.specs.declared.frame_walk.FramePart.{FramePart}
-use Rattle.stream_coding.specs.FrameWalks.{WalkView}
+use Rattle.sound_frames.specs.declared.frame_walk.FramePart.{FramePart}
+use Rattle.sound_frames.specs.FrameWalks.{WalkView}
 use Rattle.tstd_rows.specs.Entering.{after_first, size_of}
 use Rattle.tstd_rows.specs.Held.{Held}
 use Rattle.events.specs.declared.event.Event.{Event}
@@ -12,9 +12,10 @@ use Rattle.es_view.specs.declared.view_options.ViewOptions.{ViewOptions}
 use Rattle.es_view.specs.EntryFrames.{Counted, FramedPayload, count_of, frames_after, frames_among, frames_events, front_after, front_events, front_held}
 use Rattle.es_view.specs.EntryFrames.{payload_after, payload_events, place_of}
 
-pub same_place : (limit base base' tick tick' : ℕ) → base ≡ base' → tick ≡ tick' →
-    ◌≡◌ {A = FramePlace} (record { limit = limit; base = base; tick = tick }) (record { limit = limit; base = base'; tick = tick' })
-same_place limit base base' tick tick' p q = rw (p, q) refl
+pub same_place : (packet limit base base' tick tick' : ℕ) → base ≡ base' → tick ≡ tick' →
+    ◌≡◌ {A = FramePlace} (record { packet = packet; limit = limit; base = base; tick = tick })
+    (record { packet = packet; limit = limit; base = base'; tick = tick' })
+same_place packet limit base base' tick tick' p q = rw (p, q) refl
 
 -- what is said of the buffers after the payload's front and its frames is said of them after the payload
 pub after_payload : (S : Counted → Type 0) (options : ViewOptions) (window : ℕ) (unread : Bool) (limit : ℕ) (p : FramedPayload) (w : WalkView) (tick : ℕ)

@@ -25,14 +25,15 @@ use Rattle.es_view.specs.declared.tally.Tally.{Tally}
 use Rattle.es_view.specs.Clocks.{ahead_of, beginning_of, due_at, longest_stay}
 use Rattle.es_view.specs.EntryEvents.{ahead_events, closing_events, ended_events}
 use Rattle.es_view.specs.HeldEvents.{tally_events}
+use Rattle.es_view.specs.TraceEvents.{trace_events}
 use Rattle.es_view.specs.MarkTallies.{mark_events, with_beginning}
 use Rattle.es_view.specs.declared.mark_tally.MarkTally.{MarkTally}
-use Rattle.es_view.specs.Tallies.{more, tally_after, with_unit_if}
+use Rattle.es_view.specs.Tallies.{more, tally_with, with_unit_if}
 use Rattle.es_view.specs.EntryStays.{busy_closing, delayed_events, is_idle, overstay_if, payload_byte}
 use Rattle.es_view.specs.EntryFrames.{Counted, FramedPayload, busy_seen, frame_bytes, frames_among, frames_held, front_held, is_leak_idle, leak_busy_of}
 use Rattle.es_view.specs.EntryFrames.{leak_under_way, payload_after, payload_events, place_of, stays_ended, unit_tick, walk_in, whole_events}
 use Rattle.es_view.specs.declared.entry_frames.EntryFrames.{EntryFrames}
-use Rattle.stream_coding.specs.FrameWalks.{WalkView, walk_after}
+use Rattle.sound_frames.specs.FrameWalks.{WalkView, walk_after}
 use Rattle.events.specs.declared.rule_event.BufferKind.{BufferKind}
 use Rattle.events.specs.declared.rule_event.BufferKind.TheVariants.{Elementary, Main, Multiplexing, Transport}
 use Rattle.tstd_rows.specs.declared.busy_watch.Stay.{Stay}
@@ -150,6 +151,12 @@ arriving_at options index clock e packet = arriving options index e.held.rx e.co
 abbrev pub entered_at : ViewOptions → ℕ → Option PcrSample → EntryState → PacketView → EnteredView
 entered_at options index clock e packet = entered e.held options.arrival (arriving_at options index clock e packet)
 
+-- what is counted of it
+abbrev pub counted_tally : ViewOptions → ℕ → ℕ → Option PcrSample → EntryState → PacketView → Tally
+counted_tally options index window clock e packet =
+    tally_with e.tally window (is_unread (beginning_in e.counter packet)) (after e.held options.arrival (arriving_at options index clock e packet)) index
+    (entered_at options index clock e packet)
+
 -- and what it has ended in the two buffers of video
 abbrev pub video_at : ViewOptions → ℕ → Option PcrSample → EntryState → PacketView → VideoEnteredView
 video_at options index clock e packet = video_of e.video e.held options.arrival (arriving_at options index clock e packet)
@@ -215,7 +222,7 @@ entry_entered options index window clock e packet = record {
   clock_pid = e.clock_pid;
   counter = e.counter;
   held = after e.held options.arrival (arriving_at options index clock e packet);
-  tally = tally_after e.tally window (is_unread (beginning_in e.counter packet)) (entered_at options index clock e packet);
+  tally = counted_tally options index window clock e packet;
   video = e.video;
   video_tally = video_tally_after options index clock e.framed e packet;
   mark_tally = e.mark_tally;
@@ -231,7 +238,7 @@ entry_after options index window clock e packet = record {
   clock_pid = e.clock_pid;
   counter = counter_after e.counter packet;
   held = after e.held options.arrival (arriving_at options index clock e packet);
-  tally = tally_after e.tally window (is_unread (beginning_in e.counter packet)) (entered_at options index clock e packet);
+  tally = counted_tally options index window clock e packet;
   video = e.video;
   video_tally = video_tally_after options index clock e.framed e packet;
   mark_tally = with_beginning e.mark_tally (beginning_in e.counter packet) packet;
@@ -281,7 +288,7 @@ entry_events options index clock e packet =
 
 -- those of a window
 abbrev pub units_of : ViewOptions → ℕ → EntryState → List Event
-units_of options window e = tally_events options window (place_at 0 e) (seen_tally e)
+units_of options window e = tally_events options window (place_at 0 e) (seen_tally e) (seen_held e)
 
 -- those at the end
 abbrev pub stays_closing : ViewOptions → Place → EntryState → List Event
@@ -289,12 +296,21 @@ stays_closing options place e =
     busy_closing options place Transport (transport_busy_under_way (seen_held e))
     ++ busy_closing options place Multiplexing (leak_under_way e.video (seen_held e))
 
+-- what its buffers come to, with a tally
+abbrev pub totals_of : ViewOptions → Place → Tally → EntryState → List Event
+totals_of options place tally e =
+    closing_events options place (seen_held e) tally
+    ++ (video_closing_events options place (figures_of e.video (seen_held e)) tally.units e.video_tally
+    ++ (stays_closing options place e ++ mark_events e.pid e.mark_tally))
+
 abbrev pub end_events : ViewOptions → ℕ → ℕ → EntryState → List Event
 end_events options packets window e =
-    tally_events options window (place_at packets e) (closed_seen window e)
-    ++ (closing_events options (place_at packets e) (seen_held e) (closed_seen window e)
-    ++ (video_closing_events options (place_at packets e) (figures_of e.video (seen_held e)) (closed_seen window e).units e.video_tally
-    ++ (stays_closing options (place_at packets e) e ++ mark_events e.pid e.mark_tally)))
+    tally_events options window (place_at packets e) (closed_seen window e) (seen_held e)
+    ++ totals_of options (place_at packets e) (closed_seen window e) e
+
+-- what its buffers held near the greatest excess of each
+abbrev pub traces_of : ViewOptions → EntryState → List Event
+traces_of options e = trace_events options (place_at 0 e) (seen_tally e).traces
 
 -- no buffer held more than its size, and no unit was late: the same of the two buffers of video, if they are viewed
 abbrev pub is_sound : EntryState → Bool

@@ -2,7 +2,7 @@
 use Rattle.std.specs.Prelude.{ℕ, ◌+◌, ◌-◌, ◌*◌, ◌/◌, ◌^◌, min, max, is_some, if◌then◌else◌, List, [], ◌∷◌, ◌++◌, map, Option, Some, None}
 use Rattle.std.specs.Option.{option_to_list}
 use Rattle.stream_coding.specs.declared.coding.Coding.{Coding}
-use Rattle.stream_coding.specs.declared.buffers.Buffers.{Buffers}
+use Rattle.es_buffers.specs.declared.buffers.Buffers.{Buffers}
 use Rattle.arrival.specs.Arrivals.{step_of}
 use Rattle.stream_programs.specs.Streams.{FoundStreamView}
 use Rattle.tstd_rows.specs.declared.excess.Excess.{Excess}

@@ -6,8 +6,8 @@ use Rattle.std.specs.Prelude.{◌∷◌, ◌++◌, Option, Some, None}
 use Rattle.ts_packet.specs.Views.{PacketView}
 use Rattle.arrival.specs.Arrivals.{step_of}
 use Rattle.arrival.specs.declared.clock.PcrSample.{PcrSample}
-use Rattle.stream_coding.specs.declared.frame_walk.FramePart.{FramePart}
-use Rattle.stream_coding.specs.FrameWalks.{WalkView, frames_in, restarted, strayed}
+use Rattle.sound_frames.specs.declared.frame_walk.FramePart.{FramePart}
+use Rattle.sound_frames.specs.FrameWalks.{WalkView, frames_in, restarted, strayed}
 use Rattle.tstd_rows.specs.DueTimes.{due_on}
 use Rattle.tstd_rows.specs.declared.arriving.Arriving.{Arriving}
 use Rattle.tstd_rows.specs.declared.arriving.UnitPart.{UnitPart}
@@ -35,7 +35,7 @@ use Rattle.es_view.specs.declared.view_options.ViewOptions.{ViewOptions}
 use Rattle.es_view.specs.Clocks.{due_tick, longest_stay}
 use Rattle.es_view.specs.EntryEvents.{ended_events}
 use Rattle.es_view.specs.EntryStays.{busy_ended, delayed_events, is_idle, overstay_of}
-use Rattle.es_view.specs.Tallies.{more, tally_after}
+use Rattle.es_view.specs.Tallies.{more, tally_with}
 
 -- 1. The bytes of a PES packet
 
@@ -102,7 +102,7 @@ pub record AreCounted (b : CountedBuffers) (c : Counted) : Type 0 where
 abbrev pub whole_after : ViewOptions → ℕ → Bool → Arriving → Counted → Counted
 whole_after options window unread p c = record {
   held = after c.held options.arrival p;
-  tally = tally_after c.tally window unread (entered c.held options.arrival p);
+  tally = tally_with c.tally window unread (after c.held options.arrival p) p.index (entered c.held options.arrival p);
   delayed = c.delayed;
 }
 
@@ -115,7 +115,8 @@ whole_events options place p sizes h =
 abbrev pub front_after : ViewOptions → ℕ → Bool → Arriving → ℕ → Counted → Counted
 front_after options window unread p count c = record {
   held = after_first c.held options.arrival p (min count (size_of p));
-  tally = tally_after c.tally window unread (entered_first c.held options.arrival p (min count (size_of p)));
+  tally = tally_with c.tally window unread (after_first c.held options.arrival p (min count (size_of p))) p.index
+      (entered_first c.held options.arrival p (min count (size_of p)));
   delayed = c.delayed;
 }
 
@@ -129,7 +130,8 @@ part_of options at h p = unit_part options h.rx at.base at.tick p
 abbrev pub frame_after : ViewOptions → FramePlace → ℕ → Counted → FramePart → Counted
 frame_after options at window c p = record {
   held = after_part c.held options.arrival (part_of options at c.held p);
-  tally = tally_after c.tally window false (entered_part c.held options.arrival (part_of options at c.held p));
+  tally = tally_with c.tally window false (after_part c.held options.arrival (part_of options at c.held p)) at.packet
+      (entered_part c.held options.arrival (part_of options at c.held p));
   delayed = more c.delayed (if is_some (overstay_of options at.limit (part_of options at c.held p).byte (frame_tick at.tick p)) then 1 else 0);
 }
 
@@ -178,7 +180,12 @@ abbrev pub count_of : FramedPayload → WalkView → ℕ
 count_of p w = front_count (header_size p) p.arriving.size (frames_among p w)
 
 abbrev pub place_of : ℕ → FramedPayload → ℕ → FramePlace
-place_of limit p tick = record { limit = limit; base = min (p.base + header_size p) (2 ^ 64 - 1); tick = unwrap_or p.tick tick }
+place_of limit p tick = record {
+  packet = p.arriving.index;
+  limit = limit;
+  base = min (p.base + header_size p) (2 ^ 64 - 1);
+  tick = unwrap_or p.tick tick;
+}
 
 abbrev pub payload_after : ViewOptions → ℕ → Bool → ℕ → FramedPayload → WalkView → ℕ → Counted → Counted
 payload_after options window unread limit p w tick c =

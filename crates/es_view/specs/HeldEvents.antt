@@ -1,5 +1,7 @@
 -- What is found of a stream in a window: what its buffers held, and the units that ended in it.
-use Rattle.std.specs.Prelude.{ℕ, ◌==◌, ◌&&◌, nat_lt, unwrap_or, if◌then◌else◌, List, [], ◌∷◌, ◌++◌}
+use Rattle.std.specs.Prelude.{ℕ, ◌==◌, ◌&&◌, nat_lt, if◌then◌else◌, List, [], ◌∷◌, ◌++◌, Option, Some, None}
+use Rattle.tstd_rows.specs.Held.{Held}
+use Rattle.tstd_rows.specs.History.{last_of, main_fullness}
 use Rattle.events.specs.declared.event.Event.{Event}
 use Rattle.events.specs.declared.event.Event.TheVariants as found
 use Rattle.es_view.specs.declared.entry_events.Place.{Place}
@@ -7,19 +9,31 @@ use Rattle.es_view.specs.declared.tally.Tally.{Tally}
 use Rattle.es_view.specs.declared.view_options.ViewOptions.{ViewOptions}
 use Rattle.es_view.specs.EntryEvents.{span_of}
 
--- the most bytes that were in each buffer when a byte of its packets entered, and the least that one of them found in the main buffer,
--- itself not counted; 0 if none entered
-abbrev pub held_event : Place → Tally → Event
-held_event place t = found.Held (record {
+-- the bytes in the main buffer when the last byte of the stream so far has left the transport buffer
+abbrev pub main_now : Held → ℕ
+main_now h = main_fullness h.rate h.parts (last_of h.rate h.parts)
+
+-- the most bytes in the main buffer, and the least: when a payload byte of the window entered it, itself included, and that such a byte found, itself
+-- not counted; if none entered, what it holds after the stream's last packet
+unfoldable pub main_held : ℕ → Held → Option ℕ → ℕ × ℕ
+main_held most h None = (main_now h, main_now h)
+main_held most h (Some least) = (most, least)
+
+-- beside these the most bytes in the transport buffer when a byte of the window's packets entered it
+abbrev pub held_with : Place → Tally → ℕ × ℕ → Event
+held_with place t main = found.Held (record {
   number = t.window;
   pid = place.pid;
   transport = t.window_transport;
-  main = t.window_main;
-  main_least = unwrap_or t.window_least 0;
+  main = main.0;
+  main_least = main.1;
 })
 
-abbrev pub held_events : ℕ → Place → Tally → List Event
-held_events window place t = if (t.window == window) && nat_lt 0 t.window_transport then held_event place t ∷ [] else []
+abbrev pub held_event : Place → Tally → Held → Event
+held_event place t h = held_with place t (main_held t.window_main h t.window_least)
+
+abbrev pub held_events : ℕ → Place → Tally → Held → List Event
+held_events window place t h = if (t.window == window) && nat_lt 0 t.window_transport then held_event place t h ∷ [] else []
 
 -- and the units that ended in it, with the least slack of one
 abbrev pub unit_event : ViewOptions → Place → Tally → Event
@@ -34,5 +48,5 @@ unit_event options place t = found.Units (record {
 abbrev pub unit_events : ViewOptions → ℕ → Place → Tally → List Event
 unit_events options window place t = if (t.window == window) && nat_lt 0 t.window_units then unit_event options place t ∷ [] else []
 
-abbrev pub tally_events : ViewOptions → ℕ → Place → Tally → List Event
-tally_events options window place t = held_events window place t ++ unit_events options window place t
+abbrev pub tally_events : ViewOptions → ℕ → Place → Tally → Held → List Event
+tally_events options window place t h = held_events window place t h ++ unit_events options window place t

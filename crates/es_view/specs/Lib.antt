@@ -6,6 +6,7 @@ pub mod VideoTallies
 pub mod VideoFigures
 pub mod VideoEvents
 pub mod HeldEvents
+pub mod TraceEvents
 pub mod EntryStays
 pub mod EntryFrames
 pub mod Entries

@@ -1,9 +1,14 @@
 -- What is counted of a stream: excesses, units, and in a window what its buffers held and the units that ended.
-use Rattle.std.specs.Prelude.{ℕ, ◌+◌, ◌-◌, ◌^◌, ◌==◌, max, min, nat_lt, Bool, if◌then◌else◌, length, Option, Some, None}
+use Rattle.std.specs.Prelude.{ℕ, ◌+◌, ◌-◌, ◌^◌, ◌==◌, max, min, nat_lt, Bool, if◌then◌else◌, is_some, length, Option, Some, None}
 use Rattle.tstd_rows.specs.Entering.{EnteredView}
 use Rattle.tstd_rows.specs.Lows.{least_of_both}
 use Rattle.tstd_rows.specs.declared.unit_seen.UnitSeen.{UnitSeen}
 use Rattle.es_view.specs.declared.tally.Tally.{Tally}
+use Rattle.fault_traces.specs.Traces.{no_traces, traces_after}
+use Rattle.fault_traces.specs.declared.row.TraceRow.{TraceRow}
+use Rattle.tstd_rows.specs.Held.{Held}
+use Rattle.tstd_rows.specs.History.{last_of}
+use Rattle.tstd_rows.specs.Limits.{tb_size}
 
 abbrev pub none_counted : Tally
 none_counted = record {
@@ -19,6 +24,7 @@ none_counted = record {
   window_units = 0;
   window_late = 0;
   slack = 2 ^ 128 - 1;
+  traces = no_traces;
 }
 
 -- numbers stop at 2^64 - 1
@@ -84,3 +90,22 @@ excess_counts e = (length e.transport, length e.main)
 -- what a packet, or a part of it, has ended, of which the header was read or not
 abbrev pub tally_after : Tally → ℕ → Bool → EnteredView → Tally
 tally_after t window unread e = with_unit_if (with_excesses (with_packet t window e) (length e.transport) (length e.main) unread) window e.unit
+
+-- what a packet, or a part of it, found in the buffers that hold this after it
+abbrev pub row_of : Held → ℕ → EnteredView → TraceRow
+row_of h packet e = record {
+  packet = packet;
+  left = last_of h.rate h.parts;
+  transport = e.transport_most;
+  main = e.main_most;
+  least = e.main_least;
+  begins = is_some e.unit;
+}
+
+-- what is kept of it, where the main buffer has a size
+abbrev pub with_row : Tally → ℕ → TraceRow → Tally
+with_row t main row = record t { traces = traces_after t.traces row tb_size main }
+
+-- a packet, or a part of it, is counted, and what it found is kept
+abbrev pub tally_with : Tally → ℕ → Bool → Held → ℕ → EnteredView → Tally
+tally_with t window unread h packet e = with_row (tally_after t window unread e) h.main.size (row_of h packet e)

@@ -7,7 +7,8 @@ ghost use Rattle.es_view.specs.VideoTallies.{with_video};
 ghost use Rattle.tstd_rows.specs.HeldVideo.{HoldsVideoOf, VideoSizes};
 ghost use Rattle.es_view.specs.EntryFrames as spec;
 ghost use Rattle.es_view.specs.EntryFrames.{AreCounted, Counted};
-ghost use Rattle.es_view.specs.Tallies.{excess_counts, more, tally_after};
+ghost use Rattle.es_view.specs.Tallies.{excess_counts, more, row_of, tally_with};
+ghost use Rattle.tstd_rows.specs.History.{last_of};
 
 use crate::clocks::LONGEST_STAY;
 use crate::entry_events::{Place, push_ended};
@@ -18,8 +19,9 @@ use crate::video_figures::video_limits;
 use crate::video_tally::VideoTally;
 use crate::view_options::ViewOptions;
 use events::{BufferKind, Event};
+use fault_traces::TraceRow;
+use sound_frames::FramePart;
 use std::alloc::AllocError;
-use stream_coding::FramePart;
 use tstd_rows::{Arriving, BusyWatch, DueTime, Entered, Stay, StreamBuffers, UnitPart};
 
 // No time in ticks that counts is after this one.
@@ -40,10 +42,11 @@ pub(crate) struct BusySeen {
     pub multiplexing: Option<BusyWatch>,
 }
 
-/// Where the frames of a payload are: how long in ticks a byte may stay, the first of its bytes of frames, and when the
-/// unit is due, in ticks from the stream's first byte.
+/// Where the frames of a payload are: its packet, how long in ticks a byte may stay, the first of its bytes of frames,
+/// and when the unit is due, in ticks from the stream's first byte.
 #[derive(Clone, Copy)]
 pub(crate) struct FramePlace {
+    pub packet: u64,
     pub limit: u64,
     pub base: u64,
     pub tick: u128,
@@ -59,15 +62,47 @@ fn excess_counts(entered: &Entered) -> (u64, u64)
     (transport, u64::from(entered.main.is_some()))
 }
 
-/// Counts what has ended with a packet, or with a part of it.
+// When the last byte so far leaves the transport buffer.
 #[inline(always)]
-pub(crate) fn add_entered(tally: &mut Tally, window: u64, unread: bool, entered: &Entered)
-    ensures { tally.new ≡ tally_after tally.old window unread (entered_view entered.now) }
+fn last_left(buffers: &StreamBuffers) -> u128
+    ensures { (h : Held) → IsHeld buffers.now h → result ≡ last_of h.rate h.parts }
+{
+    buffers.view.transport.last
+}
+
+// What a packet, or a part of it, found in the buffers.
+#[inline(always)]
+fn row_of(buffers: &StreamBuffers, packet: u64, entered: &Entered) -> TraceRow
+    ensures { (h : Held) → IsHeld buffers.now h → result ≡ row_of h packet (entered_view entered.now) }
+{
+    TraceRow {
+        packet,
+        left: last_left(buffers),
+        transport: entered.transport_most,
+        main: entered.main_most,
+        least: entered.main_least,
+        begins: entered.unit.is_some(),
+    }
+}
+
+/// Counts what has ended with a packet, or with a part of it, and keeps what it found in the buffers.
+#[inline(always)]
+pub(crate) fn add_entered(
+    tally: &mut Tally,
+    buffers: &StreamBuffers,
+    packet: u64,
+    window: u64,
+    unread: bool,
+    entered: &Entered,
+)
+    ensures { (h : Held) → IsHeld buffers.now h →
+        tally.new ≡ tally_with tally.old window unread h packet (entered_view entered.now) }
 {
     let (transport, main) = excess_counts(entered);
     tally.add_packet(window, entered);
     tally.add_excesses(transport, main, unread);
     tally.add_unit_if(window, &entered.unit);
+    tally.add_row(buffers.main.size, row_of(buffers, packet, entered));
 }
 
 // When a frame is due, in ticks.
@@ -153,7 +188,15 @@ impl CountedBuffers {
             .enter_into(&options.arrival, arriving, &mut entered)?;
         push_ended(events, options, place, &entered)?;
         push_video_ended(events, options, place, &limits, &entered.video)?;
-        add_entered(&mut self.tally, window, unread, &entered);
+        let packet = arriving.index;
+        add_entered(
+            &mut self.tally,
+            &self.buffers,
+            packet,
+            window,
+            unread,
+            &entered,
+        );
         video_tally.add_packet(&entered.video);
         Ok(())
     }
@@ -179,7 +222,15 @@ impl CountedBuffers {
         self.buffers
             .enter_front(&options.arrival, arriving, count, &mut entered)?;
         push_ended(events, options, place, &entered)?;
-        add_entered(&mut self.tally, window, unread, &entered);
+        let packet = arriving.index;
+        add_entered(
+            &mut self.tally,
+            &self.buffers,
+            packet,
+            window,
+            unread,
+            &entered,
+        );
         Ok(())
     }
 
@@ -206,7 +257,14 @@ impl CountedBuffers {
         push_ended(events, options, place, &entered)?;
         let stay = overstay_of(options, at.limit, part.byte, frame_tick(at.tick, frame));
         push_delayed_if(events, options, place, BufferKind::Main, at.limit, &stay)?;
-        add_entered(&mut self.tally, window, false, &entered);
+        add_entered(
+            &mut self.tally,
+            &self.buffers,
+            at.packet,
+            window,
+            false,
+            &entered,
+        );
         self.add_delayed_if(&stay);
         Ok(())
     }

@@ -9,11 +9,12 @@ use crate::clocks::LONGEST_STAY;
 use crate::tally::Tally;
 use crate::view_options::ViewOptions;
 use clock27::units::BYTE_TICKS_AT_1BPS;
+use es_buffers::Buffers;
 use events::{
     BufferExcess, Event, FarAhead, LateUnit, MainTotals, PidName, StreamBegin, TransportTotals,
 };
 use std::alloc::AllocError;
-use stream_coding::{Buffers, Coding};
+use stream_coding::Coding;
 use stream_programs::FoundStream;
 use tstd_rows::{Entered, Excess, StreamBuffers, TRANSPORT_BYTES, UnitSeen};
 

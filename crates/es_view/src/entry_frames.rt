@@ -1,6 +1,6 @@
 //! The frames of a stream of sound whose main buffer is viewed by access units.
 ghost use Rattle.std.specs.Prelude.{◌≡◌, ◌++◌, ◌<◌, ◌^◌, OnOk, Option, unwrap_or};
-ghost use Rattle.stream_coding.specs.FrameWalks.{WalkView, no_walk, walk_after};
+ghost use Rattle.sound_frames.specs.FrameWalks.{WalkView, no_walk, walk_after};
 ghost use Rattle.ts_packet.specs.Views.{packet_view};
 ghost use Rattle.tstd_rows.specs.HeldVideo.{HoldsVideoOf, VideoSizes};
 ghost use Rattle.es_view.specs.EntryFrames as spec;
@@ -11,8 +11,8 @@ use crate::counted_buffers::{CountedBuffers, FramePlace};
 use crate::entry_events::Place;
 use crate::view_options::ViewOptions;
 use events::Event;
+use sound_frames::{FrameKind, FramePart, FrameWalk};
 use std::alloc::{AllocError, Global};
-use stream_coding::{FrameKind, FramePart, FrameWalk};
 use ts_packet::Packet;
 use tstd_rows::Arriving;
 
@@ -141,6 +141,7 @@ impl EntryFrames {
             events,
         )?;
         let at = FramePlace {
+            packet: payload.arriving.index,
             limit,
             base: payload.base.saturating_add(before),
             tick,

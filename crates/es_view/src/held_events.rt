@@ -1,22 +1,39 @@
 //! Events of a stream in a window: what its buffers held, and the units that ended.
 ghost use Rattle.std.specs.Prelude.{◌≡◌, ◌++◌, OnOk};
+ghost use Rattle.tstd_rows.specs.Held.{Held, IsHeld};
 ghost use Rattle.es_view.specs.HeldEvents as spec;
 
 use crate::entry_events::{Place, span_of};
+use crate::main_now::main_now;
 use crate::tally::Tally;
 use crate::view_options::ViewOptions;
 use events::{Event, HeldFigures, UnitFigures};
 use std::alloc::AllocError;
+use tstd_rows::StreamBuffers;
 
-fn held_event(place: &Place, tally: &Tally) -> Event
-    ensures { result ≡ spec.held_event place.now tally.now }
+// The most and the least bytes in the main buffer: if no payload byte entered it, what it holds now.
+#[tactic(auto, unfolding(crate::specs::HeldEvents::main_held))]
+fn main_held(tally: &Tally, buffers: &StreamBuffers) -> (u64, u64)
+    ensures { (h : Held) → IsHeld buffers.now h → result ≡ spec.main_held tally.now.window_main h tally.now.window_least }
+{
+    match tally.window_least {
+        None => {
+            let now = main_now(buffers);
+            (now, now)
+        }
+        Some(least) => (tally.window_main, least),
+    }
+}
+
+fn held_event(place: &Place, tally: &Tally, main: (u64, u64)) -> Event
+    ensures { result ≡ spec.held_with place.now tally.now main }
 {
     Event::Held(HeldFigures {
         number: tally.window,
         pid: place.pid,
         transport: tally.window_transport,
-        main: tally.window_main,
-        main_least: tally.window_least.unwrap_or(0),
+        main: main.0,
+        main_least: main.1,
     })
 }
 
@@ -38,11 +55,14 @@ fn push_held_if(
     window: u64,
     place: &Place,
     tally: &Tally,
+    buffers: &StreamBuffers,
 ) -> Result<(), AllocError>
-    ensures { OnOk result (events.new.items ≡ events.old.items ++ spec.held_events window place.now tally.now) }
+    ensures { (h : Held) → IsHeld buffers.now h → OnOk result (events.new.items
+        ≡ events.old.items ++ spec.held_events window place.now tally.now h) }
 {
     if tally.window == window && tally.window_transport > 0 {
-        events.push(held_event(place, tally))?;
+        let main = main_held(tally, buffers);
+        events.push(held_event(place, tally, main))?;
     }
     Ok(())
 }
@@ -71,10 +91,11 @@ pub(crate) fn push_window_if(
     window: u64,
     place: &Place,
     tally: &Tally,
+    buffers: &StreamBuffers,
 ) -> Result<(), AllocError>
-    ensures { OnOk result (events.new.items
-        ≡ events.old.items ++ spec.tally_events options.now window place.now tally.now) }
+    ensures { (h : Held) → IsHeld buffers.now h → OnOk result (events.new.items
+        ≡ events.old.items ++ spec.tally_events options.now window place.now tally.now h) }
 {
-    push_held_if(events, window, place, tally)?;
+    push_held_if(events, window, place, tally, buffers)?;
     push_units_if(events, options, window, place, tally)
 }

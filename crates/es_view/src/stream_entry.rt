@@ -18,6 +18,7 @@ use crate::entry_stays::{
 use crate::held_events::push_window_if;
 use crate::mark_tally::{MarkTally, push_marks};
 use crate::tally::Tally;
+use crate::trace_events::push_traces;
 use crate::video_events::push_video_closing;
 use crate::video_figures::{is_video_good, video_figures};
 use crate::video_tally::VideoTally;
@@ -397,7 +398,14 @@ impl StreamEntry {
         ensures { (e : EntryState) → IsEntry self.now e → OnOk result (events.new.items
             ≡ events.old.items ++ spec.units_of options.now window e) }
     {
-        push_window_if(events, options, window, &self.place(0), &self.seen.tally)
+        push_window_if(
+            events,
+            options,
+            window,
+            &self.place(0),
+            &self.seen.tally,
+            &self.seen.buffers,
+        )
     }
 
     // Appends which buffers are not empty for more than a second at the end.
@@ -422,6 +430,31 @@ impl StreamEntry {
         )
     }
 
+    // Appends what its buffers come to, with a tally.
+    fn push_totals(
+        &self,
+        events: &mut Vec<Event>,
+        options: &ViewOptions,
+        place: &Place,
+        tally: &Tally,
+    ) -> Result<(), AllocError>
+        ensures { (e : EntryState) → IsEntry self.now e → OnOk result (events.new.items
+            ≡ events.old.items ++ spec.totals_of options.now place.now tally.now e) }
+    {
+        push_closing(events, options, place, &self.seen.buffers, tally)?;
+        let figures = video_figures(&self.seen.buffers);
+        push_video_closing(
+            events,
+            options,
+            place,
+            &figures,
+            tally.units,
+            &self.video_tally,
+        )?;
+        self.push_stays_closing(events, options, place)?;
+        push_marks(events, self.pid, &self.mark_tally)
+    }
+
     /// Appends its events at the end, after `packets` packets, the last of them in a window.
     pub fn push_end(
         &self,
@@ -435,19 +468,20 @@ impl StreamEntry {
     {
         let tally = self.closed(window);
         let place = self.place(packets);
-        push_window_if(events, options, window, &place, &tally)?;
-        push_closing(events, options, &place, &self.seen.buffers, &tally)?;
-        let figures = video_figures(&self.seen.buffers);
-        push_video_closing(
-            events,
-            options,
-            &place,
-            &figures,
-            tally.units,
-            &self.video_tally,
-        )?;
-        self.push_stays_closing(events, options, &place)?;
-        push_marks(events, self.pid, &self.mark_tally)
+        push_window_if(events, options, window, &place, &tally, &self.seen.buffers)?;
+        self.push_totals(events, options, &place, &tally)
+    }
+
+    /// Appends what its buffers held near the greatest excess of each.
+    pub fn push_traces(
+        &self,
+        events: &mut Vec<Event>,
+        options: &ViewOptions,
+    ) -> Result<(), AllocError>
+        ensures { (e : EntryState) → IsEntry self.now e → OnOk result (events.new.items
+            ≡ events.old.items ++ spec.traces_of options.now e) }
+    {
+        push_traces(events, options, &self.place(0), &self.seen.tally.traces)
     }
 
     // Whether neither the transport buffer nor the main buffer held more than its size, and no unit was late.

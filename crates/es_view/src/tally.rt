@@ -4,7 +4,8 @@ ghost use Rattle.tstd_rows.specs.Entering.{entered_view};
 ghost use Rattle.tstd_rows.specs.Lows.{least_of_both};
 ghost use Rattle.es_view.specs.Tallies as spec;
 
-use tstd_rows::{Entered, UnitSeen};
+use fault_traces::{TraceRow, Traces};
+use tstd_rows::{Entered, TRANSPORT_BYTES, UnitSeen};
 
 /// The counts of a stream. Numbers stop at 2^64 - 1. It is changed in place, so that it is not moved.
 #[derive(Clone, Copy)]
@@ -27,6 +28,8 @@ pub struct Tally {
     pub window_units: u64,
     pub window_late: u64,
     pub slack: u128,
+    /// What the buffers held near the greatest excess of each.
+    pub traces: Traces,
 }
 
 // The least of two numbers, of which there may be none.
@@ -59,6 +62,7 @@ impl Tally {
             window_units: 0,
             window_late: 0,
             slack: u128::MAX,
+            traces: Traces::new(),
         }
     }
 
@@ -123,5 +127,13 @@ impl Tally {
         self.excesses = self.excesses.saturating_add(transport);
         self.main_excesses = self.main_excesses.saturating_add(main);
         self.unread = self.unread.saturating_add(u64::from(unread));
+    }
+
+    /// Takes what a packet, or a part of it, found in its buffers, the main buffer of which has a size.
+    #[inline(always)]
+    pub fn add_row(&mut self, main: u64, row: TraceRow)
+        ensures { self.new ≡ spec.with_row self.old main row }
+    {
+        self.traces.add(row, TRANSPORT_BYTES, main);
     }
 }

@@ -101,6 +101,7 @@ rule_fault (rules.NotEmpty e) at = Some (stay_fault kinds.NotEmpty e)
 rule_fault (rules.Delayed e) at = Some (stay_fault kinds.Delayed e)
 rule_fault (rules.VariableRate e) at = None
 rule_fault (rules.ClockWindow e) at = None
+rule_fault (rules.FaultTrace e) at = None
 
 unfoldable pub buffer_fault : Event → Option ℕ → Option Fault
 buffer_fault (events.Input e) at = None

@@ -230,12 +230,14 @@ pub struct PidTotals {
     pub pcrs: u64,
 }
 
-/// The end of a stream: all its packets, the refused packets, and the bytes left after the last whole packet.
+/// The end of a stream: all its packets, the refused packets, the bytes left after the last whole packet, and how long
+/// the stream takes to arrive, in ticks, if packets have moments.
 #[derive(Clone, Copy)]
 pub struct ReportEnd {
     pub packets: u64,
     pub refused: u64,
     pub left: u64,
+    pub length: Option<u128>,
 }
 
 /// An event of a stream, by the word of its line.

@@ -247,6 +247,7 @@ fn rule_fault(event: RuleEvent, at: Option<u128>) -> Option<Fault>
         RuleEvent::Delayed(e) => Some(stay_fault(FaultKind::Delayed, &e)),
         RuleEvent::VariableRate(_) => None,
         RuleEvent::ClockWindow(_) => None,
+        RuleEvent::FaultTrace(_) => None,
     }
 }
 

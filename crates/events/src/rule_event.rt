@@ -53,8 +53,9 @@ pub struct VariableRate {
     pub apart: u64,
 }
 
-/// The clock references of a PID in a window: their number, the greatest time from one to the next in ticks, and the
-/// greatest inaccuracy in nanoseconds; 0 if no reference has one.
+/// The clock references of a PID in a window: their number, the greatest time from one to the next in ticks, the
+/// greatest inaccuracy in nanoseconds, and by how many ticks the program clock is ahead of the arrival, or behind it, at
+/// the last of them; 0 if no reference has one.
 #[derive(Clone, Copy)]
 pub struct ClockFigures {
     /// The number of the window.
@@ -63,10 +64,31 @@ pub struct ClockFigures {
     pub references: u64,
     pub interval: u128,
     pub inaccuracy: u128,
+    pub ahead: u128,
+    pub behind: u128,
 }
 
-/// A fault by a check of ETSI TR 101 290, a check that can't be made, or the clock references of a window, by the word
-/// of its line.
+/// What a packet of a stream, or a part of it, found in a buffer, near the greatest excess of that buffer.
+#[derive(Clone, Copy)]
+pub struct TracePoint {
+    pub pid: u16,
+    pub buffer: BufferKind,
+    pub packet: u64,
+    /// When the last of its bytes leaves the transport buffer, in ticks.
+    pub left: u128,
+    /// The least that one of its bytes found in the main buffer, itself not counted; `None` of the transport buffer.
+    pub least: Option<u64>,
+    /// The most bytes in the buffer when one of its bytes entered, itself included.
+    pub most: u128,
+    /// The size of the buffer in bytes, and the most bytes that it held.
+    pub size: u64,
+    pub peak: u128,
+    /// Whether a unit begins with it that is not the first.
+    pub begins: bool,
+}
+
+/// A fault by a check of ETSI TR 101 290, a check that can't be made, the clock references of a window, or what a
+/// buffer held near its greatest excess, by the word of its line.
 #[derive(Clone, Copy)]
 pub enum RuleEvent {
     /// A PTS that comes too long after the one before it (2.5).
@@ -86,6 +108,8 @@ pub enum RuleEvent {
     VariableRate(VariableRate),
     /// The clock references of a PID in a window.
     ClockWindow(ClockFigures),
+    /// What a buffer held near its greatest excess.
+    FaultTrace(TracePoint),
 }
 
 impl BufferKind {

@@ -9,7 +9,7 @@ use Rattle.unit_records.specs.declared.reading.UnitFileError.{UnitFileError}
 use Rattle.unit_records.specs.declared.reading.UnitFileError.TheVariants as unread
 use Rattle.checked_jobs.specs.Jobs.{BadDescription, BadLine, BadSecondLine, Fails, HasNoPlan, JobFaultView, JobView, SecondFails}
 use Rattle.checked_jobs.specs.Jobs.{first_plan_line, job_of, parts_of}
-use Rattle.diagnosis.specs.ConditionLines.{switch_line}
+use Rattle.plan_diagnosis.specs.ConditionLines.{switch_line}
 use Rattle.diagnosis.specs.Explained.{explained}
 use Rattle.diagnosis.specs.TomlNotes.{TomlNoteView}
 use Rattle.tsmux_cli.specs.MuxJobs.{InJob, InRecord, MuxFaultView, MuxJobView, mux_job_of}

@@ -50,7 +50,7 @@ fn write_switch(refusal: Refusal, text: &mut String) -> Result<(), AllocError>
     ensures { OnOk result (string_bytes text.new ≡ string_bytes text.old ++ spec.switch_words (entry_of refusal)) }
 {
     text.push_str("the second plan can't follow: ")?;
-    diagnosis::write_switch(refusal, text)
+    plan_diagnosis::write_switch(refusal, text)
 }
 
 // Appends a fault of plans.

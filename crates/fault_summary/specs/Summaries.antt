@@ -23,8 +23,9 @@ pub record SummaryState : Type 0 where
   pub figures : BufferFigures
   pub varies : Bool
 
-abbrev pub nothing : SummaryState
-nothing = record { counts = no_faults; rows = no_rows; faults = 0; figures = no_buffer; varies = false }
+-- before the first event, of a stream whose rate is said to vary, or not
+abbrev pub nothing : Bool → SummaryState
+nothing varies = record { counts = no_faults; rows = no_rows; faults = 0; figures = no_buffer; varies = varies }
 
 -- 1. An event, with the fault that it says there is
 
@@ -38,6 +39,7 @@ is_variable_rule (rules.NotEmpty e) = false
 is_variable_rule (rules.Delayed e) = false
 is_variable_rule (rules.VariableRate e) = true
 is_variable_rule (rules.ClockWindow e) = false
+is_variable_rule (rules.FaultTrace e) = false
 
 unfoldable pub is_variable : Event → Bool
 is_variable (events.Input e) = false

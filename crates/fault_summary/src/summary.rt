@@ -50,16 +50,16 @@ fn is_variable(event: &Event) -> bool
 }
 
 impl Summary {
-    /// Returns what no event comes to.
-    pub fn new(alloc: Global) -> Summary
-        ensures { result ≡ spec.nothing }
+    /// Returns what no event comes to, of a stream whose rate is said to vary, or not.
+    pub fn new(alloc: Global, varies: bool) -> Summary
+        ensures { result ≡ spec.nothing varies }
     {
         Summary {
             counts: CheckCounts::new(),
             rows: FaultRows::new(alloc),
             faults: 0,
             figures: BufferFigures::new(),
-            varies: false,
+            varies,
         }
     }
 

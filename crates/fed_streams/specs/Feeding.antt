@@ -5,7 +5,7 @@ use Rattle.std.specs.Prelude.{Ok, Err, List, [], ◌∷◌, length, slice_get, s
 use Rattle.std.specs.Option.{option_to_list}
 use Rattle.pes_packet.specs.AccessUnits.{AccessUnit}
 use Rattle.demux.specs.Views.{FindingView, WhatView, IsDuplicate, BreaksCounter, IsScrambled, IsTruncated, IsSection, IsBadSection, IsPes, IsBadPes}
-use Rattle.demux.specs.Views.{IsBadPacket, IsErrored}
+use Rattle.demux.specs.Views.{IsBadPacket, IsErrored, IsStray}
 use Rattle.demux.specs.Laws.{has_pid}
 use Rattle.es_units.specs.ApartSteps.{is_same_after, place_past, set_apart}
 use Rattle.es_units.specs.CarriedUnits.{first_packet, role_of}
@@ -132,7 +132,8 @@ unfoldable pub lost_by : ℕ → WhatView → Option Loss
 lost_by packet (BreaksCounter expected found) = Some (record { packet = packet; expected = expected; found = found })
 lost_by packet _ = None
 
--- what it is, where it is neither lost packets nor ignored among units: padding_stream (stream_id 0xBE) is, and a packet that comes twice
+-- what it is, where it is neither lost packets nor ignored among units: padding_stream (stream_id 0xBE), a packet that comes twice
+-- and stray payload are
 unfoldable pub cause_of : WhatView → Option CutCause
 cause_of IsDuplicate = None
 cause_of (BreaksCounter expected found) = None
@@ -144,6 +145,7 @@ cause_of (IsPes header unended body) = if header.id == 0xBE then None else Some 
 cause_of (IsBadPes error) = Some causes.BadPes
 cause_of (IsBadPacket error) = None
 cause_of IsErrored = None
+cause_of (IsStray size) = None
 
 unfoldable pub cut_at : ℕ → Option CutCause → Option CutUnits
 cut_at packet None = None

@@ -7,7 +7,7 @@ use Rattle.psi_tables.specs.ProgramMap.{PmtView, StreamView}
 use Rattle.demux.specs.Views.{FindingView}
 use Rattle.demux.specs.declared.finding.Kind.{Kind}
 use Rattle.demux.specs.declared.finding.Kind.TheVariants as kinds
-use Rattle.stream_programs.specs.ProgramMaps.{program_map}
+use Rattle.program_tables.specs.ProgramMaps.{program_map}
 use Rattle.fed_streams.specs.declared.fed_map.CurrentMap.{CurrentMap}
 use Rattle.fed_streams.specs.declared.fed_map.NamedStream.{NamedStream}
 use Rattle.fed_streams.specs.declared.feed_fault.OtherStream.{OtherStream}

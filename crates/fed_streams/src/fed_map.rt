@@ -7,10 +7,10 @@ ghost use Rattle.fed_streams.specs.Maps as spec;
 
 use crate::feed_fault::{NewMap, OtherStream};
 use demux::{Finding, Kind};
+use program_tables::last_program_map;
 use psi_tables::{Pmt, Program, Streams};
 use std::marker::Model;
 use std::slice;
-use stream_programs::last_program_map;
 
 /// The table_id of a program map table (ISO/IEC 13818-1, table 2-31).
 const MAP_TABLE: u8 = 2;

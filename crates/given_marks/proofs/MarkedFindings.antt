@@ -5,7 +5,7 @@ use Rattle.std.proofs.lemmas.Bool.{eqb-true}
 use Rattle.std.proofs.lemmas.List.{append_assoc, append-nil, drop_all, drop_more, drop-set-lt, map-append, take_all, take_more_set}
 use Rattle.demux.specs.Laws.{found_of, has_pid}
 use Rattle.demux.specs.Views.{FindingView, WhatView, IsDuplicate, BreaksCounter, IsScrambled, IsTruncated, IsSection, IsBadSection, IsPes, IsBadPes}
-use Rattle.demux.specs.Views.{IsBadPacket, IsErrored}
+use Rattle.demux.specs.Views.{IsBadPacket, IsErrored, IsStray}
 use Rattle.given_marks.specs.Laws.{MarkedByThePid, NothingIsMarked}
 use Rattle.given_marks.specs.Marking.{MarkingView, all_marked, can_begin, is_aligned, is_begin, marked, no_marking, type_of, with_access, with_alignment}
 
@@ -51,6 +51,7 @@ no_begin (Some pid) (IsPes header unended body) = refl
 no_begin (Some pid) (IsBadPes error) = refl
 no_begin (Some pid) (IsBadPacket error) = refl
 no_begin (Some pid) IsErrored = refl
+no_begin (Some pid) (IsStray size) = refl
 
 none_aligned : (pid : Option ℕ) → is_aligned [] pid ≡ false
 unfolding is_aligned
@@ -80,6 +81,7 @@ begins_alike one other pid (IsPes header unended body) same = ap (λ (t : Option
 begins_alike one other pid (IsBadPes error) same = refl
 begins_alike one other pid (IsBadPacket error) same = refl
 begins_alike one other pid IsErrored same = refl
+begins_alike one other pid (IsStray size) same = refl
 
 -- of what is asked for a PID and for no other
 record AreAlike (one other : MarkingView) (pid : ℕ) : Type 0 where

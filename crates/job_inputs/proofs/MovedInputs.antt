@@ -2,7 +2,7 @@
 use Rattle.std.proofs.Common.{◌≡◌, ◌∙◌, ◌==◌, ◌++◌, ℕ, List, length, Some, None, Ok, All, sym, ap, ap₂, subst, if◌then◌else◌}
 use Rattle.std.specs.Prelude.{ok_or}
 use Rattle.demux.specs.Views.{FindingView}
-use Rattle.stream_programs.specs.Association.{association}
+use Rattle.program_tables.specs.Association.{association}
 use Rattle.stream_programs.specs.PidAssignment.{assigned_pids}
 use Rattle.stream_programs.specs.Programs.{programs_of}
 use Rattle.job_programs.specs.declared.warning.Warning.{Warning}

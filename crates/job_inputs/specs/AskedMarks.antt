@@ -1,7 +1,7 @@
 -- The marks that the options of a job ask for.
 use Rattle.std.specs.Prelude.{◌≡◌, Bool, false, if◌then◌else◌, List, [], map, Option, Some, None}
 use Rattle.demux.specs.Views.{FindingView}
-use Rattle.stream_programs.specs.Association.{AssociationView, association}
+use Rattle.program_tables.specs.Association.{AssociationView, association}
 use Rattle.stream_programs.specs.Programs.{programs_of}
 use Rattle.stream_programs.specs.Streams.{FoundStreamView}
 use Rattle.given_marks.specs.Marking.{MarkingView, all_marked}

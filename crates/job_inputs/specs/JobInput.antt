@@ -6,10 +6,10 @@ use Rattle.std.specs.Option.{option_or}
 use Rattle.psi_tables.specs.declared.pat.programs.Program.{Program}
 use Rattle.demux.specs.Views.{FindingView}
 use Rattle.es_units.specs.Damage.{is_scrambled}
-use Rattle.stream_programs.specs.Association.{AssociationView, association}
+use Rattle.program_tables.specs.Association.{AssociationView, association}
 use Rattle.stream_programs.specs.PidAssignment.{assigned_pids}
 use Rattle.stream_programs.specs.Programs.{FoundProgramsView, programs_of}
-use Rattle.stream_programs.specs.declared.program_map.MapPart.TheVariants.{NamedStreams, Descriptors}
+use Rattle.program_tables.specs.declared.program_map.MapPart.TheVariants.{NamedStreams, Descriptors}
 use Rattle.stream_programs.specs.declared.pid_assignment.ProgramPids.{ProgramPids}
 use Rattle.job_programs.specs.declared.refusal.JobRefusal.{JobRefusal}
 use Rattle.job_programs.specs.declared.refusal.JobRefusal.TheVariants as refusals

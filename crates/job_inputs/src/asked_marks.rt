@@ -8,8 +8,9 @@ use crate::input_draft::selected_programs;
 use demux::Finding;
 use given_marks::{Marking, TypedPid};
 use job_programs::JobOptions;
+use program_tables::{Association, named_programs};
 use std::alloc::{AllocError, Global};
-use stream_programs::{Association, FoundStream, found_programs, named_programs};
+use stream_programs::{FoundStream, found_programs};
 
 // The PID of a stream, and its stream_type.
 fn typed_pid(stream: &FoundStream) -> TypedPid

@@ -36,12 +36,11 @@ use job_programs::{
 };
 use job_units::moved_streams::{first_base, moved_streams};
 use job_units::wire_streams::wire_streams;
+use program_tables::{Association, MapPart, named_programs};
 use psi_tables::Program;
 use std::alloc::{AllocError, Global};
 use std::marker::Model;
-use stream_programs::{
-    Association, FoundPrograms, MapPart, ProgramPids, assigned_pids, found_programs, named_programs,
-};
+use stream_programs::{FoundPrograms, ProgramPids, assigned_pids, found_programs};
 
 /// What a job is made of, but for the bytes of its units and what is declared of them.
 #[derive(Drop)]

@@ -1,9 +1,9 @@
 -- The frames of units, unit after unit.
 use Rattle.std.proofs.Common.{◌≡◌, ◌∙◌, ap, ℕ, List, [], ◌∷◌, length, map, Option, Some, None, refl}
 use Rattle.pes_packet.specs.AccessUnits.{AccessUnit}
-use Rattle.stream_coding.specs.declared.frame_headers.FrameKind.{FrameKind}
-use Rattle.stream_coding.specs.declared.frames.UnitFrames.{UnitFrames}
-use Rattle.stream_coding.specs.Frames.{all_frames, joined_frames, unit_frames}
+use Rattle.sound_frames.specs.declared.frame_headers.FrameKind.{FrameKind}
+use Rattle.sound_frames.specs.declared.frames.UnitFrames.{UnitFrames}
+use Rattle.sound_frames.specs.Frames.{all_frames, joined_frames, unit_frames}
 
 abbrev pub all_bytes : List AccessUnit → List (List ℕ)
 all_bytes = map (λ u. u.bytes)

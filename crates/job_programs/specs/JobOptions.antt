@@ -6,7 +6,7 @@ use Rattle.stream_programs.specs.Streams.{FoundStreamView}
 use Rattle.given_values.specs.GivenNames.{NetworkNameView, ServiceNameView}
 use Rattle.given_values.specs.declared.clock_base.ClockBase.{ClockBase}
 use Rattle.given_values.specs.declared.declare_by.DeclareBy.{DeclareBy}
-use Rattle.stream_coding.specs.declared.buffers.PidBuffers.{PidBuffers}
+use Rattle.es_buffers.specs.declared.buffers.PidBuffers.{PidBuffers}
 
 -- the rate in bits a second, if one is asked for; the moment of the first slot as its characters, if it is given; limits in ms and in units
 -- of 90 kHz; by what the packets of units are declared; whether DTS are made from PTS; whether a stream that can't be carried refuses the

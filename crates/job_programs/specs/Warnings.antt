@@ -4,11 +4,11 @@ use Rattle.std.specs.Prelude.{option_to_list}
 use Rattle.std.specs.List.{list_any}
 use Rattle.psi_tables.specs.declared.pat.programs.Program.{Program}
 use Rattle.demux.specs.Views.{WhatView, IsTruncated, IsBadPacket, IsErrored, FindingView}
-use Rattle.stream_programs.specs.Association.{AssociationView, association_change, is_named}
+use Rattle.program_tables.specs.Association.{AssociationView, association_change, is_named}
 use Rattle.ts_services.specs.NetworkInformation.{FoundNetworkView, network_surplus, stream_network}
 use Rattle.stream_programs.specs.Omissions.{is_loss}
-use Rattle.stream_programs.specs.ProgramMaps.{map_change}
-use Rattle.stream_programs.specs.declared.program_map.MapPart.{MapPart}
+use Rattle.program_tables.specs.ProgramMaps.{map_change}
+use Rattle.program_tables.specs.declared.program_map.MapPart.{MapPart}
 use Rattle.stream_programs.specs.Programs.{programs_of}
 use Rattle.stream_programs.specs.StrayPids.{mapped_pids, pes_count, stray_pids}
 use Rattle.stream_programs.specs.Streams.{FoundStreamView}
@@ -16,7 +16,7 @@ use Rattle.dvb_texts.specs.Texts.{has_unread}
 use Rattle.es_units.specs.UnitWarnings.{unit_warnings}
 use Rattle.es_units.specs.Damage as units
 use Rattle.given_values.specs.GivenNames.{NetworkNameView, ServiceNameView}
-use Rattle.stream_coding.specs.declared.buffers.PidBuffers.{PidBuffers}
+use Rattle.es_buffers.specs.declared.buffers.PidBuffers.{PidBuffers}
 use Rattle.job_programs.specs.JobPrograms.{numbers_named}
 use Rattle.job_programs.specs.declared.warning.Warning.{Warning}
 use Rattle.job_programs.specs.declared.warning.Warning.TheVariants as warning

@@ -3,9 +3,9 @@
 ghost use Rattle.std.specs.Prelude.{◌≡◌};
 ghost use Rattle.job_programs.specs.JobOptions.{is_among};
 
+use es_buffers::PidBuffers;
 use given_values::{ClockBase, DeclareBy, NetworkName, ServiceName};
 use std::marker::Model;
-use stream_coding::PidBuffers;
 
 /// The options of a job; the rest is taken from the stream.
 #[derive(Drop)]

@@ -2,18 +2,19 @@
 
 ghost use Rattle.std.specs.Prelude.{◌≡◌, ◌==◌, ◌++◌, OnOk, flat_map};
 ghost use Rattle.std.specs.List.{list_any};
-ghost use Rattle.stream_programs.specs.Association.{is_named};
+ghost use Rattle.program_tables.specs.Association.{is_named};
 ghost use Rattle.job_programs.specs.Warnings as spec;
 
 use crate::named_numbers::numbers_named;
 use crate::warning::{ProgramWarning, Warning};
+use es_buffers::PidBuffers;
 use given_values::ServiceName;
+use program_tables::Association;
 use std::alloc::AllocError;
-use stream_coding::PidBuffers;
-use stream_programs::{Association, FoundStream};
+use stream_programs::FoundStream;
 
 // Whether a program is named.
-#[tactic(auto, unfolding(stream_programs::specs::Association::is_named))]
+#[tactic(auto, unfolding(program_tables::specs::Association::is_named))]
 fn is_named(association: &Association, number: u16) -> bool
     ensures { result ≡ is_named number association.now.programs }
 {

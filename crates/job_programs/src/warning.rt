@@ -5,8 +5,9 @@ ghost use Rattle.job_programs.specs.Warnings as spec;
 
 use crate::refusal::{JobRefusal, NamedNumbers};
 use es_units::UnitWarning;
+use program_tables::MapPart;
 use service_information::InformationWarning;
-use stream_programs::{MapPart, TableOmission};
+use stream_programs::TableOmission;
 
 /// A warning about a packet, or about the section that ends in it.
 #[derive(Clone, Copy)]

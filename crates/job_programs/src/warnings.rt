@@ -4,7 +4,7 @@ ghost use Rattle.std.specs.Prelude.{◌≡◌, ◌++◌, ◌∷◌, [], IfOk, On
 ghost use Rattle.es_units.specs.PidPlaces.{AreLinks, pids_in};
 ghost use Rattle.demux.specs.Shown.{finding_view};
 ghost use Rattle.demux.specs.Views.{FindingView};
-ghost use Rattle.stream_programs.specs.MapPlaces.{AreChanges};
+ghost use Rattle.program_tables.specs.MapPlaces.{AreChanges};
 ghost use Rattle.stream_programs.specs.PesCounts.{AreCounts};
 ghost use Rattle.job_programs.specs.Warnings as spec;
 ghost use Rattle.job_programs.specs.declared.warning.Warning.TheVariants.{Table, Units};
@@ -13,12 +13,10 @@ use crate::job_stream::WireStream;
 use crate::warning::{PacketWarning, Warning};
 use demux::{Finding, What};
 use es_units::{PidLinks, UnitWarning, unit_warnings};
+use program_tables::{Association, MapChanges, MapPart, association_change, map_changes};
 use psi_tables::Program;
 use std::alloc::{AllocError, Global};
-use stream_programs::{
-    Association, MapChanges, MapPart, TableOmission, association_change, found_programs,
-    map_changes, mapped_pids, pes_counts, stray_pids,
-};
+use stream_programs::{TableOmission, found_programs, mapped_pids, pes_counts, stray_pids};
 
 // The warning about a finding on no PID.
 #[tactic(auto, unfolding(crate::specs::Warnings::packet_warning, crate::specs::Warnings::packet_warning_of))]

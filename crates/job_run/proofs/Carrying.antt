@@ -8,6 +8,7 @@ use Rattle.packet_pcr.specs.declared.pcr_reading.FoundPcr.{FoundPcr}
 use Rattle.data_times.proofs.LoggedBytes.{logged_append}
 use Rattle.demux.specs.Stream.{StreamState, finished, pushed, start}
 use Rattle.demux.proofs.PushedBytes.{pushed_append}
+use Rattle.joined_parts.specs.declared.recodings.Recoding.{Recoding}
 use Rattle.packet_sync.specs.Notes.{IsNoted, NotesView, SayAlike, no_notes}
 use Rattle.packet_sync.specs.Slips.{carried}
 use Rattle.packet_sync.specs.Stretches.{IsStretch}
@@ -120,10 +121,11 @@ rest_is piece held front later joined at n f l j past within =
 
 -- 5. The end
 
-pub stream_ended : (bytes held : List ℕ) (at : ℕ) (p : PacketsView) (references : List FoundPcr) (demux : StreamState) → length held ≤ at →
-    IsCarriedTo bytes true (record { held = drop at held; packets = p }) → references ≡ p.log.found → demux ≡ finished p.demux →
-    IsOfStream bytes (record { slips = p.notes.slips; fields = p.notes.fields }) references demux.found p.size
-stream_ended bytes held at p references demux past so r f =
+pub stream_ended : (bytes held : List ℕ) (at : ℕ) (p : PacketsView) (recodings : List Recoding) (references : List FoundPcr) (demux : StreamState) →
+    length held ≤ at → IsCarriedTo bytes true (record { held = drop at held; packets = p }) → recodings ≡ [] → references ≡ p.log.found →
+    demux ≡ finished p.demux →
+    IsOfStream bytes (record { slips = p.notes.slips; fields = p.notes.fields; recodings = recodings }) references demux.found p.size
+stream_ended bytes held at p recodings references demux past so e r f =
     let none : drop at held ≡ [] = drop_all at held past in
     let whole : bytes ++ [] ≡ bytes = append-nil bytes in
     let left : drop at held ++ [] ≡ [] = append-nil (drop at held) ∙ none in
@@ -133,7 +135,8 @@ stream_ended bytes held at p references demux past so r f =
     let said = all_noted bytes p.notes
     (alike_at no_notes p.notes bytes (bytes ++ []) [] (drop at held ++ []) (sym whole) (sym left) (so.said [] (λ e. refl))) in
     record {
-      notes_are = ap₂ (λ x y. record { slips = x; fields = y }) said.0 said.1;
+      notes_are = ap (λ (z : List Recoding). record { slips = p.notes.slips; fields = p.notes.fields; recodings = z }) e
+          ∙ ap₂ (λ x y. record { slips = x; fields = y; recodings = [] }) said.0 said.1;
       references_are = r ∙ ap (λ (l : LogView). l.found) so.log_is ∙ ap references_in (sym all);
       found_is = ap (λ (d : StreamState). d.found) f ∙ ap (λ (d : StreamState). (finished d).found) so.demux_is
           ∙ ap (λ (r : List ℕ). (finished (pushed start r)).found) (sym all);

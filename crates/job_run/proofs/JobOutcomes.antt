@@ -35,7 +35,7 @@ use Rattle.job_run.specs.JobArguments.{JobArgumentsView}
 use Rattle.packet_sync.specs.OtherPackets.{other_packets}
 use Rattle.packet_sync.specs.Slips.{carried}
 use Rattle.packet_sync.specs.declared.packet_sizes.OtherPackets.{OtherPackets}
-use Rattle.job_run.specs.SlipLines.{packets_line}
+use Rattle.job_lines.specs.SlipLines.{packets_line}
 use Rattle.job_run.specs.Outcomes.{BytesLead, FindingsLead, Gives, GivesJob, GivesReasons, GivesUnits, IsFound, IsTold, IsWritten, Leads, InputLeads}
 use Rattle.job_run.specs.Outcomes.{ReportsWhy, Withholds, found_line}
 use Rattle.std.specs.Int.{bytes_high_first}

@@ -1,4 +1,3 @@
-pub mod WarningLines
 pub mod Carrying
 pub mod JobOutcomes
 pub mod Fronts

@@ -23,9 +23,9 @@ use Rattle.devices.proofs.NamedReaders.{is_unread}
 use Rattle.packet_sync.specs.OtherPackets.{other_packets}
 use Rattle.packet_sync.specs.Slips.{carried}
 use Rattle.packet_sync.specs.declared.packet_sizes.OtherPackets.{OtherPackets}
-use Rattle.job_run.specs.InputLines.{are_lost, input_line, name_of, note_lines}
-use Rattle.job_run.specs.RefusalLine.{refusal_line}
-use Rattle.job_run.specs.SlipLines.{packets_line}
+use Rattle.job_lines.specs.InputLines.{are_lost, input_line, name_of, note_lines}
+use Rattle.job_lines.specs.RefusalLine.{refusal_line}
+use Rattle.job_lines.specs.SlipLines.{packets_line}
 use Rattle.job_programs.specs.Answers.{Answers, Refuses}
 use Rattle.data_times.specs.References.{references_in}
 use Rattle.packet_pcr.specs.declared.pcr_reading.FoundPcr.{FoundPcr}

@@ -1,7 +1,7 @@
 -- What is asked for of a stream.
 use Rattle.std.specs.Prelude.{ℕ, List, Option}
 use Rattle.job_programs.specs.JobOptions.{JobOptionsView}
-use Rattle.job_run.specs.declared.job_arguments.Reporting.{Reporting}
+use Rattle.job_lines.specs.declared.reporting.Reporting.{Reporting}
 use Rattle.job_run.specs.declared.job_arguments.Subcommand.{Subcommand}
 
 -- what is written, the file of a description for a stream that comes, which lines are reported, and the options of the job

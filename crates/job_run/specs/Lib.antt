@@ -1,12 +1,6 @@
-pub mod SlipLines
-pub mod FieldLines
-pub mod TableLines
-pub mod InformationLines
-pub mod RefusalLine
-pub mod WarningLines
-pub mod InputLines
 pub mod JobArguments
 pub mod Streams
+pub mod RecodingLines
 pub mod Outcomes
 pub mod SeveralInputs
 pub mod StreamFiles

@@ -6,7 +6,7 @@ use Rattle.std.specs.Str.{IsUtf8}
 use Rattle.pes_packet.specs.AccessUnits.{AccessUnit}
 use Rattle.demux.specs.Views.{FindingView}
 use Rattle.description_parts.specs.Described.{Described}
-use Rattle.diagnosis.specs.ReasonLines.{reason_lines}
+use Rattle.plan_diagnosis.specs.ReasonLines.{reason_lines}
 use Rattle.slot_plan.specs.Conditions.{IsServing}
 use Rattle.slot_plan.specs.Planned.{Planned, plan_error}
 use Rattle.slot_plan.specs.Text.{plan_text}
@@ -34,17 +34,18 @@ use Rattle.devices.specs.Devices.{Device, HasFailed, IsClean, Takes}
 use Rattle.devices.specs.Outcomes.{halt_line, Outcome, reported}
 use Rattle.devices.specs.Lines.{Reports, Stopped}
 use Rattle.devices.specs.declared.halt.Halt.TheVariants.{Write}
-use Rattle.job_run.specs.declared.job_arguments.Reporting.{Reporting}
+use Rattle.job_lines.specs.declared.reporting.Reporting.{Reporting}
 use Rattle.job_run.specs.declared.job_arguments.Subcommand.{Subcommand}
 use Rattle.job_run.specs.declared.job_arguments.Subcommand.TheVariants.{Whole, Describe, Units, Why}
 use Rattle.job_run.specs.JobArguments.{JobArgumentsView}
-use Rattle.job_run.specs.FieldLines.{field_lines, told_fields}
+use Rattle.job_lines.specs.FieldLines.{field_lines, told_fields}
 use Rattle.es_records.specs.Records.{records_of, written}
-use Rattle.job_run.specs.RefusalLine.{refusal_line}
-use Rattle.job_run.specs.SlipLines.{packets_line, slip_lines}
+use Rattle.job_lines.specs.RefusalLine.{refusal_line}
+use Rattle.job_lines.specs.SlipLines.{packets_line, slip_lines}
+use Rattle.job_run.specs.RecodingLines.{told_recodings}
 use Rattle.job_run.specs.Streams.{PacketNotesView, findings_for, notes_for}
-use Rattle.job_run.specs.TableLines.{other_table_lines, told_tables}
-use Rattle.job_run.specs.WarningLines.{told_warnings, warning_lines}
+use Rattle.job_lines.specs.TableLines.{other_table_lines, told_tables}
+use Rattle.job_lines.specs.WarningLines.{told_warnings, warning_lines}
 
 -- 1. What is written
 
@@ -135,7 +136,9 @@ unless_quiet quiet lines = if quiet then [] else lines
 -- the same of a stream of which a job takes this
 abbrev pub told_lines : Reporting → PacketNotesView → List FindingView → JobInputView → List ℕ
 told_lines r notes findings m =
-    unless_quiet r.quiet (loss_lines notes.slips (told_fields r.all m notes.fields) (told_tables r.all m (other_tables findings)) (told_warnings r m.warnings))
+    unless_quiet r.quiet
+    (loss_lines notes.slips (told_fields r.all m notes.fields) (told_tables r.all m (other_tables findings)) (told_warnings r m.warnings)
+    ++ told_recodings r.all notes.recodings)
 
 abbrev pub is_told_less : Reporting → PacketNotesView → List FindingView → JobInputView → Bool
 is_told_less r notes findings m =

@@ -7,7 +7,9 @@ use Rattle.demux.specs.Views.{FindingView}
 use Rattle.data_times.specs.DataTimes.{TimesView, is_timed, timed, times_of}
 use Rattle.data_times.specs.References.{LogView, logged, no_packet, references_in}
 use Rattle.packet_pcr.specs.declared.pcr_reading.FoundPcr.{FoundPcr}
-use Rattle.joined_parts.specs.Joined.{joined, joined_references}
+use Rattle.joined_parts.specs.Recodings.{recodings_in}
+use Rattle.joined_parts.specs.Recordings.{one_recording, one_references}
+use Rattle.joined_parts.specs.declared.recodings.Recoding.{Recoding}
 use Rattle.demux.specs.Stream.{StreamState, start, pushed, finished}
 use Rattle.packet_sync.specs.FieldsLeftOut.{fields_left_out}
 use Rattle.packet_sync.specs.declared.field.Field.{Field}
@@ -30,14 +32,15 @@ findings_of bytes = (finished (pushed start bytes)).found
 abbrev pub asked_findings : JobOptionsView → List ℕ → List FindingView
 asked_findings options bytes = as_asked options (findings_of (carried bytes))
 
--- the clock references, and these findings; if they are asked for, those of the parts of a joined recording one after another
+-- the clock references, and these findings; if they are asked for, those of the parts of a joined recording one after another, with the tables and the clock
+-- of one
 unfoldable pub references_by : Bool → List FoundPcr → List FindingView → List FoundPcr
 references_by false references findings = references
-references_by true references findings = joined_references references findings
+references_by true references findings = one_references references findings
 
 unfoldable pub parts_by : Bool → List FoundPcr → List FindingView → List FindingView
 parts_by false references findings = findings
-parts_by true references findings = joined references findings
+parts_by true references findings = one_recording references findings
 
 -- those of which a job is made: with the moments of teletext that has no stamps
 abbrev pub findings_by : Bool → List FoundPcr → List FindingView → List FindingView
@@ -46,13 +49,18 @@ findings_by joined references findings = timed (references_by joined references 
 abbrev pub findings_for : JobOptionsView → List ℕ → List FindingView
 findings_for options bytes = findings_by options.joined (references_in (carried bytes)) (asked_findings options bytes)
 
--- what is said of the packets of a stream: its slips, and the fields that are not written again
+-- what is said of the packets of a stream: its slips, the fields that are not written again, and the changes of codings in a joined recording
 pub record PacketNotesView : Type 0 where
   pub slips : List Slip
   pub fields : List FieldLeftOut
+  pub recodings : List Recoding
 
 abbrev pub notes_of : List ℕ → PacketNotesView
-notes_of bytes = record { slips = slips bytes; fields = fields_left_out bytes }
+notes_of bytes = record { slips = slips bytes; fields = fields_left_out bytes; recodings = [] }
+
+unfoldable pub recodings_by : Bool → List FindingView → List Recoding
+recodings_by false findings = []
+recodings_by true findings = recodings_in findings
 
 -- a field of PES headers that is written again: of teletext without stamps each PES packet is a unit, with its flags and its long header
 unfoldable pub is_of_unit : Field → Bool
@@ -65,11 +73,12 @@ abbrev pub is_unwritten : TimesView → FieldLeftOut → Bool
 is_unwritten t f = not (is_of_unit f.field && is_timed t f.pid)
 
 -- what is said of the packets of a stream of which a job by these options is made
-abbrev pub timed_notes : TimesView → PacketNotesView → PacketNotesView
-timed_notes t notes = record { slips = notes.slips; fields = filter (is_unwritten t) notes.fields }
+abbrev pub timed_notes : TimesView → List Recoding → PacketNotesView → PacketNotesView
+timed_notes t recodings notes = record { slips = notes.slips; fields = filter (is_unwritten t) notes.fields; recodings = recodings }
 
 abbrev pub notes_by : Bool → List FoundPcr → List FindingView → PacketNotesView → PacketNotesView
-notes_by joined references findings notes = timed_notes (times_of (references_by joined references findings) (parts_by joined references findings)) notes
+notes_by joined references findings notes =
+    timed_notes (times_of (references_by joined references findings) (parts_by joined references findings)) (recodings_by joined findings) notes
 
 abbrev pub notes_for : JobOptionsView → List ℕ → PacketNotesView
 notes_for options bytes = notes_by options.joined (references_in (carried bytes)) (asked_findings options bytes) (notes_of bytes)

@@ -5,6 +5,7 @@ ghost use Rattle.job_run.specs.Streams as spec;
 
 use data_times::ReferenceLog;
 use demux::Demux;
+use joined_parts::Recoding;
 use packet_pcr::FoundPcr;
 use packet_sync::{FieldLeftOut, Slip, StreamNotes};
 use std::alloc::{AllocError, Global};
@@ -19,6 +20,8 @@ pub(crate) struct PacketNotes {
     pub slips: Vec<Slip>,
     /// The fields that are not written again.
     pub fields: Vec<FieldLeftOut>,
+    /// The changes of codings, if it is a joined recording.
+    pub recodings: Vec<Recoding>,
 }
 
 // A contract sees its parts as lists.
@@ -27,7 +30,11 @@ impl Model for PacketNotes {
 
     ghost Value = { PacketNotesView };
 
-    ghost view = { λ n. record { slips = n.slips.items; fields = n.fields.items } };
+    ghost view = { λ n. record {
+      slips = n.slips.items;
+      fields = n.fields.items;
+      recodings = n.recodings.items;
+    } };
 }
 
 /// A stream that was read: what is said of its packets, the clock references and what else is found in the bytes that
@@ -185,6 +192,7 @@ impl CarriedStream {
         ensures { (bytes : List ℕ) → spec.IsCarriedTo bytes false self →
             IfOk result (λ r. spec.IsOfStream bytes r.notes r.references.items r.demux.found r.size) }
     {
+        let alloc = self.alloc;
         let mut packets = self.packets;
         packets.take_decided(self.held.as_slice(), true)?;
         let CarriedPackets {
@@ -195,7 +203,11 @@ impl CarriedStream {
         } = packets;
         end_stream(&mut demux)?;
         let StreamNotes { slips, fields, .. } = notes;
-        let notes = PacketNotes { slips, fields };
+        let notes = PacketNotes {
+            slips,
+            fields,
+            recodings: Vec::new(alloc),
+        };
         let references = log.into_references();
         Ok(ReadStream {
             notes,

@@ -2,10 +2,11 @@
 
 ghost use Rattle.std.specs.Prelude.{◌≡◌, option_map};
 
+use es_buffers::PidBuffers;
 use given_values::{ClockBase, DeclareBy, NetworkName, ServiceName};
+use job_lines::Reporting;
 use job_programs::JobOptions;
 use std::marker::Model;
-use stream_coding::PidBuffers;
 
 /// The kind of output.
 #[derive(Clone, Copy, Debug, PartialEq, Eq)]
@@ -18,17 +19,6 @@ pub enum Subcommand {
     Units,
     /// Why no plan serves its description.
     Why,
-}
-
-/// Which lines are reported.
-#[derive(Clone, Copy, Debug, PartialEq, Eq)]
-pub struct Reporting {
-    /// Whether the input is declared to end with its last PES packets: then an unknown end is no warning.
-    pub whole: bool,
-    /// Whether only refusals are reported, and devices that fail.
-    pub quiet: bool,
-    /// Whether lines are reported too that say of no loss.
-    pub all: bool,
 }
 
 /// The subcommand and the options of a command line.

@@ -1,6 +1,6 @@
 //! The outcome for a stream, from its findings.
 
-ghost use Rattle.std.specs.Prelude.{◌≡◌, ◌==◌, ◌&&◌, ◌≤◌, IfErr, IfOk, List, None, Ok, ℕ, length, map, string_bytes};
+ghost use Rattle.std.specs.Prelude.{◌≡◌, ◌==◌, ◌&&◌, ◌≤◌, ◌++◌, IfErr, IfOk, List, None, Ok, ℕ, length, map, string_bytes};
 ghost use Rattle.demux.specs.Shown.{finding_view};
 ghost use Rattle.demux.specs.Views.{FindingView};
 ghost use Rattle.other_tables.specs.OtherTables as found;
@@ -12,24 +12,25 @@ ghost use Rattle.stream_jobs.specs.WhyNoJob.{IsWhyNoDescription, IsWhyNoJob};
 ghost use Rattle.job_programs.specs.declared.refusal.JobError.TheVariants.{Memory};
 ghost use Rattle.job_inputs.specs.JoinedInputs.{AreStreamsIn, JoinedInputsView};
 ghost use Rattle.job_run.specs.Outcomes as spec;
+ghost use Rattle.job_run.specs.RecodingLines.{told_recodings};
 ghost use Rattle.job_run.specs.SeveralInputs.{GivesIn, GivesJobIn};
 ghost use Rattle.job_run.specs.Streams.{IsRead};
 ghost use Rattle.devices.specs.Outcomes.{reported};
-ghost use Rattle.job_run.specs.SlipLines.{packets_line};
+ghost use Rattle.job_lines.specs.SlipLines.{packets_line};
 ghost use Rattle.job_inputs.specs.JobInput.{AreStreams};
 
 use crate::carried_stream::{PacketNotes, ReadStream};
-use crate::field_lines::{are_needed, told_fields, write_fields};
-use crate::job_arguments::{JobArguments, Reporting, Subcommand};
+use crate::job_arguments::{JobArguments, Subcommand};
 use crate::reading::StreamReading;
 use crate::reason_output::reason_output;
-use crate::refusal_line::write_refusal;
-use crate::slip_lines::{write_packets, write_slips};
-use crate::table_lines::{are_missed, told_tables, write_other_tables};
+use crate::recoding_lines::tell_recodings;
 use crate::timed_text::job_findings;
-use crate::warning_lines::{is_damaged, told_warnings, write_warnings};
 use demux::Finding;
 use job_inputs::{JobInput, job_input, mark_as_asked};
+use job_lines::{
+    Reporting, are_missed, are_needed, is_damaged, told_fields, told_tables, told_warnings,
+    write_fields, write_other_tables, write_packets, write_refusal, write_slips, write_warnings,
+};
 use job_programs::{JobError, JobOptions, Warning};
 use other_tables::{OtherTable, other_tables};
 use packet_sync::{FieldLeftOut, OtherPackets, Slip};
@@ -180,22 +181,25 @@ fn loss_report(
     Ok(lines)
 }
 
-// The same, unless nothing is to be reported.
+// The same, and those of changes of codings, unless nothing is to be reported.
 fn told_report(
     alloc: Global,
-    quiet: bool,
-    slips: &[Slip],
+    reporting: Reporting,
+    notes: &PacketNotes,
     fields: &[FieldLeftOut],
     tables: &[OtherTable],
     told: &[Warning],
 ) -> Result<String, AllocError>
     ensures { IfOk result (λ lines. string_bytes lines
-        ≡ spec.unless_quiet quiet (spec.loss_lines slips.now fields.now tables.now told.now)) }
+        ≡ spec.unless_quiet reporting.quiet (spec.loss_lines notes.now.slips fields.now tables.now told.now
+        ++ told_recodings reporting.all notes.now.recodings)) }
 {
-    if quiet {
+    if reporting.quiet {
         return Ok(String::new(alloc));
     }
-    loss_report(alloc, slips, fields, tables, told)
+    let mut lines = loss_report(alloc, &notes.slips, fields, tables, told)?;
+    tell_recodings(reporting.all, &notes.recodings, &mut lines)?;
+    Ok(lines)
 }
 
 // Whether one of these says that something is lost.
@@ -250,14 +254,7 @@ pub(crate) fn told_of(
     let told = told_warnings(alloc, reporting, &input.warnings)?;
     let fields = told_fields(alloc, reporting.all, input, &notes.fields)?;
     let tables = told_tables(alloc, reporting.all, input, others)?;
-    let lines = told_report(
-        alloc,
-        reporting.quiet,
-        &notes.slips,
-        &fields,
-        &tables,
-        &told,
-    )?;
+    let lines = told_report(alloc, reporting, notes, &fields, &tables, &told)?;
     let less = is_less(&notes.slips, &fields, &tables, &told);
     Ok((lines, less))
 }

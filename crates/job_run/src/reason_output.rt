@@ -5,9 +5,9 @@ ghost use Rattle.stream_jobs.specs.WhyNoJob.{IsWhyNoReasons};
 ghost use Rattle.job_run.specs.Outcomes as spec;
 
 use crate::outcome::{JobText, only_text};
-use diagnosis::write_reasons;
 use job_inputs::JobInput;
 use job_programs::{JobError, JobOptions};
+use plan_diagnosis::write_reasons;
 use std::alloc::{AllocError, Global};
 use std::fmt::Write;
 use stream_jobs::{found_rate, unplanned_description};

@@ -11,7 +11,6 @@ ghost use Rattle.job_run.specs.StreamFiles as spec;
 ghost use Rattle.job_run.specs.Streams.{IsRead};
 
 use crate::carried_stream::{PacketNotes, ReadStream};
-use crate::input_lines::write_input;
 use crate::job_arguments::JobArguments;
 use crate::outcome::{JobOutcome, only_text, packets_outcome, refused_outcome, told_of};
 use crate::reading::{StreamReading, read_stream};
@@ -19,6 +18,7 @@ use crate::timed_text::job_findings;
 use demux::Finding;
 use devices::{Halt, NamedFiles};
 use job_inputs::{JobInput, job_input, mark_as_asked};
+use job_lines::write_input;
 use other_tables::{OtherTable, other_tables};
 use std::alloc::{AllocError, Global};
 use std::marker::Model;

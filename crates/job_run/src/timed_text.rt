@@ -10,7 +10,7 @@ use crate::carried_stream::PacketNotes;
 use data_times::{TextTimes, text_times};
 use demux::Finding;
 use job_programs::JobOptions;
-use joined_parts::part_joins;
+use joined_parts::{Recoding, one_recording, recodings_in};
 use packet_pcr::FoundPcr;
 use packet_sync::{Field, FieldLeftOut};
 use std::alloc::{AllocError, Global};
@@ -44,17 +44,37 @@ fn unwritten(times: &TextTimes, fields: Vec<FieldLeftOut>) -> Vec<FieldLeftOut>
     unwritten
 }
 
-// What is said of packets, without the fields that are written again.
-fn timed_notes(times: &TextTimes, notes: PacketNotes) -> PacketNotes
-    ensures { result ≡ spec.timed_notes times.now notes }
+// What is said of packets, without the fields that are written again, and of changes of codings.
+fn timed_notes(times: &TextTimes, recodings: Vec<Recoding>, notes: PacketNotes) -> PacketNotes
+    ensures { result ≡ spec.timed_notes times.now recodings.items notes }
 {
-    let PacketNotes { slips, fields } = notes;
+    let PacketNotes { slips, fields, .. } = notes;
     let fields = unwritten(times, fields);
-    PacketNotes { slips, fields }
+    PacketNotes {
+        slips,
+        fields,
+        recodings,
+    }
+}
+
+// The changes of codings in a stream, if it is taken as a joined recording.
+#[tactic(auto, unfolding(crate::specs::Streams::recodings_by))]
+fn stream_recodings(
+    alloc: Global,
+    options: &JobOptions<'_>,
+    findings: &[Finding<'static>],
+) -> Result<Vec<Recoding>, AllocError>
+    ensures { IfOk result (λ rs. rs.items
+        ≡ spec.recodings_by options.now.joined (map finding_view findings.now)) }
+{
+    if !options.joined {
+        return Ok(Vec::new(alloc));
+    }
+    recodings_in(alloc, findings)
 }
 
 // The clock references and the findings of a stream; if that is asked for, those of the parts of a joined recording one
-// after another.
+// after another, with the tables and the clock of one.
 #[tactic(auto, unfolding(crate::specs::Streams::references_by, crate::specs::Streams::parts_by))]
 fn joined_stream(
     alloc: Global,
@@ -70,28 +90,25 @@ fn joined_stream(
     if !options.joined {
         return Ok((references, findings));
     }
-    let joins = part_joins(alloc, &references, &findings)?;
-    let references = joins.moved_references(alloc, &references)?;
-    let mut findings = findings;
-    joins.move_findings(&mut findings);
-    Ok((references, findings))
+    one_recording(alloc, references, findings)
 }
 
-// What is said of the packets of a stream with these clock references, and its findings, each PES packet of teletext
-// without stamps with its moment.
+// What is said of the packets of a stream with these clock references and changes of codings, and its findings, each
+// PES packet of teletext without stamps with its moment.
 fn timed_stream(
     alloc: Global,
     references: Vec<FoundPcr>,
+    recodings: Vec<Recoding>,
     notes: PacketNotes,
     findings: Vec<Finding<'static>>,
 ) -> Result<(PacketNotes, Vec<Finding<'static>>), AllocError>
     ensures notes { IfOk result (λ timed. timed.0 ≡ spec.timed_notes
-        (text.times_of references.items (map finding_view findings.entry.items)) notes) }
+        (text.times_of references.items (map finding_view findings.entry.items)) recodings.items notes) }
     ensures findings { IfOk result (λ timed. map finding_view timed.1.items
         ≡ text.timed references.items (map finding_view findings.entry.items)) }
 {
     let times = text_times(alloc, &references, &findings)?;
-    let notes = timed_notes(&times, notes);
+    let notes = timed_notes(&times, recodings, notes);
     let timed = times.time_all(alloc, &references, findings)?;
     Ok((notes, timed))
 }
@@ -111,6 +128,7 @@ pub(crate) fn job_findings(
     ensures findings { IfOk result (λ made. map finding_view made.1.items
         ≡ spec.findings_by options.now.joined references.items (map finding_view findings.entry.items)) }
 {
+    let recodings = stream_recodings(alloc, options, &findings)?;
     let (references, parts) = joined_stream(alloc, options, references, findings)?;
-    timed_stream(alloc, references, notes, parts)
+    timed_stream(alloc, references, recodings, notes, parts)
 }

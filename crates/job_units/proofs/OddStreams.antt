@@ -6,7 +6,7 @@ use Rattle.es_moments.specs.Stamps.{moved, unit_at}
 use Rattle.es_moments.specs.UnitMoments.{moment_of, units_at}
 use Rattle.es_moments.specs.declared.unit_moments.UnitMoment.{UnitMoment}
 use Rattle.es_moments.proofs.UnitMoments.{at_own}
-use Rattle.stream_coding.specs.FrameHeaders.{frame_kind}
+use Rattle.sound_frames.specs.FrameHeaders.{frame_kind}
 use Rattle.unit_timing.specs.declared.framing.Framing.{Framing}
 use Rattle.job_units.specs.Declarations.{MeasuredView, first_bytes, framing_for, measured}
 use Rattle.job_programs.specs.JobStreams.{TimedStreamView, WireStreamView}

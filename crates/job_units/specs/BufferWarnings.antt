@@ -6,8 +6,8 @@ use Rattle.unit_timing.specs.Shares.{parts}
 use Rattle.unit_timing.specs.declared.multiplexing_buffer.MultiplexingBuffer.{MultiplexingBuffer}
 use Rattle.stream_choice.specs.Frames.{keeps_framing}
 use Rattle.stream_choice.specs.declared.choice.Choice.{Choice}
-use Rattle.stream_coding.specs.Buffers.{buffers_of, given_buffers}
-use Rattle.stream_coding.specs.declared.buffers.PidBuffers.{PidBuffers}
+use Rattle.es_buffers.specs.Buffers.{buffers_of, given_buffers}
+use Rattle.es_buffers.specs.declared.buffers.PidBuffers.{PidBuffers}
 use Rattle.job_units.specs.declared.declarations.StreamChoice.{StreamChoice}
 use Rattle.job_programs.specs.declared.warning.Warning.{Warning}
 use Rattle.job_programs.specs.declared.warning.Warning.TheVariants as warning

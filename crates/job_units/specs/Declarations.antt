@@ -16,16 +16,16 @@ use Rattle.stream_choice.specs.Ranges.{is_needs, are_max_packets}
 use Rattle.stream_choice.specs.Shares.{delay_before, leaking_needs, least_share}
 use Rattle.stream_choice.specs.declared.choice.Choice.{Choice}
 use Rattle.stream_choice.specs.declared.needs.Needs.{Needs}
-use Rattle.stream_coding.specs.Buffers.{buffers_of, coding_holding, given_buffers, multiplexing_of}
+use Rattle.es_buffers.specs.Buffers.{buffers_of, coding_holding, given_buffers, multiplexing_of}
 use Rattle.stream_coding.specs.Codings.{coding_of}
-use Rattle.stream_coding.specs.FrameHeaders.{frame_kind}
-use Rattle.stream_coding.specs.Frames.{no_frames, all_frames}
+use Rattle.sound_frames.specs.FrameHeaders.{frame_kind}
+use Rattle.sound_frames.specs.Frames.{no_frames, all_frames}
 use Rattle.stream_coding.specs.Profiles.{profile_level}
 use Rattle.stream_coding.specs.declared.profiles.ProfileLevel.{ProfileLevel}
-use Rattle.stream_coding.specs.declared.frames.UnitFrames.{UnitFrames}
+use Rattle.sound_frames.specs.declared.frames.UnitFrames.{UnitFrames}
 use Rattle.stream_coding.specs.declared.coding.Coding.{Coding}
-use Rattle.stream_coding.specs.declared.buffers.Buffers.{Buffers}
-use Rattle.stream_coding.specs.declared.buffers.PidBuffers.{PidBuffers}
+use Rattle.es_buffers.specs.declared.buffers.Buffers.{Buffers}
+use Rattle.es_buffers.specs.declared.buffers.PidBuffers.{PidBuffers}
 use Rattle.es_moments.specs.UnitRuns.{UnitRunsView, runs_burst}
 use Rattle.es_moments.specs.CountedUnits.{CountedUnitsView, counted_units, row_packets}
 use Rattle.es_moments.specs.Declaration.{CountedPacketsView}

@@ -12,7 +12,7 @@ use Rattle.job_units.specs.declared.moved_streams.FirstDts.{FirstDts}
 use Rattle.job_programs.specs.declared.program_clock.ProgramClock.{ProgramClock}
 use Rattle.job_programs.specs.declared.refusal.JobRefusal.{JobRefusal}
 use Rattle.job_programs.specs.declared.refusal.JobRefusal.TheVariants as refusals
-use Rattle.stream_coding.specs.Stays.{longest_stay}
+use Rattle.es_buffers.specs.Stays.{longest_stay}
 use Rattle.job_programs.specs.Answers.{unless, each}
 use Rattle.job_programs.specs.JobPrograms.{JobProgramView, clock_in}
 use Rattle.job_programs.specs.JobTables.{JobTableView}

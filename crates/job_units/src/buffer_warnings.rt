@@ -6,10 +6,10 @@ ghost use Rattle.job_units.specs.BufferWarnings as spec;
 use crate::declarations::{StreamChoice, UnitCounts, coding_for, said_coding};
 use crate::stream_measures::StreamMeasures;
 use clock27::SLOT_UNITS_AT_1BPS;
+use es_buffers::{PidBuffers, buffers_of, given_buffers};
 use job_programs::Warning;
 use std::alloc::AllocError;
 use stream_choice::{Choice, keeps_framing};
-use stream_coding::{PidBuffers, buffers_of, given_buffers};
 use unit_timing::multiplexing_buffer::MultiplexingBuffer;
 use unit_timing::shares::PARTS;
 

@@ -6,16 +6,14 @@ ghost use Rattle.job_units.specs.Declarations as spec;
 ghost use Rattle.job_programs.specs.FoundUnits.{FitsQueue};
 
 use crate::stream_measures::StreamMeasures;
+use es_buffers::{Buffers, PidBuffers, buffers_of, coding_holding, given_buffers, multiplexing_of};
 use es_moments::CountedPackets;
 use job_programs::{JobError, JobRefusal, TimedStream};
 use pes_packet::greatest_size;
 use std::alloc::{AllocError, Global};
 use std::marker::Model;
 use stream_choice::{Choice, Needs};
-use stream_coding::{
-    Buffers, Coding, PidBuffers, buffers_of, coding_holding, coding_of, given_buffers,
-    multiplexing_of,
-};
+use stream_coding::{Coding, coding_of};
 use unit_timing::framing::Framing;
 use unit_timing::multiplexing_buffer::MultiplexingBuffer;
 

@@ -20,8 +20,8 @@ use es_moments::{FoundUnit, StampError, UnitMoment, WireUnit, found_moments, uni
 use es_units::PidLinks;
 use job_programs::{JobError, JobOptions, JobRefusal, TimedStream, WireStream};
 use pes_packet::Unit;
+use sound_frames::frame_kind;
 use std::alloc::{AllocError, Global};
-use stream_coding::frame_kind;
 
 // What the clock shows if the first unit is due at once.
 #[tactic(auto, unfolding(crate::specs::OddStreams::own_base, crate::specs::Moments::first_dts))]

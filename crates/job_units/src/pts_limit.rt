@@ -3,9 +3,9 @@
 ghost use Rattle.std.specs.Prelude.{◌≡◌};
 ghost use Rattle.job_units.specs.Moments as spec;
 
+use es_buffers::longest_stay;
 use es_moments::max_pts_after;
 use job_programs::{TimedStream, WireStream};
-use stream_coding::longest_stay;
 
 // What a description says if it has no key for it, in units of 90 kHz: a second.
 const DEFAULT: u64 = 90_000;

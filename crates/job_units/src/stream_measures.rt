@@ -3,8 +3,8 @@
 ghost use Rattle.std.specs.Prelude.{◌≡◌, map, IfOk, None};
 ghost use Rattle.es_moments.specs.Stamps.{moved};
 ghost use Rattle.es_moments.specs.UnitMoments.{moment_of};
-ghost use Rattle.stream_coding.specs.Frames.{no_frames, all_frames};
-ghost use Rattle.stream_coding.specs.FrameHeaders.{frame_kind};
+ghost use Rattle.sound_frames.specs.Frames.{no_frames, all_frames};
+ghost use Rattle.sound_frames.specs.FrameHeaders.{frame_kind};
 ghost use Rattle.job_units.specs.Declarations as spec;
 ghost use Rattle.job_units.specs.Moments.{wire_of};
 ghost use Rattle.job_units.specs.OddStreams.{alone, first_carried, own_base};
@@ -12,9 +12,10 @@ ghost use Rattle.job_units.specs.OddStreams.{alone, first_carried, own_base};
 use es_moments::{CountedUnits, UnitMoment};
 use job_programs::{TimedStream, WireStream};
 use pes_packet::Unit;
+use sound_frames::{FrameKind, UnitFrames, frame_kind, unit_frames};
 use std::alloc::{AllocError, Global};
 use std::marker::Model;
-use stream_coding::{FrameKind, ProfileLevel, UnitFrames, frame_kind, profile_level, unit_frames};
+use stream_coding::{ProfileLevel, profile_level};
 use unit_timing::framing::Framing;
 
 /// The measures of a stream: what its entry in the program map says, the bytes of its first unit, the access units of a

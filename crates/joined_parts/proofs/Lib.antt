@@ -1,3 +1,4 @@
 pub mod CutLists
+pub mod MapLists
 pub mod MovedFindings
 pub mod PartOrder

@@ -3,8 +3,8 @@ use Rattle.std.proofs.Common.{◌≡◌, ◌∙◌, ◌<◌, ◌≤◌, ℕ, ◌
 use Rattle.std.proofs.Common.{set, get_or, refl, sym, ap, ap₂, arith}
 use Rattle.std.proofs.lemmas.List.{append_assoc, append-nil, drop_all, drop_more, drop-set-lt, map-append, take_all, take_more_set}
 use Rattle.demux.specs.Views.{FindingView, WhatView, IsDuplicate, BreaksCounter, IsScrambled, IsTruncated, IsSection, IsBadSection, IsPes, IsBadPes}
-use Rattle.demux.specs.Views.{IsBadPacket, IsErrored}
-use Rattle.stream_programs.specs.Association.{association}
+use Rattle.demux.specs.Views.{IsBadPacket, IsErrored, IsStray}
+use Rattle.program_tables.specs.Association.{association}
 use Rattle.stream_programs.specs.Programs.{FoundProgramsView}
 use Rattle.data_times.specs.DataTimes.{programs_by}
 use Rattle.packet_pcr.specs.declared.pcr_reading.FoundPcr.{FoundPcr}
@@ -19,29 +19,30 @@ use Rattle.joined_parts.specs.declared.stamps.UnitStamp.{UnitStamp}
 
 -- 1. One after another
 
-pub moved_more : {X : Type 0} (view : X → FindingView) (j : JoinsView) (xs : List X) (i : ℕ) (x y : X) (whole : List FindingView) → i < length xs →
-    x ≡ get_or xs i x → view y ≡ moved j (view x) →
-    map view (take i xs) ++ all_moved j (map view (drop i xs)) ≡ whole →
-    map view (take (i + 1) (set xs i y)) ++ all_moved j (map view (drop (i + 1) (set xs i y))) ≡ whole
-moved_more {X = X} view j xs i x y whole within at one before =
+pub changed_more : {X : Type 0} (view : X → FindingView) (change : FindingView → FindingView) (xs : List X) (i : ℕ) (x y : X) (whole : List FindingView) →
+    i < length xs → x ≡ get_or xs i x → view y ≡ change (view x) →
+    map view (take i xs) ++ map change (map view (drop i xs)) ≡ whole →
+    map view (take (i + 1) (set xs i y)) ++ map change (map view (drop (i + 1) (set xs i y))) ≡ whole
+changed_more {X = X} view change xs i x y whole within at one before =
     let front : take (i + 1) (set xs i y) ≡ take i xs ++ y ∷ [] = take_more_set xs i y within in
     let back : drop (i + 1) (set xs i y) ≡ drop (i + 1) xs = drop-set-lt (i + 1) xs i y (omega arith) in
     let left : drop i xs ≡ x ∷ drop (i + 1) xs = drop_more xs i x within ∙ ap (λ (z : X). z ∷ drop (i + 1) xs) (sym at) in
-    let later = all_moved j (map view (drop (i + 1) xs)) in
-    ap (λ (l : List X). map view l ++ all_moved j (map view (drop (i + 1) (set xs i y)))) front
-    ∙ ap (λ (l : List X). map view (take i xs ++ y ∷ []) ++ all_moved j (map view l)) back
+    let later = map change (map view (drop (i + 1) xs)) in
+    ap (λ (l : List X). map view l ++ map change (map view (drop (i + 1) (set xs i y)))) front
+    ∙ ap (λ (l : List X). map view (take i xs ++ y ∷ []) ++ map change (map view l)) back
     ∙ ap (λ (l : List FindingView). l ++ later) (map-append view (take i xs) (y ∷ []))
     ∙ append_assoc (map view (take i xs)) (view y ∷ []) later
     ∙ ap (λ (f : FindingView). map view (take i xs) ++ f ∷ later) one
-    ∙ ap (λ (l : List X). map view (take i xs) ++ all_moved j (map view l)) (sym left)
+    ∙ ap (λ (l : List X). map view (take i xs) ++ map change (map view l)) (sym left)
     ∙ before
 
-pub moved_whole : {X : Type 0} (view : X → FindingView) (j : JoinsView) (xs : List X) (i : ℕ) (whole : List FindingView) → length xs ≤ i →
-    map view (take i xs) ++ all_moved j (map view (drop i xs)) ≡ whole → map view xs ≡ whole
-moved_whole {X = X} view j xs i whole all is =
+pub changed_whole : {X : Type 0} (view : X → FindingView) (change : FindingView → FindingView) (xs : List X) (i : ℕ) (whole : List FindingView) →
+    length xs ≤ i →
+    map view (take i xs) ++ map change (map view (drop i xs)) ≡ whole → map view xs ≡ whole
+changed_whole {X = X} view change xs i whole all is =
     sym (append-nil (map view xs))
     ∙ ap (λ (l : List X). map view l ++ []) (sym (take_all i xs all))
-    ∙ ap (λ (l : List X). map view (take i xs) ++ all_moved j (map view l)) (sym (drop_all i xs all))
+    ∙ ap (λ (l : List X). map view (take i xs) ++ map change (map view l)) (sym (drop_all i xs all))
     ∙ is
 
 -- 2. Nothing but stamps
@@ -58,6 +59,7 @@ same_what shift (IsPes header unended body) = refl
 same_what shift (IsBadPes error) = refl
 same_what shift (IsBadPacket error) = refl
 same_what shift IsErrored = refl
+same_what shift (IsStray size) = refl
 
 same_finding : (shift : Option ℕ) (f : FindingView) → unstamped (moved_by shift f) ≡ unstamped f
 unfolding moved_by

@@ -1,5 +1,9 @@
+pub mod MapStreams
+pub mod WholeMaps
+pub mod Recodings
 pub mod Cuts
 pub mod UnitStamps
 pub mod Joins
 pub mod Joined
+pub mod Recordings
 pub mod Laws

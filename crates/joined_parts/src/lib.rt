@@ -8,17 +8,30 @@
 //! - `stamps`: the DTS of units, each by the clock of its program (`specs/UnitStamps`).
 //! - `joins`: which unit is in which part, and the constant of each part (`specs/Joins`).
 //! - [`part_joins`], [`PartJoins`]: the findings and references of a recording, moved (`specs/Joined`).
+//! - `map_streams`, `known_maps`, `whole_maps`: each map with the streams of all maps of its program, one PID for its
+//!   clock references (`specs/MapStreams`, `specs/WholeMaps`).
+//! - [`recodings_in`], `carried_pids`: what a PID carries before its coding changes, on a PID of its own
+//!   (`specs/Recodings`).
+//! - [`one_recording`]: the findings and references of a recording as those of one (`specs/Recordings`).
 //! - [`nothing_else_moves`], [`whole_recording_stays`], [`parts_come_in_order`]: laws over the definitions (`specs/Laws`).
 #![tactic(auto)]
 
+mod carried_pids;
 mod cuts;
 mod joined;
 mod joins;
+mod known_maps;
 mod laws;
+mod map_streams;
+mod recodings;
+mod recording;
 mod stamps;
+mod whole_maps;
 
 pub use cuts::Cut;
 pub use joined::{PartJoins, part_joins};
 pub use joins::Join;
 pub use laws::{nothing_else_moves, parts_come_in_order, whole_recording_stays};
+pub use recodings::{Recoding, recodings_in};
+pub use recording::one_recording;
 pub use stamps::UnitStamp;

@@ -15,7 +15,7 @@ use stream_programs::{FoundPrograms, FoundStream};
 pub struct UnitStamp {
     /// The PID of the references of its program's clock.
     pub clock: u16,
-    /// The packet in which it begins.
+    //// Returns the packet in which it begins.
     pub packet: u64,
     /// Its DTS, in units of 90 kHz modulo 2^33.
     pub dts: u64,
@@ -44,9 +44,9 @@ fn dts_in(what: &What<'_>) -> Option<u64>
     }
 }
 
-// The packet in which it begins.
+/// Returns the packet in which it begins.
 #[tactic(auto, unfolding(crate::specs::UnitStamps::begin_of))]
-fn begin_of(begun: Option<(u64, Kind)>, packet: u64) -> u64
+pub(crate) fn begin_of(begun: Option<(u64, Kind)>, packet: u64) -> u64
     ensures { result ≡ spec.begin_of begun packet }
 {
     match begun {

@@ -1,4 +1,4 @@
-//! `tsair` writes the same packets as `tsmux mux` for a job that `tsmux mux` takes, byte for byte.
+//! `tsair` writes what `tsmux mux` writes for the same job, byte for byte.
 //!
 //! Each function here is a law: it does nothing, and its contract states a fact about the contracts of both programs'
 //! `run`.

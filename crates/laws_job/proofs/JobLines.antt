@@ -5,7 +5,7 @@ use Rattle.std.specs.Prelude.{ok_or, option_to_list, is_some}
 use Rattle.std.specs.List.{list_any}
 use Rattle.std.proofs.lemmas.List.Elements.{Contains-append_left, Contains-append_right}
 use Rattle.demux.specs.Views.{WhatView, IsTruncated, IsBadPacket, IsErrored, FindingView}
-use Rattle.stream_programs.specs.Association.{AssociationView, association}
+use Rattle.program_tables.specs.Association.{AssociationView, association}
 use Rattle.stream_programs.specs.PidAssignment.{assigned_pids}
 use Rattle.stream_programs.specs.Programs.{FoundProgramsView, programs_of}
 use Rattle.stream_programs.specs.Streams.{FoundStreamView}

@@ -9,7 +9,7 @@ use Rattle.pes_packet.specs.declared.marks.Marks.{Marks}
 use Rattle.pes_packet.specs.declared.reading.PesHeader.{PesHeader}
 use Rattle.pes_packet.specs.declared.time_stamps.Stamps.{Stamps}
 use Rattle.pes_packet.specs.declared.time_stamps.Stamps.TheVariants.{Absent, Pts, PtsDts}
-use Rattle.demux.specs.Views.{WhatView, IsDuplicate, BreaksCounter, IsScrambled, IsTruncated, IsSection, IsBadSection, IsPes, IsBadPes, IsBadPacket, IsErrored}
+use Rattle.demux.specs.Views.{WhatView, IsDuplicate, BreaksCounter, IsScrambled, IsTruncated, IsSection, IsBadSection, IsPes, IsBadPes, IsBadPacket, IsErrored, IsStray}
 use Rattle.demux.specs.Views.{FindingView}
 use Rattle.demux.specs.Laws.{has_pid}
 use Rattle.es_moments.specs.WireUnits.{CarriedUnit, unit_with}
@@ -250,6 +250,8 @@ unfolding Accounted cause_of_what
 by_what pid count before f later IsDuplicate own is = tt
 by_what pid count before f later (IsBadPacket error) own is = tt
 by_what pid count before f later IsErrored own is = tt
+by_what pid count before f later (IsStray size) own is =
+    own_line pid count before f later (IsStray size) causes.Stray own is (λ current lost alone. refl)
 by_what pid count before f later (BreaksCounter expected found) own is =
     own_line pid count before f later (BreaksCounter expected found) (causes.Counter expected found) own is (λ current lost alone. refl)
 by_what pid count before f later IsScrambled own is =

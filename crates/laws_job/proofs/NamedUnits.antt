@@ -7,7 +7,7 @@ use Rattle.pes_packet.specs.HeaderMarks.{header_marks}
 use Rattle.pes_packet.specs.declared.marks.Marks.{Marks}
 use Rattle.pes_packet.specs.declared.time_stamps.Stamps.{Stamps}
 use Rattle.pes_packet.specs.declared.time_stamps.Stamps.TheVariants.{Absent, Pts, PtsDts}
-use Rattle.demux.specs.Views.{WhatView, IsDuplicate, BreaksCounter, IsScrambled, IsTruncated, IsSection, IsBadSection, IsPes, IsBadPes, IsBadPacket, IsErrored}
+use Rattle.demux.specs.Views.{WhatView, IsDuplicate, BreaksCounter, IsScrambled, IsTruncated, IsSection, IsBadSection, IsPes, IsBadPes, IsBadPacket, IsErrored, IsStray}
 use Rattle.demux.specs.Views.{FindingView}
 use Rattle.demux.specs.Laws.{has_pid}
 use Rattle.es_moments.specs.WireUnits.{CarriedUnit, unit_with}
@@ -130,6 +130,7 @@ first_what split pid count place at current unstamped access (IsBadSection error
 first_what split pid count place at current unstamped access (IsBadPes error) rest u is = absurd (cc)
 first_what split pid count place at current unstamped access (IsBadPacket error) rest u is = absurd (cc)
 first_what split pid count place at current unstamped access IsErrored rest u is = absurd (cc)
+first_what split pid count place at current unstamped access (IsStray size) rest u is = absurd (cc)
 first_what split pid count place at current unstamped access (IsPes header unended body) rest u is =
     first_pes split pid place header.id current body unended (header_marks access header) header.stamps rest u is
 

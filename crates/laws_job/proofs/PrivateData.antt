@@ -12,7 +12,7 @@ use Rattle.pes_packet.proofs.Sixteen.{marks_have_sixteen}
 use Rattle.description_parts.specs.Described.{Described, DescribedStream}
 use Rattle.demux.specs.Laws.{has_pid}
 use Rattle.demux.specs.Views.{FindingView, WhatView, IsDuplicate, BreaksCounter, IsScrambled, IsTruncated, IsSection, IsBadSection, IsPes, IsBadPes}
-use Rattle.demux.specs.Views.{IsBadPacket, IsErrored}
+use Rattle.demux.specs.Views.{IsBadPacket, IsErrored, IsStray}
 use Rattle.es_moments.specs.ApartUnits.{apart_dts}
 use Rattle.es_units.specs.CarriedUnits.{RoleView, carried_units, Ignored, Start, Continuation, Interruption, continuation, first_packet}
 use Rattle.es_units.specs.CarriedUnits.{is_access_point, is_cut, is_split, is_unstamped, pes_role, role_of, role_of_what, units_from, units_in}
@@ -61,6 +61,7 @@ what_starts packet unstamped access (IsPes header unended body) =
 what_starts packet unstamped access (IsBadPes error) = tt
 what_starts packet unstamped access (IsBadPacket error) = tt
 what_starts packet unstamped access IsErrored = tt
+what_starts packet unstamped access (IsStray size) = tt
 
 if_own : (b : Bool) (role : RoleView) → Starts role → Starts (cond b role Ignored)
 if_own true role h = h

@@ -1,14 +1,15 @@
--- Payload goes on with what is open, or follows nothing, a loss or an end.
+-- Payload goes on with what is open, or follows nothing, a loss or an end, and is found as stray.
 use Rattle.std.proofs.Common.{◌≡◌, ◌∙◌, ◌⊎◌, inl, inr, ℕ, ◌++◌, ◌||◌, Bool, true, false, if◌then◌else◌, List, [], ◌∷◌, Option, Some, None, is_some}
 use Rattle.std.proofs.Common.{option_map, refl, sym, ap, ap₂}
 use Rattle.std.proofs.lemmas.List.{append_assoc}
-use Rattle.demux.specs.Views.{WhatView}
+use Rattle.demux.specs.Views.{BreaksCounter, Found, IsDuplicate, WhatView}
 use Rattle.demux.specs.Marks.{Marked}
 use Rattle.demux.specs.Roles.{Role, NoPayload, ScrambledPayload, PesStart, SectionStart, PointerPastEnd, Continuation, role, role_divides}
-use Rattle.demux.specs.OpenUnits.{OpenUnit, decided, appended, section, last_in}
+use Rattle.demux.specs.OpenUnits.{OpenUnit, appended, decided, last_in, plain, section}
 use Rattle.demux.specs.declared.open_unit.UnitKind.TheVariants as unit_kinds
-use Rattle.demux.specs.Findings.{divides, divider, joined, begins, stretch, unless_decided, undecided, open_after}
-use Rattle.laws_job.specs.StrayPayload.{GoesOn, FollowsLoss, FollowsEnd, StrayPayloadLaw}
+use Rattle.demux.specs.Findings.{begins, by_break, by_role, cut_short, divider, divides, found_appended, found_at, joined, open_after, stray, stretch, undecided}
+use Rattle.demux.specs.Findings.{unless_decided}
+use Rattle.laws_job.specs.StrayPayload.{FollowsEnd, FollowsLoss, GoesOn, IsFoundStray, LostPayloadLaw, StrayPayloadLaw, Waits}
 
 -- 1. The last packet in which something could begin
 
@@ -67,7 +68,57 @@ no_start before d more PointerPastEnd at is none splits = record { packet = d; l
 no_start before d more (SectionStart front rest) at is none splits = record { packet = d; last = at; why = inr (inr (inr (front, rest, is))) }
 no_start before d more (PesStart access bytes) at is none splits = absurd (cc)
 
--- 4. All of it
+-- 4. Where nothing is open
+
+-- a duplicate has no payload
+not_twice : (m : Marked) (payload : List ℕ) (twice : Bool) → m.duplicate ≡ twice → role m ≡ Continuation payload → m.duplicate ≡ false
+unfolding role
+not_twice m payload true twice is = let no : NoPayload ≡ Continuation payload = rw twice at is in absurd (cc)
+not_twice m payload false twice is = twice
+
+none_open : (packet : ℕ) (r : Role) (payload : List ℕ) (open_unit : Option OpenUnit) → r ≡ Continuation payload → open_unit ≡ None →
+    by_role packet r open_unit ≡ stray payload
+unfolding by_role found_appended
+none_open packet r payload open_unit is none = rw (is, none) refl
+
+-- what is found at a packet that is no duplicate
+at_broken : (m : Marked) (payload : List ℕ) (broken : Option (ℕ × ℕ)) (open_unit : Option OpenUnit) → role m ≡ Continuation payload → m.broken ≡ broken →
+    found_at m open_unit ≡ by_break m.entry.index broken (role m) open_unit
+unfolding found_at
+at_broken m payload broken open_unit is at =
+    ap₂ (λ (twice : Bool) (b : Option (ℕ × ℕ)). if twice then plain IsDuplicate ∷ [] else by_break m.entry.index b (role m) open_unit)
+    (not_twice m payload m.duplicate refl is) at
+
+found_none : (m : Marked) (payload : List ℕ) (open_unit : Option OpenUnit) → role m ≡ Continuation payload → m.broken ≡ None → open_unit ≡ None →
+    found_at m open_unit ≡ stray payload
+unfolding by_break
+found_none m payload open_unit is whole none = at_broken m payload None open_unit is whole ∙ none_open m.entry.index (role m) payload open_unit is none
+
+found_stray : (before : List Marked) (m : Marked) (payload : List ℕ) → role m ≡ Continuation payload → m.broken ≡ None → open_after before ≡ None →
+    IsFoundStray before m payload
+found_stray before m payload is whole none = record { none = none; found = found_none m payload (open_after before) is whole none }
+
+none_divides : (before : List Marked) → divider before ≡ None → open_after before ≡ None
+unfolding open_after stretch
+none_divides before at = rw at refl
+
+none_began : (before : List Marked) (d : Marked) → divider before ≡ Some d → begins d.entry.index (role d) (joined before) ≡ None → open_after before ≡ None
+unfolding open_after stretch
+none_began before d at none = rw (at, none) refl
+
+over : (before : List Marked) (unit : OpenUnit) (what : WhatView) → stretch before ≡ Some unit → decided unit.kind unit.bytes ≡ Some what →
+    open_after before ≡ None
+unfolding open_after undecided unless_decided
+over before unit what began ends = rw (began, ends) refl
+
+pub lost : LostPayloadLaw
+unfolding by_break
+lost before m payload b is broken =
+    at_broken m payload (Some b) (open_after before) is broken
+    ∙ ap (λ (found : List Found). plain (BreaksCounter b.0 b.1) ∷ cut_short (open_after before) ++ found)
+    (none_open m.entry.index (role m) payload None is refl)
+
+-- 5. All of it
 
 -- with what is open
 goes_on : (before : List Marked) (m : Marked) (payload : List ℕ) (d : Marked) (unit : OpenUnit) → role m ≡ Continuation payload → m.broken ≡ None →
@@ -83,25 +134,32 @@ goes_on before m payload d unit is whole at began undone =
 
 by_end : (before : List Marked) (m : Marked) (payload : List ℕ) (d : Marked) (unit : OpenUnit) (what : Option WhatView) → role m ≡ Continuation payload →
     m.broken ≡ None → divider before ≡ Some d → begins d.entry.index (role d) (joined before) ≡ Some unit → decided unit.kind unit.bytes ≡ what →
-    GoesOn before m payload ⊎ ((divider before ≡ None) ⊎ (FollowsLoss before ⊎ FollowsEnd before))
+    GoesOn before m payload ⊎ (IsFoundStray before m payload × Waits before)
 unfolding stretch undecided unless_decided
 by_end before m payload d unit None is whole at began ends = inl (goes_on before m payload d unit is whole at began (rw ends refl))
 by_end before m payload d unit (Some what) is whole at began ends =
-    inr (inr (inr (record { unit = unit; began = rw (at, began) refl; what = what; ends = ends })))
+    let here : stretch before ≡ Some unit = rw (at, began) refl in
+    inr (
+      found_stray before m payload is whole (over before unit what here ends),
+      inr (inr (record { unit = unit; began = here; what = what; ends = ends })),
+    )
 
 by_start : (before : List Marked) (m : Marked) (payload : List ℕ) (d : Marked) (begun : Option OpenUnit) → role m ≡ Continuation payload →
     m.broken ≡ None → divider before ≡ Some d → begins d.entry.index (role d) (joined before) ≡ begun →
-    GoesOn before m payload ⊎ ((divider before ≡ None) ⊎ (FollowsLoss before ⊎ FollowsEnd before))
+    GoesOn before m payload ⊎ (IsFoundStray before m payload × Waits before)
 unfolding divides
 by_start before m payload d None is whole at none =
-    inr (inr (inl (no_start before d (joined before) (role d) at refl none (it_divides before d at))))
+    inr (
+      found_stray before m payload is whole (none_began before d at none),
+      inr (inl (no_start before d (joined before) (role d) at refl none (it_divides before d at))),
+    )
 by_start before m payload d (Some unit) is whole at began = by_end before m payload d unit (decided unit.kind unit.bytes) is whole at began refl
 
 by_divider : (before : List Marked) (m : Marked) (payload : List ℕ) (d : Option Marked) → role m ≡ Continuation payload → m.broken ≡ None →
-    divider before ≡ d → GoesOn before m payload ⊎ ((divider before ≡ None) ⊎ (FollowsLoss before ⊎ FollowsEnd before))
-by_divider before m payload None is whole at = inr (inl at)
+    divider before ≡ d → GoesOn before m payload ⊎ (IsFoundStray before m payload × Waits before)
+by_divider before m payload None is whole at = inr (found_stray before m payload is whole (none_divides before at), inl at)
 by_divider before m payload (Some d) is whole at =
     by_start before m payload d (begins d.entry.index (role d) (joined before)) is whole at refl
 
-pub stray : StrayPayloadLaw
-stray before m payload is whole = by_divider before m payload (divider before) is whole refl
+pub stray_law : StrayPayloadLaw
+stray_law before m payload is whole = by_divider before m payload (divider before) is whole refl

@@ -1,7 +1,7 @@
 -- The lines of a job say all that is left out of its input's streams.
 use Rattle.std.specs.Prelude.{◌≡◌, ◌⊎◌, ℕ, ◌==◌, Bool, true, false, List, map, Contains, Some, Ok}
 use Rattle.demux.specs.Views.{FindingView}
-use Rattle.stream_programs.specs.Association.{AssociationView, association}
+use Rattle.program_tables.specs.Association.{AssociationView, association}
 use Rattle.stream_programs.specs.Programs.{programs_of}
 use Rattle.stream_programs.specs.Streams.{FoundStreamView}
 use Rattle.es_units.specs.UnitWarnings.{unit_warnings}

@@ -1,7 +1,7 @@
 -- Nothing that is found of a stream is left out in silence: it is in a unit of the job, or a line names its packet.
 use Rattle.std.specs.Prelude.{◌≡◌, ◌⊎◌, ⊤, ℕ, true, List, [], ◌∷◌, ◌++◌, length, Contains}
 use Rattle.pes_packet.specs.declared.reading.PesHeader.{PesHeader}
-use Rattle.demux.specs.Views.{WhatView, IsDuplicate, BreaksCounter, IsScrambled, IsTruncated, IsSection, IsBadSection, IsPes, IsBadPes, IsBadPacket, IsErrored}
+use Rattle.demux.specs.Views.{WhatView, IsDuplicate, BreaksCounter, IsScrambled, IsTruncated, IsSection, IsBadSection, IsPes, IsBadPes, IsBadPacket, IsErrored, IsStray}
 use Rattle.demux.specs.Views.{FindingView}
 use Rattle.demux.specs.Laws.{has_pid}
 use Rattle.es_moments.specs.WireUnits.{CarriedUnit}
@@ -67,6 +67,7 @@ Accounted pid count before f later (IsPes header unended body) =
 Accounted pid count before f later (IsBadPes error) = HasLine pid count (before ++ f ∷ later) (first_packet f.packet f.begun) (causes.BadPes error)
 Accounted pid count before f later (IsBadPacket error) = ⊤
 Accounted pid count before f later IsErrored = ⊤
+Accounted pid count before f later (IsStray size) = HasLine pid count (before ++ f ∷ later) (first_packet f.packet f.begun) causes.Stray
 
 -- so each finding of a PID, with those before it and those after it
 abbrev pub NothingIsSilent : Type 0

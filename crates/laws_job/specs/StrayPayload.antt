@@ -1,10 +1,10 @@
--- Payload that is in no PES packet and in no section, so that nothing is found of it. The packets of a PID have the last one first.
-use Rattle.std.specs.Prelude.{◌≡◌, ◌⊎◌, ℕ, List, ◌∷◌, Some, None}
-use Rattle.demux.specs.Views.{WhatView}
+-- Payload that is in no PES packet and in no section: it is found as stray. The packets of a PID have the last one first.
+use Rattle.std.specs.Prelude.{◌≡◌, ◌⊎◌, ℕ, List, ◌∷◌, ◌++◌, Some, None}
+use Rattle.demux.specs.Views.{WhatView, BreaksCounter}
 use Rattle.demux.specs.Marks.{Marked}
 use Rattle.demux.specs.Roles.{ScrambledPayload, SectionStart, PointerPastEnd, Continuation, role}
-use Rattle.demux.specs.OpenUnits.{OpenUnit, decided, appended}
-use Rattle.demux.specs.Findings.{divider, stretch, open_after}
+use Rattle.demux.specs.OpenUnits.{OpenUnit, decided, appended, plain}
+use Rattle.demux.specs.Findings.{cut_short, divider, found_at, open_after, stray, stretch}
 
 -- the payload of the next packet goes on with a PES packet or a section that is not whole
 pub record GoesOn (before : List Marked) (m : Marked) (payload : List ℕ) : Type 0 where
@@ -27,8 +27,21 @@ pub record FollowsEnd (before : List Marked) : Type 0 where
   pub what : WhatView
   pub ends : decided unit.kind unit.bytes ≡ Some what
 
--- payload that begins nothing, is not scrambled and no repetition, and whose counter follows: it goes on with what is open, or nothing has begun on
--- the PID, or what follows a loss or an end waits for the next beginning
+-- nothing has begun on the PID, or what follows a loss or an end waits for the next beginning
+abbrev pub Waits : List Marked → Type 0
+Waits before = (divider before ≡ None) ⊎ (FollowsLoss before ⊎ FollowsEnd before)
+
+-- nothing is open, and the payload is found as stray, if it has a byte
+pub record IsFoundStray (before : List Marked) (m : Marked) (payload : List ℕ) : Type 0 where
+  pub none : open_after before ≡ None
+  pub found : found_at m (open_after before) ≡ stray payload
+
+-- payload that begins nothing, is not scrambled and no repetition, and whose counter follows: it goes on with what is open, or it is found as stray
 abbrev pub StrayPayloadLaw : Type 0
 StrayPayloadLaw = (before : List Marked) (m : Marked) (payload : List ℕ) → role m ≡ Continuation payload → m.broken ≡ None →
-    GoesOn before m payload ⊎ ((divider before ≡ None) ⊎ (FollowsLoss before ⊎ FollowsEnd before))
+    GoesOn before m payload ⊎ (IsFoundStray before m payload × Waits before)
+
+-- such payload of a packet whose counter breaks is found as stray, after the loss and what that cuts short
+abbrev pub LostPayloadLaw : Type 0
+LostPayloadLaw = (before : List Marked) (m : Marked) (payload : List ℕ) (b : ℕ × ℕ) → role m ≡ Continuation payload → m.broken ≡ Some b →
+    found_at m (open_after before) ≡ plain (BreaksCounter b.0 b.1) ∷ cut_short (open_after before) ++ stray payload

@@ -6,7 +6,7 @@ ghost use Rattle.laws_job.specs.JoinedLaws.{JoinedAcceptedLaw, JoinedAgainLaw};
 ghost use Rattle.laws_job.specs.LeftOut.{NothingIsSilent};
 ghost use Rattle.laws_job.specs.JobLines.{JobLinesLaw};
 ghost use Rattle.laws_job.specs.FoundOrNamed.{FoundOrNamedLaw, JoinedOrNamedLaw};
-ghost use Rattle.laws_job.specs.StrayPayload.{StrayPayloadLaw};
+ghost use Rattle.laws_job.specs.StrayPayload.{LostPayloadLaw, StrayPayloadLaw};
 
 /// States that no unit of such a job is refused, in the job's order and before the first slot: each stream's units keep
 /// what its description declares, and have room.
@@ -89,9 +89,9 @@ pub fn tables_first()
 
 /// States that nothing that is found of a stream is left out in silence: each PES packet on its PID is padding_stream
 /// (ISO/IEC 13818-1, 2.4.3.7), or a part of a unit that is carried, or a line names its first packet or that of its
-/// unit; and a line names each counter that breaks, scrambled packet, section, and PES packet that is cut or wrong
+/// unit; and a line names each counter that breaks, scrambled or stray packet, section, and PES packet that is cut or wrong
 /// (`found`). The warnings of a job have these lines of all its streams, and a line for each damaged packet and for
-/// each stream that is left out, except by an option (`lines`). Payload that is in no PES packet is not found.
+/// each stream that is left out, except by an option (`lines`).
 pub fn nothing_is_silent()
     ensures found { NothingIsSilent }
     ensures lines { JobLinesLaw }
@@ -110,9 +110,11 @@ pub fn found_or_named()
     nothing_is_silent();
 }
 
-/// States which payload of a PID's packets is in nothing that is found, if it is not scrambled, begins nothing and its
-/// counter follows: what comes before the first beginning, after a loss or a section up to the next beginning, and
-/// after the bytes that a PES packet or a section has by its own length. All other payload goes on with what is open.
+/// States which payload of a PID's packets is found as stray, if it is not scrambled and begins nothing: what comes
+/// before the first beginning, after a loss or a section up to the next beginning, and after the bytes that a PES packet
+/// or a section has by its own length. All other payload goes on with what is open (`found`). If the counter breaks,
+/// the payload is stray (`lost`).
 pub fn stray_payload()
-    ensures { StrayPayloadLaw }
+    ensures found { StrayPayloadLaw }
+    ensures lost { LostPayloadLaw }
 {}

@@ -10,7 +10,7 @@ use Rattle.pes_packet.specs.Reading.{header_at}
 use Rattle.pes_packet.specs.declared.reading.PesHeader.{PesHeader}
 use Rattle.pes_packet.specs.declared.refusal.PesError.{PesError}
 use Rattle.pes_packet.specs.declared.refusal.PesError.TheVariants as pes_errors
-use Rattle.demux.specs.Views.{Found, WhatView, IsDuplicate, IsScrambled, IsTruncated, IsSection, IsBadSection, IsPes, IsBadPes}
+use Rattle.demux.specs.Views.{Found, WhatView, IsDuplicate, IsScrambled, IsTruncated, IsSection, IsBadSection, IsPes, IsBadPes, IsStray}
 use Rattle.demux.specs.Marks.{LastView, Marked, break_at, is_repeat, mark}
 use Rattle.ts_packet.specs.PidList.{Entry}
 use Rattle.demux.specs.Roles.{Role, NoPayload, ScrambledPayload, PesStart, SectionStart, PointerPastEnd, Continuation, role}
@@ -162,9 +162,14 @@ last_quiet bytes (Some unit) = by unit.kind
     by unit_kinds.Section =
         or_cut_quiet (appended unit bytes) (decided unit_kinds.Section (unit.bytes ++ bytes)) (decided_quiet unit_kinds.Section (unit.bytes ++ bytes))
 
+stray_quiet : (n : ℕ) (none : Bool) → all_quiet (cond none [] (plain (IsStray n) ∷ []))
+unfolding finding_rule failing
+stray_quiet n true = tt
+stray_quiet n false = (λ pid packet. refl, tt)
+
 appended_quiet : (payload : List ℕ) (held : Option OpenUnit) → all_quiet (found_appended payload held)
 unfolding found_appended
-appended_quiet payload None = tt
+appended_quiet payload None = stray_quiet (length payload) (length payload == 0)
 appended_quiet payload (Some unit) =
     if_quiet (appended unit payload) (decided unit.kind (unit.bytes ++ payload)) (decided_quiet unit.kind (unit.bytes ++ payload))
 

@@ -9,7 +9,7 @@ use Rattle.ts_packet.specs.Views.{PacketView}
 use Rattle.ts_packet.specs.Reading.{packet_at}
 use Rattle.ts_packet.specs.PidList.{cut_packets}
 use Rattle.demux.specs.Views.{PidFinding, WhatView, IsDuplicate, BreaksCounter, IsScrambled, IsTruncated, IsSection, IsBadSection, IsPes, IsBadPes, IsBadPacket}
-use Rattle.demux.specs.Views.{IsErrored}
+use Rattle.demux.specs.Views.{IsErrored, IsStray}
 use Rattle.monitor.specs.declared.fault.StreamFault.{StreamFault}
 use Rattle.monitor.specs.declared.fault.Rule.{Rule}
 use Rattle.monitor.specs.declared.fault.Rule.TheVariants as rules
@@ -112,6 +112,7 @@ none_finding p pid k (IsPes header unended body) n c s = refl
 none_finding p pid k (IsBadPes error) n c s = refl
 none_finding p pid k (IsBadPacket error) n c s = refl
 none_finding p pid k IsErrored n c s = refl
+none_finding p pid k (IsStray size) n c s = refl
 
 none_of_pid : (p : StreamFault → Bool) (pid : ℕ) (found : List PidFinding) → Without p rules.Counter → Without p rules.Crc → Without p rules.Section →
     filter p (finding_faults pid found) ≡ []

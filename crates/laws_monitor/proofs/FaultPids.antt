@@ -9,7 +9,7 @@ use Rattle.ts_packet.specs.Views.{PacketView}
 use Rattle.ts_packet.specs.Reading.{packet_at}
 use Rattle.ts_packet.specs.PidList.{cut_packets}
 use Rattle.demux.specs.Views.{PidFinding, WhatView, IsDuplicate, BreaksCounter, IsScrambled, IsTruncated, IsSection, IsBadSection, IsPes, IsBadPes, IsBadPacket}
-use Rattle.demux.specs.Views.{IsErrored}
+use Rattle.demux.specs.Views.{IsErrored, IsStray}
 use Rattle.monitor.specs.declared.fault.StreamFault.{StreamFault}
 use Rattle.monitor.specs.declared.fault.Rule.{Rule}
 use Rattle.monitor.specs.declared.fault.Rule.TheVariants as rules
@@ -91,6 +91,7 @@ one_finding pid k (IsPes header unended body) = none_there
 one_finding pid k (IsBadPes error) = none_there
 one_finding pid k (IsBadPacket error) = none_there
 one_finding pid k IsErrored = none_there
+one_finding pid k (IsStray size) = none_there
 
 of_findings : (pid : ℕ) (found : List PidFinding) → AllFit (finding_faults pid found)
 of_findings pid [] = none_there

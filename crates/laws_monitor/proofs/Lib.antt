@@ -18,6 +18,7 @@ pub mod SectionFaults
 pub mod QuietEvents
 pub mod ViewedPackets
 pub mod ViewedRules
+pub mod QuietTraces
 pub mod QuietEnds
 pub mod WaitingPackets
 pub mod ViewedClocks

@@ -1,6 +1,7 @@
 -- Events of the end of a stream: the monitor has no rule of them.
 use Rattle.std.proofs.Common.{ℕ, Bool, List, [], ◌∷◌, Option, Some, None, refl}
 use Rattle.std.specs.Option.{option_to_list}
+use Rattle.std.specs.Prelude.{flat_map}
 use Rattle.pid_windows.specs.declared.pid_windows.PidCounts.{PidCounts}
 use Rattle.arrival.specs.declared.arrival.Arrival.{Arrival}
 use Rattle.system_tables.specs.Programs.{ProgramState, known}
@@ -44,6 +45,7 @@ use Rattle.ts_report.specs.StreamTables.{TableState, table_end}
 use Rattle.ts_report.specs.Views.{ViewState, end_events}
 use Rattle.laws_monitor.specs.ViewedFaults.{fault_in}
 use Rattle.laws_monitor.proofs.QuietEvents.{Quiet, all_of, each, join, lates, of_both, one_if, one_unless, system, tallies}
+use Rattle.laws_monitor.proofs.QuietTraces.{entry_traces}
 use Rattle.laws_monitor.proofs.ViewedPackets.{inaccuracies, variables, window_end}
 
 -- 1. Packets that no longer wait
@@ -80,7 +82,7 @@ video_closes options place (Some f) units t =
 entry_ends : (options : ViewOptions) (packets window : ℕ) (e : EntryState) → Quiet (entry_views.end_events options packets window e)
 unfolding fault_in
 entry_ends options packets window e =
-    join (tally_events options window place (closed_seen window e)) _ (tallies options window place (closed_seen window e))
+    join (tally_events options window place (closed_seen window e) (seen_held e)) _ (tallies options window place (closed_seen window e) (seen_held e))
     (join (closing_events options place (seen_held e) (closed_seen window e)) _ (closes options place (seen_held e) (closed_seen window e))
     (join (video_closing_events options place (figures_of e.video (seen_held e)) (closed_seen window e).units e.video_tally) _
     (video_closes options place (figures_of e.video (seen_held e)) (closed_seen window e).units e.video_tally)
@@ -95,7 +97,10 @@ entry_ends options packets window e =
     place = place_at packets e
 
 streams_end : (options : ViewOptions) (packets window : ℕ) (t : TableState) → Quiet (table_end options packets window t)
-streams_end options packets window t = all_of (entry_views.end_events options packets window) t.entries (entry_ends options packets window)
+streams_end options packets window t =
+    join (flat_map (entry_views.end_events options packets window) t.entries) (flat_map (entry_views.traces_of options) t.entries)
+    (all_of (entry_views.end_events options packets window) t.entries (entry_ends options packets window))
+    (all_of (entry_views.traces_of options) t.entries (entry_traces options))
 
 -- 3. Tables, clocks and PIDs
 

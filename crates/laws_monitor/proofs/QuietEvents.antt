@@ -8,8 +8,8 @@ use Rattle.std.proofs.lemmas.List.Elements.{filter_map-append}
 use Rattle.ts_packet.specs.Views.{PacketView}
 use Rattle.pid_windows.specs.Windows.{WindowView}
 use Rattle.arrival.specs.declared.clock.PcrSample.{PcrSample}
-use Rattle.stream_coding.specs.declared.frame_walk.FramePart.{FramePart}
-use Rattle.stream_coding.specs.FrameWalks.{WalkView}
+use Rattle.sound_frames.specs.declared.frame_walk.FramePart.{FramePart}
+use Rattle.sound_frames.specs.FrameWalks.{WalkView}
 use Rattle.stream_programs.specs.Streams.{FoundStreamView}
 use Rattle.ts_tables.specs.NamedStreams.{NamedView}
 use Rattle.ts_tables.specs.ServiceNames.{NameState}
@@ -94,7 +94,7 @@ windows options named names window = each (window_event options named names wind
 -- clock references by window
 clocks_of : (s : ClocksState) → Quiet (clock_windows.all_events s)
 unfolding fault_in
-clocks_of s = each (clock_windows.window_event s.number) s.counts (λ x. refl)
+clocks_of s = each (clock_windows.window_event s.number s.drifts) s.counts (λ x. refl)
 
 pub clocks : (s : ClocksState) (window : ℕ) → Quiet (clock_windows.window_events s window)
 clocks s window = by (s.number == window) (clocks_of s)
@@ -103,16 +103,16 @@ clocks s window = by (s.number == window) (clocks_of s)
     by true h = h
     by false h = refl
 
-pub tallies : (options : ViewOptions) (window : ℕ) (place : Place) (t : Tally) → Quiet (tally_events options window place t)
+pub tallies : (options : ViewOptions) (window : ℕ) (place : Place) (t : Tally) (h : Held) → Quiet (tally_events options window place t h)
 unfolding fault_in
-tallies options window place t =
-    join (cond ((t.window == window) && nat_lt 0 t.window_transport) (held_event place t ∷ []) [])
+tallies options window place t h =
+    join (cond ((t.window == window) && nat_lt 0 t.window_transport) (held_event place t h ∷ []) [])
     (cond ((t.window == window) && nat_lt 0 t.window_units) (unit_event options place t ∷ []) [])
-    (one_if ((t.window == window) && nat_lt 0 t.window_transport) (held_event place t) refl)
+    (one_if ((t.window == window) && nat_lt 0 t.window_transport) (held_event place t h) refl)
     (one_if ((t.window == window) && nat_lt 0 t.window_units) (unit_event options place t) refl)
 
 pub units : (options : ViewOptions) (window : ℕ) (t : TableState) → Quiet (table_units options window t)
-units options window t = all_of (units_of options window) t.entries (λ e. tallies options window (place_at 0 e) (seen_tally e))
+units options window t = all_of (units_of options window) t.entries (λ e. tallies options window (place_at 0 e) (seen_tally e) (seen_held e))
 
 -- 3. Buffers of streams
 

@@ -65,15 +65,15 @@ abbrev pub AllOf : ℕ → ℕ → List SectionBegin → Type 0
 AllOf pid table_id [] = Unit {0}
 AllOf pid table_id (section ∷ sections) = IsOf pid table_id section × AllOf pid table_id sections
 
-abbrev last_place : Option SectionPlaces → Option ℕ
+abbrev pub last_place : Option SectionPlaces → Option ℕ
 last_place o = option_map (λ p. p.last) o
 
-last_after : (o : Option SectionPlaces) (section : SectionBegin) → (places_after o section).last ≡ section.place
+pub last_after : (o : Option SectionPlaces) (section : SectionBegin) → (places_after o section).last ≡ section.place
 unfolding places_after
 last_after None section = refl
 last_after (Some p) section = refl
 
-one_error : (rate limit : ℕ) (timing : TableTiming) (section : SectionBegin) (o : Option SectionPlaces) (l : Option ℕ) → 0 < rate → timing ≡ ConstantRate rate →
+pub one_error : (rate limit : ℕ) (timing : TableTiming) (section : SectionBegin) (o : Option SectionPlaces) (l : Option ℕ) → 0 < rate → timing ≡ ConstantRate rate →
     l ≡ Some (limit * 27000) → section.place ≡ section.packet →
     map (λ (e : TableError). e.section.packet) (option_to_list (error_if timing section o l)) ≡ step (limit * rate) (last_place o) section.packet
 unfolding error_if time_between

@@ -30,7 +30,7 @@ use Rattle.tr101290.specs.declared.watch.PcrTiming.{PcrTiming}
 use Rattle.tr101290.specs.declared.watch.PcrTiming.TheVariants.{ConstantRate}
 use Rattle.tr101290.proofs.Rounding.{interval_law}
 use Rattle.ts_watch.specs.Choices.{RequestView}
-use Rattle.ts_report.specs.Seen.{report_on, timing_of, with_counter_read}
+use Rattle.ts_report.specs.Seen.{report_on, timing_for, with_counter_read}
 use Rattle.ts_report.specs.Views.{ViewState, after_packet, after_read, events_all, events_at, start}
 use Rattle.monitor.specs.declared.fault.StreamFault.{StreamFault}
 use Rattle.monitor.specs.declared.fault.Rule.TheVariants as rules
@@ -227,9 +227,9 @@ same_first : (rate : ℕ) (timing : PcrTiming) → timing ≡ ConstantRate rate 
 unfolding watch_or_new
 same_first rate timing e = record { timing = λ pid. e; places = λ pid. refl }
 
-timing_at : (rate : ℕ) (arrival : Arrival) → arrival ≡ AtRate rate → timing_of arrival ≡ ConstantRate rate
-unfolding timing_of
-timing_at rate arrival e = rw e refl
+timing_at : (rate : ℕ) (stamps : Bool) (arrival : Arrival) → arrival ≡ AtRate rate → timing_for stamps arrival ≡ ConstantRate rate
+unfolding timing_for
+timing_at rate stamps arrival e = rw e refl
 
 clocks_of_packets : (rate : ℕ) (request : RequestView) (bytes : List ℕ) → request.options.arrival ≡ AtRate rate → 0 < rate → length bytes ≤ 2 ^ 40 →
     part (is_by 13) (events_all (start request) (cut_packets bytes)) ≡ map (late_fault rules.Pcr)
@@ -237,7 +237,7 @@ clocks_of_packets : (rate : ℕ) (request : RequestView) (bytes : List ℕ) → 
 clocks_of_packets rate request bytes at some short =
     let k : length (cut_packets bytes) ≡ length bytes / 188 = packet_count (length bytes / 188) bytes in
     clocks_along rate (no_marks (100 * rate)) (start request) (cut_packets bytes) some refl
-    (same_first rate (timing_of request.options.arrival) (timing_at rate request.options.arrival at)) (omega arith)
+    (same_first rate (timing_for request.stamps request.options.arrival) (timing_at rate request.stamps request.options.arrival at)) (omega arith)
 
 pub viewed_clocks : (rate : ℕ) (request : RequestView) (bytes : List ℕ) → request.options.arrival ≡ AtRate rate → 0 < rate → length bytes ≤ 2 ^ 40 →
     filter (is_by 13) (viewed_faults request bytes) ≡ map (late_fault rules.Pcr)

@@ -29,7 +29,7 @@ use Rattle.tr101290.specs.declared.report.PcrError.{PcrError}
 use Rattle.tr101290.specs.declared.report.PcrReport.{PcrReport}
 use Rattle.tr101290.specs.declared.stamps.PtsError.{PtsError}
 use Rattle.tr101290.specs.declared.watch.PcrTiming.{PcrTiming}
-use Rattle.tr101290.specs.declared.watch.PcrTiming.TheVariants.{ConstantRate, References}
+use Rattle.tr101290.specs.declared.watch.PcrTiming.TheVariants.{ConstantRate, References, Stamps}
 use Rattle.events.specs.declared.event.Event.{Event}
 use Rattle.events.specs.declared.event.Event.TheVariants as found
 use Rattle.events.specs.declared.rule_event.RuleEvent.TheVariants as rule_events
@@ -38,7 +38,7 @@ use Rattle.es_view.specs.declared.view_options.ViewOptions.{ViewOptions}
 use Rattle.ts_tables.specs.NamedStreams.{NamedView}
 use Rattle.ts_watch.specs.ClockEvents.{error_event, error_events, inaccuracy_events, report_events_if, variable_events}
 use Rattle.ts_watch.specs.declared.clock_events.ClockRule.TheVariants as clock_rules
-use Rattle.ts_watch.specs.RuleEvents.{RuleState, accuracy_events, is_map, is_scrambled, judge_taken, packet_events, place_at}
+use Rattle.ts_watch.specs.RuleEvents.{RuleState, accuracy_events, is_map, is_scrambled, judge_taken, judged_events, packet_events, place_at}
 use Rattle.ts_watch.specs.RuleEvents.{pts_events, scrambled_events, stamp_events, varies_now}
 use Rattle.ts_watch.specs.PidLabels.{label_of}
 use Rattle.ts_watch.specs.TableEvents.{TimesState, begin_events, check_word_event, check_word_events, distance_events, error_events as table_error_events}
@@ -177,13 +177,17 @@ pub variables : (t : Bool) (packet : ℕ) (judge : JudgeState) → Quiet (variab
 unfolding fault_in
 variables t packet judge = one_if t (found.Rule (rule_events.VariableRate (record { packet = packet; pairs = judge.pairs; apart = judge.apart }))) refl
 
+judged : (judge : JudgeState) (index pid : ℕ) (report : PcrReport) → Quiet (judged_events judge index pid report)
+judged judge index pid report =
+    join (inaccuracy_events (errors_at judge pid report)) _ (inaccuracies (errors_at judge pid report))
+    (variables (varies_now judge (judge_taken judge pid report)) index (judge_taken judge pid report))
+
 accuracies : (timing : PcrTiming) (judge : JudgeState) (index pid : ℕ) (o : Option PcrReport) → Quiet (accuracy_events timing judge index pid o)
 unfolding accuracy_events
 accuracies timing judge index pid None = refl
 accuracies (ConstantRate rate) judge index pid (Some report) = inaccuracies _
-accuracies References judge index pid (Some report) =
-    join (inaccuracy_events (errors_at judge pid report)) _ (inaccuracies (errors_at judge pid report))
-    (variables (varies_now judge (judge_taken judge pid report)) index (judge_taken judge pid report))
+accuracies References judge index pid (Some report) = judged judge index pid report
+accuracies Stamps judge index pid (Some report) = judged judge index pid report
 
 pts_quiet : (o : Option PtsError) → Quiet (pts_events o)
 unfolding pts_events fault_in

@@ -14,9 +14,9 @@ use Rattle.unit_queue.specs.OwnedStreams.{has_access}
 use Rattle.slot_contents.specs.Contents.{Payload, run_bytes}
 use Rattle.demux.specs.declared.open_unit.UnitKind.{UnitKind}
 use Rattle.demux.specs.declared.open_unit.UnitKind.TheVariants as unit_kinds
-use Rattle.demux.specs.Views.{WhatView, IsPes, IsTruncated, Found, PidFinding, FindingView}
+use Rattle.demux.specs.Views.{WhatView, IsPes, IsTruncated, IsStray, Found, PidFinding, FindingView}
 use Rattle.demux.specs.Roles.{role_by, may_begin_pes}
-use Rattle.demux.specs.OpenUnits.{OpenUnit, decided, of_pes, of_header, about, section, is_stuffing}
+use Rattle.demux.specs.OpenUnits.{OpenUnit, decided, of_pes, of_header, about, plain, section, is_stuffing}
 use Rattle.demux.specs.Findings.{at_packet, by_role, ended, end_of, found_if, found_within, found_appended, undecided, unless_decided}
 use Rattle.demux.specs.Machine.{next_open}
 use Rattle.demux.specs.Laws.{found_of, with_pid_at, has_pid}
@@ -137,10 +137,14 @@ unfolding unless_decided
 open_pes packet access bytes None = refl
 open_pes packet access bytes (Some w) = tt
 
+stray_fine : (n : ℕ) (none : Bool) → All Fine (cond none [] (plain (IsStray n) ∷ []))
+stray_fine n true = All-nil Fine
+stray_fine n false = All-cons Fine (plain (IsStray n)) [] refl (All-nil Fine)
+
 rest_one : (i : ℕ) (front : List ℕ) (held : Option OpenUnit) → PesOrNone held →
     All Fine (by_role i (does (later i front)) held) × PesOrNone (next_open i (does (later i front)) held)
 unfolding by_role role_by found_appended next_open undecided
-rest_one i front None h = (All-nil Fine, tt)
+rest_one i front None h = (stray_fine (length front) (length front == 0), tt)
 rest_one i front (Some part) h =
     subst (λ (f : UnitKind). All Fine
     (found_if (record { packet = part.packet; kind = f; access = part.access; bytes = part.bytes ++ front }) (decided f (part.bytes ++ front)))

@@ -6,7 +6,7 @@ use Rattle.pes_packet.specs.StreamIds.{fits_packet}
 use Rattle.psi_tables.specs.Views.{SectionView}
 use Rattle.psi_tables.specs.Reading.{section_at}
 use Rattle.slot_contents.specs.Contents.{Content, run_bytes}
-use Rattle.demux.specs.Views.{WhatView, IsDuplicate, BreaksCounter, IsScrambled, IsTruncated, IsSection, IsBadSection, IsPes, IsBadPes, IsBadPacket, IsErrored}
+use Rattle.demux.specs.Views.{WhatView, IsDuplicate, BreaksCounter, IsScrambled, IsTruncated, IsSection, IsBadSection, IsPes, IsBadPes, IsBadPacket, IsErrored, IsStray}
 use Rattle.demux.specs.Views.{FindingView}
 use Rattle.laws_pid.specs.Units.{unit_pieces}
 use Rattle.laws_pid.specs.Sections.{section_pieces}
@@ -24,6 +24,7 @@ is_fault (IsPes header open_ended body) = false
 is_fault (IsBadPes error) = false
 is_fault (IsBadPacket error) = true
 is_fault IsErrored = true
+is_fault (IsStray size) = false
 
 abbrev pub IsClean : FindingView → Type 0
 IsClean f = is_fault f.what ≡ false

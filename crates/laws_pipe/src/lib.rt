@@ -1,4 +1,4 @@
-//! The pipe `tsjob | tsmux mux`: `tsmux mux` reads the job that `tsjob` writes, and refuses nothing of it.
+//! `tsmux mux` reads the job that `tsjob` writes, and refuses nothing of it.
 //!
 //! Each function here is a law: it does nothing, and its contract states a fact about the contracts of both programs'
 //! `run`. `specs/PipedJobs` says when one program's output is the next program's input, and what then goes through;

@@ -10,7 +10,7 @@ use Rattle.slot_contents.specs.Contents.{run_bytes}
 use Rattle.description_parts.specs.Described.{DescribedStream}
 use Rattle.description_parts.specs.Ranges.{IsInRange}
 use Rattle.description_parts.specs.Tables.{table_count, table_pid}
-use Rattle.demux.specs.Views.{WhatView, IsDuplicate, BreaksCounter, IsScrambled, IsTruncated, IsSection, IsBadSection, IsPes, IsBadPes, IsBadPacket, IsErrored}
+use Rattle.demux.specs.Views.{WhatView, IsDuplicate, BreaksCounter, IsScrambled, IsTruncated, IsSection, IsBadSection, IsPes, IsBadPes, IsBadPacket, IsErrored, IsStray}
 use Rattle.demux.specs.Views.{PidFinding, FindingView}
 use Rattle.demux.specs.Laws.{with_pid_at}
 use Rattle.table_rounds.specs.Tables.{round_places}
@@ -112,6 +112,7 @@ is_none fault (IsPes header open_ended body) other h e = absurd (cc)
 is_none fault (IsBadPes error) other h e = other (cc)
 is_none fault (IsBadPacket error) other h e = absurd (cc)
 is_none fault IsErrored other h e = absurd (cc)
+is_none fault (IsStray size) other h e = absurd (cc)
 
 none_is : (fault : Fault) (xs : List FindingView) → (fault ≡ RefusedPes → ⊥) → All IsFaultless xs → NoneIs fault xs
 none_is fault [] other h = All-nil (λ (f : FindingView). fault_of f.what ≡ Some fault → ⊥)

@@ -34,7 +34,7 @@ use Rattle.laws_run.proofs.TablesRecur.{made_in_time}
 
 -- ---- what is on a PID below 32
 
-abbrev IsLow : ℕ → Type 0
+abbrev pub IsLow : ℕ → Type 0
 IsLow pid = (0 < pid) × (pid < 32)
 
 -- a table of this kind has this table_id, and a limit that is no greater
@@ -54,12 +54,12 @@ table_higher : (pid : ℕ) (o : Option DescribedTable) → IsLow pid → All IsT
 table_higher pid None low is e = let some = low.0 in omega (arith, some, e)
 table_higher pid (Some t) low is e = let most = low.1 in let least : 32 ≤ t.pid = (All-head IsTable t [] is).pid.low in omega (arith, most, least, e)
 
-stream_higher : (d : Described) (pid k : ℕ) (s : DescribedStream) → IsInRange d → IsLow pid → slice_get d.streams k ≡ Some s → s.pid ≡ pid → ⊥
+pub stream_higher : (d : Described) (pid k : ℕ) (s : DescribedStream) → IsInRange d → IsLow pid → slice_get d.streams k ≡ Some s → s.pid ≡ pid → ⊥
 stream_higher d pid k s r low is e = let most = low.1 in let least : 32 ≤ s.pid = (at_place IsStream d.streams k s r.streams is).pid.low in
     omega (arith, most, least, e)
 
 -- only one of the four kinds is there
-kind_on : (P : TableKind → Type 0) (d : Described) (pid : ℕ) (k : TableKind) → IsInRange d → IsLow pid → kind_pid d k ≡ pid →
+pub kind_on : (P : TableKind → Type 0) (d : Described) (pid : ℕ) (k : TableKind) → IsInRange d → IsLow pid → kind_pid d k ≡ pid →
     (0x10 ≡ pid → P Nit) → (0x11 ≡ pid → P Sdt) → (0x12 ≡ pid → P Eit) → (0x14 ≡ pid → P Tdt) → P k
 kind_on P d pid Pat r low e nit sdt eit tdt = let some = low.0 in absurd (omega (arith, some, e))
 kind_on P d pid (Pmt p) r low e nit sdt eit tdt =

@@ -13,7 +13,7 @@ use Rattle.slot_contents.specs.Contents.{Content, PayloadContent, PcrContent, Nu
 use Rattle.slot_contents.specs.RunLaws.{Fits}
 use Rattle.slot_contents.proofs.Runs.{content_again, run_length}
 use Rattle.ts_packet.proofs.Listing.{first_cut}
-use Rattle.demux.specs.Views.{WhatView, IsDuplicate, BreaksCounter, IsScrambled, IsTruncated, IsSection, IsBadSection, IsPes, IsBadPes, IsBadPacket, IsErrored}
+use Rattle.demux.specs.Views.{WhatView, IsDuplicate, BreaksCounter, IsScrambled, IsTruncated, IsSection, IsBadSection, IsPes, IsBadPes, IsBadPacket, IsErrored, IsStray}
 use Rattle.demux.specs.Views.{PidFinding}
 use Rattle.demux.specs.Findings.{findings_to_end}
 use Rattle.demux.specs.Laws.{with_pid_at}
@@ -76,6 +76,7 @@ no_rule (IsPes header open_ended body) h = refl
 no_rule (IsBadPes error) h = refl
 no_rule (IsBadPacket error) h = refl
 no_rule IsErrored h = refl
+no_rule (IsStray size) h = refl
 
 -- the faults of one finding
 abbrev faults_of_one : ℕ → PidFinding → List StreamFault

@@ -42,7 +42,7 @@ none_mistaken d Eit made = All-nil (λ (text : List ℕ). is_mistaken text ≡ f
 none_mistaken d Tdt made = All-nil (λ (text : List ℕ). is_mistaken text ≡ false)
 none_mistaken d (Private i) made = absurd made
 
-made_distinguishable : (d : Described) (t : ℕ) (k : TableKind) → table_kind d t ≡ Some k → IsMade k → IsDistinguishable d t
+pub made_distinguishable : (d : Described) (t : ℕ) (k : TableKind) → table_kind d t ≡ Some k → IsMade k → IsDistinguishable d t
 made_distinguishable d t k is made = subst (λ (o : Option TableKind). All (λ text. is_mistaken text ≡ false) (ready_made d o)) (sym is) (none_mistaken d k made)
 
 -- in the packets of its PID with the start indicator, and in no others

@@ -6,7 +6,7 @@ use Rattle.slot_contents.specs.Contents.{run_bytes}
 use Rattle.description_parts.specs.Described.{DescribedStream}
 use Rattle.description_parts.specs.Tables.{table_count, table_pid}
 use Rattle.description_parts.specs.Ranges.{IsInRange}
-use Rattle.demux.specs.Views.{WhatView, IsDuplicate, BreaksCounter, IsScrambled, IsTruncated, IsSection, IsBadSection, IsPes, IsBadPes, IsBadPacket, IsErrored}
+use Rattle.demux.specs.Views.{WhatView, IsDuplicate, BreaksCounter, IsScrambled, IsTruncated, IsSection, IsBadSection, IsPes, IsBadPes, IsBadPacket, IsErrored, IsStray}
 use Rattle.demux.specs.Views.{FindingView}
 use Rattle.laws_pid.specs.Laws.{all_found, found_on}
 use Rattle.mux_core.specs.Scheduled.{Scheduled}
@@ -38,6 +38,7 @@ fault_of (IsBadPes error) = Some RefusedPes
 fault_of (IsSection bytes) = None
 fault_of (IsPes header open_ended body) = None
 fault_of (IsTruncated bytes) = None
+fault_of (IsStray size) = None
 
 -- none of these findings is this fault
 abbrev pub NoneIs : Fault → List FindingView → Type 0

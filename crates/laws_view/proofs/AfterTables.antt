@@ -31,7 +31,7 @@ use Rattle.laws_run.proofs.TablesFirst.{begun_twice}
 use Rattle.laws_run.proofs.TwoStarts.{TwoStarts}
 use Rattle.stream_programs.specs.Programs.{FoundProgramsView}
 use Rattle.stream_programs.specs.Streams.{FoundStreamView}
-use Rattle.stream_programs.specs.Association.{association, first_pat}
+use Rattle.program_tables.specs.Association.{association, first_pat}
 use Rattle.ts_tables.specs.Laws.{bytes_of, first_streams, found_of, state_of}
 use Rattle.ts_tables.specs.NamedStreams.{NamedView, is_last, stream_by, stream_of, streams_at, streams_by, taken as named_with, taken_if as named_if}
 use Rattle.ts_tables.proofs.First.{first_law}

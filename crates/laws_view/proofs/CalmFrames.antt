@@ -1,7 +1,7 @@
 -- A main buffer that is viewed by access units, and never holds more than its size, has no excess.
 use Rattle.std.proofs.Common.{◌≡◌, ◌∙◌, ℕ, ◌+◌, ◌-◌, ◌*◌, ◌^◌, ◌≤◌, ◌==◌, min, Bool, true, false, List, [], ◌∷◌, length, Option, Some, None, if◌then◌else◌}
 use Rattle.std.proofs.Common.{refl, ap, arith}
-use Rattle.stream_coding.specs.declared.frame_walk.FramePart.{FramePart}
+use Rattle.sound_frames.specs.declared.frame_walk.FramePart.{FramePart}
 use Rattle.arrival.specs.declared.arrival.Arrival.{Arrival}
 use Rattle.arrival.specs.Arrivals.{times_at}
 use Rattle.arrival.specs.declared.clock.PcrSample.{PcrSample}
@@ -18,7 +18,7 @@ use Rattle.es_view.specs.declared.tally.Tally.{Tally}
 use Rattle.es_view.specs.declared.view_options.ViewOptions.{ViewOptions}
 use Rattle.es_view.specs.EntryFrames.{Counted, FramedPayload, count_of, frame_after, frames_after, frames_among, front_after, part_of, place_of}
 use Rattle.es_view.specs.Entries.{Framed, beginning_in, framed_with, is_unread, payload_of}
-use Rattle.es_view.specs.Tallies.{in_window, more, tally_after, with_unit_if}
+use Rattle.es_view.specs.Tallies.{in_window, more, tally_after, tally_with, with_unit_if}
 use Rattle.laws_view.proofs.EnteredBytes.{Alike, alike_trans, begin_arrives, payload_alike}
 use Rattle.laws_view.proofs.MainExcesses.{Quiet, begin_main, most_begin, most_begun, most_payload, quiet_payload, same_main}
 
@@ -150,9 +150,9 @@ pub record Calm (h : Held) (t : Tally) : Type 0 where
   pub none : main_most h ≤ h.main.size → t.main_excesses ≡ 0
   pub quiet : main_most h ≤ h.main.size → h.main.under_way ≡ None
 
-calm_more : (h h' : Held) (t : Tally) (window : ℕ) (unread : Bool) (v : EnteredView) → Calm h t → Quiet h h' v.main → Alike h h' →
-    Calm h' (tally_after t window unread v)
-calm_more h h' t window unread v calm q alike = record {
+calm_more : (h h' : Held) (t : Tally) (window : ℕ) (unread : Bool) (packet : ℕ) (v : EnteredView) → Calm h t → Quiet h h' v.main → Alike h h' →
+    Calm h' (tally_with t window unread h' packet v)
+calm_more h h' t window unread packet v calm q alike = record {
   none = λ few. none_more t window unread v (calm.none (before few)) (q.quiet (calm.quiet (before few)) (room few)).0;
   quiet = λ few. (q.quiet (calm.quiet (before few)) (room few)).1;
 }
@@ -166,7 +166,7 @@ calm_more h h' t window unread v calm q alike = record {
 calm_front : (options : ViewOptions) (window : ℕ) (unread : Bool) (p : Arriving) (count : ℕ) (c : Counted) → Calm c.held c.tally →
     Calm (front_after options window unread p count c).held (front_after options window unread p count c).tally
 calm_front options window unread p count c calm =
-    calm_more c.held (after_first c.held options.arrival p (min count (size_of p))) c.tally window unread
+    calm_more c.held (after_first c.held options.arrival p (min count (size_of p))) c.tally window unread p.index
     (entered_first c.held options.arrival p (min count (size_of p))) calm
     (first_quiet c.held options.arrival p (min count (size_of p))) (first_alike c.held options.arrival p (min count (size_of p)))
 
@@ -174,6 +174,7 @@ calm_frame : (options : ViewOptions) (limit : ℕ) (y : FramedPayload) (tick : �
     Calm (frame_after options (place_of limit y tick) window c p).held (frame_after options (place_of limit y tick) window c p).tally
 calm_frame options limit y tick window c p calm =
     calm_more c.held (after_part c.held options.arrival (part_of options (place_of limit y tick) c.held p)) c.tally window false
+    (place_of limit y tick).packet
     (entered_part c.held options.arrival (part_of options (place_of limit y tick) c.held p)) calm
     (part_quiet c.held options.arrival (part_of options (place_of limit y tick) c.held p))
     (part_alike c.held options.arrival (part_of options (place_of limit y tick) c.held p))

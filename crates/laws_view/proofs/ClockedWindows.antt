@@ -11,7 +11,7 @@ use Rattle.ts_report.specs.ClockedViews.{clock_for}
 use Rattle.es_view.specs.Entries.{EntryState}
 use Rattle.ts_report.specs.StreamTables.{TableState}
 use Rattle.ts_report.specs.Views.{start}
-use Rattle.laws_view.specs.ClockedWindows.{ClockedWindowLaw, OfClockedWindow, report_tables, timed_in}
+use Rattle.laws_view.specs.ClockedWindows.{ClockedWindowLaw, ClockedWithoutLaw, OfClockedWindow, report_tables, timed_in}
 use Rattle.laws_view.specs.FirstHighs.{ClockedFirstLaw}
 use Rattle.laws_view.specs.HeldWindows.{OfWindow}
 use Rattle.laws_view.specs.TimedStreams.{InOrder, view_by}
@@ -20,7 +20,7 @@ use Rattle.laws_view.specs.WindowHighs.{ClockedHighLaw}
 use Rattle.laws_view.proofs.ClockedStreams.{StepsTick, all_step, clocked_order, once}
 use Rattle.laws_view.proofs.ClockedTables.{clocked_tables_law}
 use Rattle.laws_view.proofs.FirstWindows.{first_high_law}
-use Rattle.laws_view.proofs.HeldWindows.{timed_high_law, timed_window_law}
+use Rattle.laws_view.proofs.HeldWindows.{timed_high_law, timed_window_law, timed_without_law}
 use Rattle.laws_view.proofs.Lists.{some_is}
 use Rattle.laws_view.proofs.OrderedWindows.{first_all, first_in_order, ordered_transport, step_is}
 
@@ -66,6 +66,10 @@ pub clocked_window_law : ClockedWindowLaw
 clocked_window_law request packets before now later window place e e' w has =
     let o = of_window request packets before now later window place e e' w in
     timed_window_law request before now window place e e' o.0 o.1 has
+
+pub clocked_without_law : ClockedWithoutLaw
+clocked_without_law request packets before now later window place e e' w last none =
+    timed_without_law request before now window place e e' (of_window request packets before now later window place e e' w).0 last none
 
 pub clocked_high_law : ClockedHighLaw
 clocked_high_law request packets before now later window place e e' w has =

@@ -58,11 +58,11 @@ use Rattle.laws_run.proofs.MapsNamed.{pat_fits}
 use Rattle.laws_run.proofs.MapsRecur.{map_table}
 use Rattle.laws_run.proofs.RunFindings.{has_places, has_room, is_run, one_table}
 use Rattle.laws_run.proofs.TwoStarts.{FirstSent, TwoStarts, table_sent}
-use Rattle.stream_programs.specs.Association.{AssociationView, association, entries, entries_of, first_pat, is_named, pat_found, pat_in, pat_of_section}
-use Rattle.stream_programs.specs.Association.{in_force as pat_in_force, with_program, with_programs}
-use Rattle.stream_programs.specs.ProgramMaps.{pmt_found, pmt_in, pmt_of_section, program_map, in_force as pmt_in_force}
+use Rattle.program_tables.specs.Association.{AssociationView, association, entries, entries_of, first_pat, is_named, pat_found, pat_in, pat_of_section}
+use Rattle.program_tables.specs.Association.{in_force as pat_in_force, with_program, with_programs}
+use Rattle.program_tables.specs.ProgramMaps.{pmt_found, pmt_in, pmt_of_section, program_map, in_force as pmt_in_force}
 use Rattle.stream_programs.specs.Programs.{FoundProgramsView, programs_of}
-use Rattle.stream_programs.specs.Sections.{section_bytes, section_on}
+use Rattle.program_tables.specs.Sections.{section_bytes, section_on}
 use Rattle.stream_programs.proofs.TablesAlone.{of_the_map, pid_zero}
 use Rattle.ts_tables.specs.NamedStreams.{have_maps, streams_at, streams_by}
 use Rattle.laws_view.proofs.Lists.{apart, itself}

@@ -1,16 +1,17 @@
 -- In the window in which a stream's buffers begin the least that its line `held` says is 0, and the greatest that of all its packets so far.
 use Rattle.std.proofs.Common.{◌≡◌, ◌∙◌, sym, ℕ, ◌+◌, ◌-◌, ◌*◌, ◌^◌, ◌<◌, ◌⊎◌, min, Bool, true, false, List, [], ◌∷◌, ◌++◌, length, Option, Some, None}
 use Rattle.std.proofs.Common.{if◌then◌else◌, refl, ap, ap₂, subst, inl, inr, nat_eq, arith}
-use Rattle.std.specs.Prelude.{◌==◌, slice_get, unwrap_or}
+use Rattle.std.specs.Prelude.{◌==◌, slice_get}
 use Rattle.std.proofs.lemmas.List.{append-nil}
 use Rattle.ts_packet.specs.Views.{PacketView}
 use Rattle.ts_packet.specs.Reading.{packet_at}
+use Rattle.clock27.specs.Peak.{greatest_at}
 use Rattle.tstd.specs.BufferedUnits.{one_buffered}
 use Rattle.tstd_rows.specs.Least.{least_found, lesser}
 use Rattle.tstd_rows.specs.RowEntry.{entered as row_entered}
 use Rattle.ts_tables.specs.NamedStreams.{NamedView}
 use Rattle.stream_programs.specs.Streams.{FoundStreamView}
-use Rattle.tstd_rows.specs.History.{Part, left_after, main_fullness, main_peak, row_least, until_of}
+use Rattle.tstd_rows.specs.History.{Part, last_of, left_after, main_fullness, main_peak, payload_left, row_least, until_of}
 use Rattle.tstd_rows.specs.History.Part.{Passes, Carries, Begins}
 use Rattle.tstd_rows.specs.Lows.{least_of, least_of_both}
 use Rattle.tstd_rows.specs.Held.{Held, main_most, transport_most}
@@ -21,6 +22,7 @@ use Rattle.es_view.specs.declared.tally.Tally.{Tally}
 use Rattle.es_view.specs.declared.view_options.ViewOptions.{ViewOptions}
 use Rattle.ts_watch.specs.Choices.{RequestView}
 use Rattle.es_view.specs.Clocks.{ClockEntries, clock_of}
+use Rattle.es_view.specs.HeldEvents.{main_held}
 use Rattle.es_view.specs.Entries.{EntryState, arriving, beginning_in, is_unread}
 use Rattle.es_view.specs.Tallies.{tally_after}
 use Rattle.ts_report.specs.Seen.{next_window}
@@ -96,10 +98,29 @@ parts_start step (Passes ts ∷ ps) = parts_start step ps
 parts_start step (Carries ts ∷ ps) = carries_start step ts ps (parts_start step ps)
 parts_start step (Begins due ∷ ps) = parts_start step ps
 
-least_zero : (step : ℕ) (ps : List Part) → unwrap_or (least_of step ps []) 0 ≡ 0
-least_zero step ps = elim (parts_start step ps) [
-  | inl zero ↦ ap (λ (o : Option ℕ). unwrap_or o 0) zero
-  | inr none ↦ ap (λ (o : Option ℕ). unwrap_or o 0) none.0
+-- so the line says 0, whether one is found or not
+least_zero : (most : ℕ) (h : Held) (ps : List Part) (least : Option ℕ) → h.parts ≡ ps → least ≡ least_of h.rate ps [] → (main_held most h least).1 ≡ 0
+unfolding main_held
+least_zero most h ps least same is = elim (parts_start h.rate ps) [
+  | inl zero ↦ rw (is ∙ zero) refl
+  | inr none ↦ rw (is ∙ none.0)
+      (ap (λ (qs : List Part). main_fullness h.rate qs (last_of h.rate h.parts)) same ∙ none.1 (last_of h.rate h.parts))
+]
+
+none_greatest : (f : ℕ → ℕ) (ts : List ℕ) → ((x : ℕ) → f x ≡ 0) → greatest_at f ts ≡ 0
+unfolding greatest_at
+none_greatest f [] none = refl
+none_greatest f (t ∷ ts) none = omega (arith, none t, none_greatest f ts none)
+
+-- and as the most that of all packets so far
+most_so_far : (most : ℕ) (h : Held) (ps : List Part) (least : Option ℕ) → h.parts ≡ ps → least ≡ least_of h.rate ps [] → most ≡ main_most h →
+    (main_held most h least).0 ≡ main_most h
+unfolding main_held
+most_so_far most h ps least same is most_is = elim (parts_start h.rate ps) [
+  | inl zero ↦ rw (is ∙ zero) most_is
+  | inr none ↦
+      let empty : (x : ℕ) → main_fullness h.rate h.parts x ≡ 0 = λ x. ap (λ (qs : List Part). main_fullness h.rate qs x) same ∙ none.1 x in
+      rw (is ∙ none.0) (empty (last_of h.rate h.parts) ∙ sym (none_greatest (main_fullness h.rate h.parts) (payload_left h.rate h.parts) empty))
 ]
 
 -- ---- the packet with which buffers begin
@@ -177,9 +198,10 @@ first_counts r (Some packet) window j e agree none in_it there =
 
 -- what its line then says
 record FirstSays (e : EntryState) : Type 0 where
-  least : unwrap_or e.tally.window_least 0 ≡ 0
+  least : (main_held e.tally.window_main e.held e.tally.window_least).1 ≡ 0
   transport : e.tally.window_transport ≡ transport_most e.held
   main : 0 < e.held.rate → e.tally.window_main ≡ main_most e.held
+  said : 0 < e.held.rate → (main_held e.tally.window_main e.held e.tally.window_least).0 ≡ main_most e.held
 
 window_zero : (s : ViewState) (packets : List Timed) (window j : ℕ) (e e' : EntryState) → Counts window e → Agree s.table →
     s.seen.packets + length packets < 2 ^ 64 →
@@ -204,11 +226,16 @@ window_zero s packets window j e e' k agree few there all later =
     let full : e'.tally.window_transport ≡ transport_after e.tally.window_transport (entered_by e.held xs) =
     ap (λ (t : Tally). t.window_transport) c.tally ∙ each_transport e.tally window c.vs k.in_it
     ∙ ap (λ (vs : List EnteredView). transport_after e.tally.window_transport vs) c.same in
+    let own : e'.held.parts ≡ come.recent = parts ∙ append-nil come.recent in
+    let first : e'.tally.window_least ≡ least_of e'.held.rate come.recent [] = from_none ∙ ap (λ (r : ℕ). least_of r come.recent []) (sym rate) in
+    let whole : 0 < e'.held.rate → e'.tally.window_main ≡ main_most e'.held =
+    λ pos. most ∙ first_most k.from.rate come.recent (omega (arith, pos, rate)) ∙ ap₂ main_peak (sym rate) (sym parts) in
     record {
-      least = ap (λ (o : Option ℕ). unwrap_or o 0) from_none ∙ least_zero k.from.rate come.recent;
+      least = least_zero e'.tally.window_main e'.held come.recent e'.tally.window_least own first;
       transport = full ∙ sym (first_full k.from (after_entering e.held xs) (transport_after e.tally.window_transport (entered_by e.held xs)) k.none arrive)
           ∙ ap (λ (h : Held). transport_most h) (sym held);
-      main = λ pos. most ∙ first_most k.from.rate come.recent (omega (arith, pos, rate)) ∙ ap₂ main_peak (sym rate) (sym parts);
+      main = whole;
+      said = λ pos. most_so_far e'.tally.window_main e'.held come.recent e'.tally.window_least own first (whole pos);
     }
 
 is_or_not : (o : Option EntryState) → ((d : EntryState) → o ≡ Some d → ⊥) ⊎ ((d : EntryState) × (o ≡ Some d))
@@ -257,4 +284,4 @@ first_window_law request before packets window place e few none there all = (in_
 pub first_high_law : FirstHighLaw
 first_high_law request before packets window place e few none there all pos =
     let says = in_first_window request before packets window place e few none there all in
-    record { transport = says.transport; main = says.main pos }
+    record { transport = says.transport; main = says.main pos; said = says.said pos }

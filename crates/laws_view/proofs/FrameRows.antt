@@ -3,8 +3,8 @@ use Rattle.std.proofs.Common.{◌≡◌, ℕ, zero, suc, ◌+◌, ◌-◌, ◌<�
 use Rattle.std.proofs.Common.{if◌then◌else◌, refl, subst, inl, inr, arith}
 use Rattle.std.proofs.lemmas.Bool.Decides.{eqb_tells}
 use Rattle.std.proofs.lemmas.List.{length-drop}
-use Rattle.stream_coding.specs.declared.frame_walk.FramePart.{FramePart}
-use Rattle.stream_coding.specs.FrameWalks.{WalkView, begun, count_by, count_passed, frames_in, headed, missing, parts_from, passed}
+use Rattle.sound_frames.specs.declared.frame_walk.FramePart.{FramePart}
+use Rattle.sound_frames.specs.FrameWalks.{WalkView, begun, count_by, count_passed, frames_in, headed, missing, parts_from, passed}
 
 -- these frames are n bytes from this place on
 unfoldable pub InTurn : ℕ → ℕ → List FramePart → Type 0

@@ -5,7 +5,7 @@ use Rattle.std.proofs.lemmas.List.{length-append}
 use Rattle.clock27.specs.Arrival.{bytes_from}
 use Rattle.clock27.specs.Departure.{departures, last_left}
 use Rattle.tstd.proofs.ByteRows.{length-row, row_split}
-use Rattle.stream_coding.specs.declared.frame_walk.FramePart.{FramePart}
+use Rattle.sound_frames.specs.declared.frame_walk.FramePart.{FramePart}
 use Rattle.arrival.specs.declared.arrival.Arrival.{Arrival}
 use Rattle.arrival.specs.declared.arrival.Arrival.TheVariants.{AtRate}
 use Rattle.tstd_rows.specs.History.{arrivals_of, payload_left}

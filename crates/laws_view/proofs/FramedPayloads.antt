@@ -4,8 +4,8 @@ use Rattle.std.proofs.Common.{if◌then◌else◌, refl, ap, subst, arith}
 use Rattle.std.specs.Prelude.{slice_get, unwrap_or}
 use Rattle.std.proofs.lemmas.List.{length-drop}
 use Rattle.ts_packet.specs.Views.{PacketView}
-use Rattle.stream_coding.specs.declared.frame_walk.FramePart.{FramePart}
-use Rattle.stream_coding.specs.FrameWalks.{WalkView, count_passed, frames_in, parts_from}
+use Rattle.sound_frames.specs.declared.frame_walk.FramePart.{FramePart}
+use Rattle.sound_frames.specs.FrameWalks.{WalkView, count_passed, frames_in, parts_from}
 use Rattle.arrival.specs.declared.arrival.Arrival.{Arrival}
 use Rattle.arrival.specs.declared.arrival.Arrival.TheVariants.{AtRate}
 use Rattle.arrival.specs.declared.clock.PcrSample.{PcrSample}

@@ -5,8 +5,8 @@ use Rattle.std.specs.Prelude.{slice_get, unwrap_or}
 use Rattle.std.proofs.lemmas.List.Elements.{All-head, All-tail}
 use Rattle.ts_packet.specs.Views.{PacketView}
 use Rattle.ts_packet.specs.Reading.{packet_at}
-use Rattle.stream_coding.specs.declared.frame_headers.FrameKind.{FrameKind}
-use Rattle.stream_coding.specs.FrameWalks.{no_walk}
+use Rattle.sound_frames.specs.declared.frame_headers.FrameKind.{FrameKind}
+use Rattle.sound_frames.specs.FrameWalks.{no_walk}
 use Rattle.arrival.specs.Arrivals.{step_of}
 use Rattle.arrival.specs.declared.arrival.Arrival.TheVariants.{AtRate}
 use Rattle.arrival.specs.declared.clock.PcrSample.{PcrSample}

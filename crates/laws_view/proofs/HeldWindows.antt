@@ -1,7 +1,8 @@
 -- What a report counts of a stream while the packets of one window come.
 use Rattle.std.proofs.Common.{◌≡◌, ◌∙◌, sym, ℕ, ◌+◌, ◌^◌, ◌<◌, false, Bool, true, List, [], ◌∷◌, ◌++◌, length, map, Option, Some, None, if◌then◌else◌, refl, ap}
-use Rattle.std.proofs.Common.{subst, nat_eq, arith}
-use Rattle.std.specs.Prelude.{◌==◌, slice_get, unwrap_or}
+use Rattle.std.proofs.Common.{subst, nat_eq, arith, inl, inr}
+use Rattle.std.specs.Prelude.{◌==◌, slice_get}
+use Rattle.std.proofs.lemmas.Bool.Decides.{eqb_tells}
 use Rattle.std.proofs.lemmas.List.{map-append}
 use Rattle.ts_packet.specs.Views.{PacketView}
 use Rattle.ts_packet.specs.Reading.{packet_at}
@@ -10,21 +11,24 @@ use Rattle.laws_arrival.specs.TimedPackets.{Timed}
 use Rattle.tstd_rows.specs.Held.{Held}
 use Rattle.tstd_rows.specs.Entering.{EnteredView, after, entered}
 use Rattle.tstd_rows.specs.declared.arriving.Arriving.{Arriving}
+use Rattle.tstd_rows.specs.declared.unit_seen.UnitSeen.{UnitSeen}
 use Rattle.es_view.specs.declared.tally.Tally.{Tally}
 use Rattle.es_view.specs.declared.view_options.ViewOptions.{ViewOptions}
 use Rattle.ts_watch.specs.Choices.{RequestView}
 use Rattle.es_view.specs.Clocks.{clock_of}
 use Rattle.es_view.specs.Entries.{EntryState, arriving, beginning_in, is_unread}
+use Rattle.es_view.specs.HeldEvents.{main_held}
 use Rattle.es_view.specs.Tallies.{tally_after}
+use Rattle.fault_traces.specs.declared.traces.Traces.{Traces}
 use Rattle.ts_report.specs.Seen.{next_window}
-use Rattle.es_view.specs.Tallies.{in_window}
+use Rattle.es_view.specs.Tallies.{in_window, with_excesses, with_packet as with_tallied, with_unit_if}
 use Rattle.ts_report.specs.Views.{ViewState, clocked, start, with_begun}
-use Rattle.laws_view.specs.HeldWindows.{BeginIn, OfWindow, TimedWindowLaw, options_then, window_entering}
+use Rattle.laws_view.specs.HeldWindows.{BeginIn, OfWindow, TimedWindowLaw, TimedWithoutLaw, options_then, window_entering}
 use Rattle.laws_view.specs.StreamPackets.{Before, Followed, after_each, clock_with, entered_each, known_after, seen_in, sound_packet}
 use Rattle.laws_view.specs.TimedStreams.{Entering, after_entering, entered_by, entering, entering_among, followed_by, followed_so, view_by}
 use Rattle.laws_view.specs.WholeStreams.{followed as request_followed, nothing_known}
 use Rattle.laws_view.specs.WindowHighs.{IsHighWith, TimedHighLaw}
-use Rattle.laws_view.specs.WindowLows.{HasPayload, SaysLow, counted_each}
+use Rattle.laws_view.specs.WindowLows.{HasPayload, SaysHeld, SaysLow, counted_each, still_held}
 use Rattle.laws_view.proofs.ClockedStreams.{view_two}
 use Rattle.laws_view.proofs.Entries.{Agree, begun_agrees, begun_keeps, entry_with, taken_entry}
 use Rattle.laws_view.proofs.Lists.{some_is}
@@ -32,8 +36,8 @@ use Rattle.laws_view.proofs.Steps.{after_sound, clock_known, finished_steps, fol
 use Rattle.laws_view.proofs.TimedGrown.{came_is, grown_by, next_by, ready}
 use Rattle.laws_view.proofs.TimedWhole.{followed_is, index_by, knows_by, same_by}
 use Rattle.laws_view.proofs.Whole.{none_agree}
-use Rattle.laws_view.proofs.WindowHighs.{whole_high_law}
-use Rattle.laws_view.proofs.WindowLows.{whole_window_law}
+use Rattle.laws_view.proofs.WindowHighs.{after_none, whole_high_law}
+use Rattle.laws_view.proofs.WindowLows.{whole_window_law, window_without_law}
 
 -- ---- a packet more
 
@@ -61,13 +65,48 @@ views_same s e (Some packet) = by (nat_eq e.pid packet.header.pid) refl
     by true own = rw own refl
     by false other = rw other refl
 
+-- all that is counted is the same, beside the rows that are kept of the last packets
+abbrev pub with_kept : Tally → Traces → Tally
+with_kept t kept = record t { traces = kept }
+
+unit_kept : (t : Tally) (kept : Traces) (window : ℕ) (unit : Option UnitSeen) →
+    with_unit_if (with_kept t kept) window unit ≡ with_kept (with_unit_if t window unit) kept
+unfolding with_unit_if
+unit_kept t kept window None = refl
+unit_kept t kept window (Some u) = elim (eqb_tells t.window window) [
+  | inl same ↦ rw same.0 refl
+  | inr other ↦ rw other.0 refl
+]
+
+packet_kept : (t : Tally) (kept : Traces) (window : ℕ) (v : EnteredView) →
+    with_tallied (with_kept t kept) window v ≡ with_kept (with_tallied t window v) kept
+packet_kept t kept window v = elim (eqb_tells t.window window) [
+  | inl same ↦ rw same.0 refl
+  | inr other ↦ rw other.0 refl
+]
+
+after_kept : (t : Tally) (kept : Traces) (window : ℕ) (unread : Bool) (v : EnteredView) →
+    tally_after (with_kept t kept) window unread v ≡ with_kept (tally_after t window unread v) kept
+after_kept t kept window unread v =
+    ap (λ (k : Tally). with_unit_if (with_excesses k (length v.transport) (length v.main) unread) window v.unit) (packet_kept t kept window v)
+    ∙ unit_kept (with_excesses (with_tallied t window v) (length v.transport) (length v.main) unread) kept window v.unit
+
+each_kept : (t : Tally) (kept : Traces) (window : ℕ) (vs : List (Bool × EnteredView)) →
+    counted_each (with_kept t kept) window vs ≡ with_kept (counted_each t window vs) kept
+unfolding counted_each
+each_kept t kept window [] = refl
+each_kept t kept window (v ∷ vs) =
+    ap (λ (k : Tally). counted_each k window vs) (after_kept t kept window v.0 v.1) ∙ each_kept (tally_after t window v.0 v.1) kept window vs
+
 tally_more : (s : ViewState) (o : Option PacketView) (window j : ℕ) (e e1 : EntryState) → Agree s.table → slice_get s.table.entries j ≡ Some e →
     next_window s.seen ≡ window →
-    slice_get (after_sound s o).table.entries j ≡ Some e1 → e1.tally ≡ counted_each e.tally window (views_of s e o)
+    slice_get (after_sound s o).table.entries j ≡ Some e1 → e1.tally ≡ with_kept (counted_each e.tally window (views_of s e o)) e1.tally.traces
 unfolding after_sound views_of counted_each
-tally_more s None window j e e1 agree there in_it later = ap (λ (x : EntryState). x.tally) (some_is e1 e (sym later ∙ there))
-tally_more s (Some packet) window j e e1 agree there in_it later = ap (λ (x : EntryState). x.tally) (some_is e1 now (sym later ∙ is))
-    ∙ by (nat_eq e.pid packet.header.pid) refl
+tally_more s None window j e e1 agree there in_it later =
+    subst (λ (x : EntryState). x.tally ≡ with_kept e.tally x.tally.traces) (sym (some_is e1 e (sym later ∙ there))) refl
+tally_more s (Some packet) window j e e1 agree there in_it later =
+    subst (λ (x : EntryState). x.tally ≡ with_kept (counted_each e.tally window (views_of s e (Some packet))) x.tally.traces)
+    (sym (some_is e1 now (sym later ∙ is))) (by (nat_eq e.pid packet.header.pid) refl)
   where
     c : ViewState
     c = clocked s packet
@@ -83,7 +122,8 @@ tally_more s (Some packet) window j e e1 agree there in_it later = ap (λ (x : E
     clock : clock_of c.seen.clocks e.clock_pid ≡ clock_with s.seen.options e.clock_pid s.seen.packets packet (clock_of s.seen.clocks e.clock_pid)
     clock = clock_known s.seen.options e.clock_pid s.seen.packets packet s.seen.clocks
 
-    by : (w : Bool) → nat_eq e.pid packet.header.pid ≡ w → now.tally ≡ counted_each e.tally window (views_of s e (Some packet))
+    by : (w : Bool) → nat_eq e.pid packet.header.pid ≡ w →
+        now.tally ≡ with_kept (counted_each e.tally window (views_of s e (Some packet))) now.tally.traces
     by true own = rw (own, clock, in_it) refl
     by false other = rw other refl
 
@@ -103,12 +143,16 @@ entered_then h arrival (p ∷ ps) xs = ap (λ (vs : List EnteredView). entered h
 
 pub record CountedIn (s : ViewState) (window : ℕ) (packets : List Timed) (e e' : EntryState) : Type 0 where
   pub vs : List (Bool × EnteredView)
-  pub tally : e'.tally ≡ counted_each e.tally window vs
+  pub tally : e'.tally ≡ with_kept (counted_each e.tally window vs) e'.tally.traces
   pub same : map (λ w. w.1) vs ≡ entered_by e.held (entering_among (followed s e) (known s e) packets)
 
 none_in : (s : ViewState) (window : ℕ) (e e' : EntryState) → e ≡ e' → CountedIn s window [] e e'
 unfolding counted_each entering_among entered_by
-none_in s window e e' same = record { vs = []; tally = ap (λ (x : EntryState). x.tally) (sym same); same = refl }
+none_in s window e e' same = record {
+  vs = [];
+  tally = subst (λ (x : EntryState). x.tally ≡ with_kept e.tally x.tally.traces) same refl;
+  same = refl;
+}
 
 pub counted_in : (s : ViewState) (packets : List Timed) (window j : ℕ) (e e' : EntryState) → Agree s.table → s.seen.packets + length packets < 2 ^ 64 →
     slice_get s.table.entries j ≡ Some e → BeginIn s.seen.options window s.seen.packets packets → slice_get (view_by s packets).table.entries j ≡ Some e' →
@@ -134,11 +178,15 @@ counted_in s (p ∷ packets) window j e e' agree few there all later =
     (subst (λ (x : ViewState). slice_get (view_by x packets).table.entries j ≡ Some e') (came_is s p) later) in
     let steps = finished_steps r (after_sound r o) o p.bytes e e1 step.1.1 in
     let seen : entering_among (followed (next_by s p) e1) (known (next_by s p) e1) packets ≡ xs = rw (steps.same_stream, steps.then_known) refl in
-    let first : e1.tally ≡ counted_each e.tally window (views_of r e o) = tally_more r o window j e e1 agree there in_it step.1.0 in
+    let first = tally_more r o window j e e1 agree there in_it step.1.0 in
+    let counted : Tally = counted_each e.tally window (views_of r e o) in
     let those : map (λ w. w.1) rest.vs ≡ entered_by (after_each e.held a ps) xs = rest.same ∙ rw (seen, steps.held) refl in
     record {
       vs = views_of r e o ++ rest.vs;
-      tally = rest.tally ∙ ap (λ (t : Tally). counted_each t window rest.vs) first ∙ sym (counted_append e.tally window (views_of r e o) rest.vs);
+      tally = rest.tally
+          ∙ ap (λ (t : Tally). with_kept (counted_each t window rest.vs) e'.tally.traces) first
+          ∙ ap (λ (t : Tally). with_kept t e'.tally.traces) (each_kept counted e1.tally.traces window rest.vs)
+          ∙ ap (λ (t : Tally). with_kept t e'.tally.traces) (sym (counted_append e.tally window (views_of r e o) rest.vs));
       same = map-append (λ w. w.1) (views_of r e o) rest.vs
           ∙ ap (λ (vs : List EnteredView). vs ++ map (λ w. w.1) rest.vs) (views_same r e o)
           ∙ ap (λ (vs : List EnteredView). entered_each e.held a ps ++ vs) those
@@ -204,7 +252,7 @@ window_held request before packets window place e e' w =
 -- what is counted of a stream in a window
 pub record CountedOver (t t' : Tally) (window : ℕ) (h : Held) (xs : List Entering) : Type 0 where
   pub vs : List (Bool × EnteredView)
-  pub tally : t' ≡ counted_each t window vs
+  pub tally : t' ≡ with_kept (counted_each t window vs) t'.traces
   pub same : map (λ w. w.1) vs ≡ entered_by h xs
 
 pub window_counted : (request : RequestView) (before packets : List Timed) (window place : ℕ) (e e' : EntryState) →
@@ -224,13 +272,35 @@ pub says_low : (t t' : Tally) (window : ℕ) (h : Held) (xs : List Entering) →
 says_low t t' window h xs c other pos has =
     let none : (in_window t window).window_least ≡ None = rw other refl in
     let low = whole_window_law t window h xs c.vs pos none c.same has in
-    record { n = low.n; said = ap (λ (k : Tally). unwrap_or k.window_least 0) c.tally ∙ low.said; low = low.low }
+    record { n = low.n; said = ap (λ (k : Tally). k.window_least) c.tally ∙ low.said; low = low.low }
 
 pub says_high : (t t' : Tally) (window : ℕ) (h : Held) (xs : List Entering) → CountedOver t t' window h xs → (t.window == window) ≡ false → 0 < h.rate →
     HasPayload h xs → IsHighWith h xs t'.window_main
 says_high t t' window h xs c other pos has =
     let none : (in_window t window).window_main ≡ 0 = rw other refl in
     subst (λ (k : Tally). IsHighWith h xs k.window_main) (sym c.tally) (whole_high_law t window h xs c.vs pos none c.same has)
+
+not_both : true ≡ false → ⊥
+not_both h = cc
+
+-- where none enters, the last of them lies in the window
+says_held : (t t' : Tally) (window : ℕ) (h : Held) (xs : List Entering) → CountedOver t t' window h xs → (t.window == window) ≡ false →
+    (t'.window == window) ≡ true → (HasPayload h xs → ⊥) → SaysHeld t' h xs
+unfolding counted_each
+says_held t t' window h xs c other now none = by c.vs c.tally c.same
+  where
+    by : (vs : List (Bool × EnteredView)) → t' ≡ with_kept (counted_each t window vs) t'.traces → map (λ w. w.1) vs ≡ entered_by h xs → SaysHeld t' h xs
+    by [] is same = absurd (not_both (sym now ∙ ap (λ (k : Tally). k.window == window) is ∙ other))
+    by (v ∷ vs) is same =
+        let empty : (in_window t window).window_least ≡ None = rw other refl in
+        subst (λ (k : Tally). SaysHeld k h xs) (sym is) (window_without_law t window h xs v vs empty same (after_none h xs none).1)
+
+pub timed_without_law : TimedWithoutLaw
+timed_without_law request before packets window place e e' w now none =
+    let xs : List Entering = window_entering request before e packets in
+    subst (λ (h : Held). main_held e'.tally.window_main h e'.tally.window_least ≡ (still_held e.held xs, still_held e.held xs))
+    (sym (window_held request before packets window place e e' w))
+    (says_held e.tally e'.tally window e.held xs (window_counted request before packets window place e e' w) w.other now none)
 
 pub timed_window_law : TimedWindowLaw
 timed_window_law request before packets window place e e' w pos has =

@@ -20,7 +20,7 @@ use Rattle.ts_report.specs.Seen.{with_arrival}
 use Rattle.ts_report.specs.StreamTables.{TableState}
 use Rattle.ts_report.specs.Views.{ViewState, after_all, start}
 use Rattle.ts_watch.specs.WindowEvents.{window_of}
-use Rattle.laws_view.specs.HeldWindows.{BeginIn, HeldWindowLaw, OfRateWindow, OfWindow, known_then, window_entering, window_packets}
+use Rattle.laws_view.specs.HeldWindows.{BeginIn, HasHeld, HeldWindowLaw, OfRateWindow, OfWindow, RateWithoutLaw, known_then, window_entering, window_packets}
 use Rattle.laws_view.specs.StreamPackets.{Before, Followed, most_packets}
 use Rattle.laws_view.specs.TimedStreams.{Entering, InOrder, entering, entering_among, followed_by, view_by}
 use Rattle.laws_view.specs.TransportHighs.{IsFullWith, RateTransportLaw}
@@ -28,7 +28,7 @@ use Rattle.laws_view.specs.WholeStreams.{followed as request_followed}
 use Rattle.laws_view.specs.WindowHighs.{RateHighLaw}
 use Rattle.laws_view.specs.WindowLows.{HasPayload}
 use Rattle.laws_view.proofs.ClockedStreams.{Like, each_more}
-use Rattle.laws_view.proofs.HeldWindows.{CountedOver, says_high, says_low, window_counted}
+use Rattle.laws_view.proofs.HeldWindows.{CountedOver, says_high, says_low, timed_without_law, window_counted}
 use Rattle.laws_view.proofs.OrderedWindows.{ordered_transport}
 use Rattle.laws_view.proofs.RateStreams.{Same, entering_is, followed_is, same_options}
 use Rattle.laws_view.proofs.TimedOrder.{rate_order_law}
@@ -133,6 +133,14 @@ pub rate_high_law : RateHighLaw
 rate_high_law request before packets window place e e' w pos has =
     says_high e.tally e'.tally window e.held (entering request.options.arrival (window_packets request before e packets))
     (rate_counted request before packets window place e e' w has) w.other pos has
+
+pub rate_without_law : RateWithoutLaw
+rate_without_law request rate before packets window place e e' w now is none =
+    let a : Arrival = AtRate rate in
+    let l = alike request a before packets window place e e' (rate_known rate) is w in
+    subst (λ (xs : List Entering). HasHeld e e' xs) l.xs_are
+    (timed_without_law request (arriving_so a before) (arriving_so a packets) window place e e' l.window_is now
+    (λ has. none (subst (λ (xs : List Entering). HasPayload e.held xs) l.xs_are has)))
 
 pub rate_transport_law : RateTransportLaw
 rate_transport_law request rate before packets window place e e' w told is pos few some =

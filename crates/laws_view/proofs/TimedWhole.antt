@@ -16,7 +16,7 @@ use Rattle.tstd_rows.specs.declared.excess.Excess.{Excess}
 use Rattle.tstd_rows.specs.Excesses.{excess_after, excesses_ended}
 use Rattle.tstd_rows.specs.TransportLaws.{Rises, excesses}
 use Rattle.stream_programs.specs.Streams.{FoundStreamView}
-use Rattle.stream_coding.specs.declared.buffers.Buffers.{Buffers}
+use Rattle.es_buffers.specs.declared.buffers.Buffers.{Buffers}
 use Rattle.tstd_rows.specs.History.{arrivals_of, main_fullness, transport_of, unit_of}
 use Rattle.tstd_rows.specs.declared.unit_seen.UnitSeen.{UnitSeen}
 use Rattle.tstd_rows.proofs.AllMoments.{figures_law}

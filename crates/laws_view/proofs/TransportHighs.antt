@@ -24,7 +24,7 @@ use Rattle.laws_view.specs.HeldWindows.{window_entering}
 use Rattle.laws_view.specs.TimedStreams.{Entering, after_entering, entered_by}
 use Rattle.laws_view.specs.TransportHighs.{IsFull, IsFullWith, TimedTransportLaw, TransportHighLaw, TransportWithoutLaw, WindowTransportLaw, transport_after}
 use Rattle.laws_view.specs.WindowLows.{counted_each}
-use Rattle.laws_view.proofs.HeldWindows.{CountedOver, window_counted}
+use Rattle.laws_view.proofs.HeldWindows.{CountedOver, window_counted, with_kept}
 use Rattle.laws_view.proofs.TransportFull.{is_full, most_found-append}
 use Rattle.laws_view.proofs.WindowLows.{in_that_window, same_window}
 
@@ -190,7 +190,7 @@ says_full t t' window h xs c other told pos rises some =
     none : (in_window t window).window_transport ≡ 0
     none = rw other refl
 
-    by : (vs : List (Bool × EnteredView)) → t' ≡ counted_each t window vs → map (λ w. w.1) vs ≡ entered_by h xs →
+    by : (vs : List (Bool × EnteredView)) → t' ≡ with_kept (counted_each t window vs) t'.traces → map (λ w. w.1) vs ≡ entered_by h xs →
         t'.window_transport ≡ transport_after 0 (entered_by h xs)
     by [] is same = absurd (not_both (sym told ∙ ap (λ (k : Tally). k.window == window) is ∙ other))
     by (v ∷ vs) is same =

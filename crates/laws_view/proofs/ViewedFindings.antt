@@ -10,11 +10,10 @@ use Rattle.ts_packet.specs.Views.{PacketView}
 use Rattle.ts_packet.specs.Reading.{packet_at}
 use Rattle.ts_packet.specs.PidList.{Entry}
 use Rattle.ts_packet.proofs.PlainWritten.{null_again}
-use Rattle.demux.specs.Views.{FindingView, Found, WhatView, IsDuplicate, BreaksCounter, IsScrambled, IsTruncated, IsSection, IsBadSection, IsPes, IsBadPes}
-use Rattle.demux.specs.Views.{IsBadPacket, IsErrored}
+use Rattle.demux.specs.Views.{FindingView, Found, IsErrored}
 use Rattle.demux.specs.Machine.{PidState, found_by, step}
 use Rattle.demux.specs.Shown.{with_pid}
-use Rattle.demux.specs.Bodies.{found_without_body, headers_pushed, headers_taken, state_without_body, states_without_bodies, without_body}
+use Rattle.demux.specs.Bodies.{all_without_body, found_without_body, headers_pushed, headers_taken, state_without_body, states_without_bodies}
 use Rattle.demux.specs.Stream.{States, StreamState, entry_of, findings_by, found_in, next_packet, pushed, state_of, states_by, taken, with_state}
 use Rattle.demux.specs.FoundSoFar.{with_found}
 use Rattle.demux.proofs.Bodies.{bodies_decide_nothing, state_again}
@@ -23,7 +22,7 @@ use Rattle.stream_programs.specs.Streams.{FoundStreamView}
 use Rattle.es_view.specs.declared.view_options.ViewOptions.{ViewOptions}
 use Rattle.es_view.specs.Entries.{EntryState}
 use Rattle.es_view.specs.Clocks.{ClockEntries}
-use Rattle.ts_watch.specs.TableEvents.{TablesState, TakesPackets, is_wrong}
+use Rattle.ts_watch.specs.TableEvents.{TablesState, TakesPackets}
 use Rattle.ts_watch.proofs.TablePackets.{null_found, pushed_forgotten, pushed_found, taken_takes}
 use Rattle.ts_report.specs.Seen.{SeenState, with_counter_read}
 use Rattle.ts_report.specs.StreamTables.{TableState, begun_if, beginning, has_stream, taken_at, taken_if}
@@ -58,7 +57,7 @@ unfolding taken_if
 taken_keeps options index window clocks t packet None = refl
 taken_keeps options index window clocks t packet (Some place) = at_keeps options index window clocks t packet place _
 
-packet_keeps : (s : ViewState) (packet : PacketView) (pid : ℕ) → has_stream (with_packet s packet).table pid ≡ false → has_stream s.table pid ≡ false
+pub packet_keeps : (s : ViewState) (packet : PacketView) (pid : ℕ) → has_stream (with_packet s packet).table pid ≡ false → has_stream s.table pid ≡ false
 packet_keeps s packet pid h =
     begun_keeps s.seen.options (clocked s packet) packet pid (beginning s.seen.named s.table packet)
     (ap (λ (places : List (ℕ × ℕ)). is_some (lookup (nat_eq pid) places))
@@ -82,46 +81,21 @@ read_alike s o (Ok packet) h = by packet.header.transport_error_indicator
     by true = record { takes = h.takes; packets = h.packets; states = h.states }
     by false = record { takes = h.takes; packets = h.packets; states = λ pid none. h.states pid (packet_keeps s packet pid none) }
 
--- 3. Which findings are of wrong check words
+-- 3. What is found, without bodies
 
-abbrev pub wrongs : List FindingView → List Bool
-wrongs [] = []
-wrongs (f ∷ found) = is_wrong f.what ∷ wrongs found
-
-abbrev wrong_found : List Found → List Bool
-wrong_found [] = []
-wrong_found (f ∷ found) = is_wrong f.what ∷ wrong_found found
-
-wrong_shown : (what : WhatView) → is_wrong (without_body what) ≡ is_wrong what
-unfolding is_wrong
-wrong_shown IsDuplicate = refl
-wrong_shown (BreaksCounter expected found) = refl
-wrong_shown IsScrambled = refl
-wrong_shown (IsTruncated bytes) = refl
-wrong_shown (IsSection bytes) = refl
-wrong_shown (IsBadSection error) = refl
-wrong_shown (IsPes header unended body) = refl
-wrong_shown (IsBadPes error) = refl
-wrong_shown (IsBadPacket error) = refl
-wrong_shown IsErrored = refl
-
-all_shown : (found : List Found) → wrong_found (map found_without_body found) ≡ wrong_found found
-all_shown [] = refl
-all_shown (f ∷ found) = ap₂ (λ (b : Bool) (rest : List Bool). b ∷ rest) (wrong_shown f.what) (all_shown found)
-
-with_pid_wrongs : (q index : ℕ) (found : List Found) → wrongs (map (with_pid q index) found) ≡ wrong_found found
-with_pid_wrongs q index [] = refl
-with_pid_wrongs q index (f ∷ found) = ap (λ (rest : List Bool). is_wrong f.what ∷ rest) (with_pid_wrongs q index found)
+with_pid_left : (q index : ℕ) (found : List Found) →
+    all_without_body (map (with_pid q index) found) ≡ map (with_pid q index) (map found_without_body found)
+with_pid_left q index [] = refl
+with_pid_left q index (f ∷ found) =
+    ap (λ (rest : List FindingView). with_pid q index (found_without_body f) ∷ rest) (with_pid_left q index found)
 
 one_pid : (q index : ℕ) (v o : PidState) (entry : Entry) → state_without_body v ≡ state_without_body o →
-    wrongs (map (with_pid q index) (found_by v entry)) ≡ wrongs (map (with_pid q index) (found_by o entry))
+    all_without_body (map (with_pid q index) (found_by v entry)) ≡ all_without_body (map (with_pid q index) (found_by o entry))
 one_pid q index v o entry e =
-    with_pid_wrongs q index (found_by v entry)
-    ∙ sym (all_shown (found_by v entry))
-    ∙ ap wrong_found (sym (bodies_decide_nothing v entry).0
+    with_pid_left q index (found_by v entry)
+    ∙ ap (map (with_pid q index)) (sym (bodies_decide_nothing v entry).0
     ∙ ap (λ (s : PidState). map found_without_body (found_by s entry)) e ∙ (bodies_decide_nothing o entry).0)
-    ∙ all_shown (found_by o entry)
-    ∙ sym (with_pid_wrongs q index (found_by o entry))
+    ∙ sym (with_pid_left q index (found_by o entry))
 
 step_alike : (v o : PidState) (entry : Entry) → state_without_body v ≡ state_without_body o → state_without_body (step v entry) ≡ state_without_body (step o entry)
 step_alike v o entry e =
@@ -141,7 +115,7 @@ state_left pid (x ∷ states) = state_by (pid == x.0) x.1 (state_of pid states) 
 left_twice : (pid : ℕ) (states : States) → state_without_body (state_of pid (states_without_bodies states)) ≡ state_without_body (state_of pid states)
 left_twice pid states = ap state_without_body (state_left pid states) ∙ state_again (state_of pid states)
 
-state_kept : (pid q : ℕ) (state : PidState) (states : States) (t : Bool) → (q == pid) ≡ t →
+pub state_kept : (pid q : ℕ) (state : PidState) (states : States) (t : Bool) → (q == pid) ≡ t →
     state_of pid (with_state q state states) ≡ cond t state (state_of pid states)
 state_kept pid q state [] t e = rw (turned_test pid q ∙ e) refl
 state_kept pid q state (y ∷ es) t e = by t e (q == y.0) refl (state_kept pid q state es t e)
@@ -173,14 +147,24 @@ others_stay pid index bytes states packet e = by packet.header.transport_error_i
 -- 5. A packet that is looked at
 
 record Step (t : TableState) (index : ℕ) (bytes : List ℕ) (vs os : States) (r : Result PacketView PacketError) : Type 0 where
-  found : wrongs (findings_by index bytes vs r) ≡ wrongs (findings_by index bytes os r)
+  found : all_without_body (findings_by index bytes vs r) ≡ all_without_body (findings_by index bytes os r)
   states : (pid : ℕ) → has_stream t pid ≡ false →
       state_without_body (state_of pid (states_by index bytes vs r)) ≡ state_without_body (state_of pid (states_by index bytes os r))
 
 -- whose PID has no stream, if it can be read
-unfoldable IsLookedAt : TableState → Result PacketView PacketError → Type 0
+unfoldable pub IsLookedAt : TableState → Result PacketView PacketError → Type 0
 IsLookedAt t (Err error) = Unit {0}
 IsLookedAt t (Ok packet) = has_stream t packet.header.pid ≡ false
+
+-- whose PID has a stream
+unfoldable pub IsOfStream : TableState → Result PacketView PacketError → Type 0
+IsOfStream t (Err error) = ⊥
+IsOfStream t (Ok packet) = has_stream t packet.header.pid ≡ true
+
+-- a packet of a stream finds nothing, and another one what is found in the stream
+abbrev pub FindsAlike : TableState → List FindingView → StreamState → List ℕ → Type 0
+FindsAlike t found o bytes = ((found ≡ []) × IsOfStream t (packet_at bytes))
+    ⊎ ((all_without_body found ≡ all_without_body (found_in o bytes)) × IsLookedAt t (packet_at bytes))
 
 looked_at : (t : TableState) (index : ℕ) (bytes : List ℕ) (vs os : States) (r : Result PacketView PacketError) →
     ((pid : ℕ) → has_stream t pid ≡ false → state_without_body (state_of pid vs) ≡ state_without_body (state_of pid os)) → IsLookedAt t r →
@@ -216,7 +200,7 @@ looked_at t index bytes vs os (Ok packet) h none =
         ∙ h pid free
         ∙ ap state_without_body (sym (state_kept pid q (step (state_of q os) entry) os false e))
 
-    cases : (e z : Bool) → (wrongs (told e z vs) ≡ wrongs (told e z os))
+    cases : (e z : Bool) → (all_without_body (told e z vs) ≡ all_without_body (told e z os))
         × ((pid : ℕ) → has_stream t pid ≡ false →
         state_without_body (state_of pid (cond e vs (cond z vs (next vs)))) ≡ state_without_body (state_of pid (cond e os (cond z os (next os)))))
     cases true z = (refl, h)
@@ -226,7 +210,7 @@ looked_at t index bytes vs os (Ok packet) h none =
 -- 6. One packet of a view
 
 -- the packets that are looked at: those of the stream, and null packets where there are buffers
-counter_keeps : (x : SeenState) (bytes : List ℕ) (r : Result PacketView PacketError) → (with_counter_read x bytes r).tables ≡ x.tables
+pub counter_keeps : (x : SeenState) (bytes : List ℕ) (r : Result PacketView PacketError) → (with_counter_read x bytes r).tables ≡ x.tables
 unfolding with_counter_read
 counter_keeps x bytes (Err error) = refl
 counter_keeps x bytes (Ok packet) = by packet.header.transport_error_indicator
@@ -237,7 +221,7 @@ counter_keeps x bytes (Ok packet) = by packet.header.transport_error_indicator
 
 -- what the tables of a view come to by some bytes
 record Taken (t : TableState) (d o : StreamState) (given bytes : List ℕ) : Type 0 where
-  found : (wrongs (pushed d given).found ≡ []) ⊎ (wrongs (pushed d given).found ≡ wrongs (found_in o bytes))
+  found : FindsAlike t (pushed d given).found o bytes
   demux : with_found [] (headers_pushed d given) ≡ headers_taken d given
   takes : TakesPackets (headers_taken d given)
   packets : (headers_taken d given).packets ≡ (taken o bytes).packets
@@ -253,8 +237,11 @@ unfolding taken found_in
 plain_taken t d o bytes size takes count h none =
     let step = looked_at t o.packets bytes d.states o.states (packet_at bytes) h none in
     record {
-      found = inr (ap wrongs (pushed_found d bytes takes size)
-          ∙ ap (λ (i : ℕ). wrongs (findings_by i bytes d.states (packet_at bytes))) count ∙ step.found);
+      found = inr (
+        ap all_without_body (pushed_found d bytes takes size)
+            ∙ ap (λ (i : ℕ). all_without_body (findings_by i bytes d.states (packet_at bytes))) count ∙ step.found,
+        none,
+      );
       demux = pushed_forgotten d bytes takes size;
       takes = taken_takes d bytes takes;
       packets = ap next_packet count;
@@ -266,7 +253,7 @@ null_states : (index : ℕ) (states : States) → states_by index null_packet st
 unfolding states_by
 null_states index states = rw (null_again.read) refl
 
-other_pid : (t : TableState) (q pid : ℕ) → has_stream t q ≡ true → has_stream t pid ≡ false → (q == pid) ≡ false
+pub other_pid : (t : TableState) (q pid : ℕ) → has_stream t q ≡ true → has_stream t pid ≡ false → (q == pid) ≡ false
 other_pid t q pid there free = by (q == pid) refl
   where
     by : (b : Bool) → (q == pid) ≡ b → b ≡ false
@@ -275,9 +262,9 @@ other_pid t q pid there free = by (q == pid) refl
 
 null_taken : (t : TableState) (d o : StreamState) (bytes : List ℕ) (packet : PacketView) → TakesPackets d → d.packets ≡ o.packets → AgreeIn t d o →
     packet_at bytes ≡ Ok packet → has_stream t packet.header.pid ≡ true → Taken t d o null_packet bytes
-unfolding taken
+unfolding taken IsOfStream
 null_taken t d o bytes packet takes count h e there = record {
-  found = inl (ap wrongs (pushed_found d null_packet takes null_again.size ∙ null_found d));
+  found = inl (pushed_found d null_packet takes null_again.size ∙ null_found d, subst (IsOfStream t) (sym e) there);
   demux = pushed_forgotten d null_packet takes null_again.size;
   takes = taken_takes d null_packet takes;
   packets = ap next_packet count;
@@ -306,13 +293,11 @@ alike_by v o d e takes count h = record {
   states = λ pid free. ap (λ (x : StreamState). state_without_body (state_of pid x.states)) e ∙ h pid free;
 }
 
--- after it both are alike again, and what the view has found is nothing, or what is found in the stream
+-- what the tables of a view come to by a packet
 pub record Next (s : ViewState) (o : StreamState) (bytes : List ℕ) : Type 0 where
   pub alike : Alike (after_packet s bytes) (taken o bytes)
-  pub found :
-      (wrongs (pushed (after_read s (packet_at bytes)).seen.tables.demux (without_stream (after_read s (packet_at bytes)) bytes (packet_at bytes))).found ≡ [])
-      ⊎ (wrongs (pushed (after_read s (packet_at bytes)).seen.tables.demux (without_stream (after_read s (packet_at bytes)) bytes (packet_at bytes))).found
-      ≡ wrongs (found_in o bytes))
+  pub found : FindsAlike (after_read s (packet_at bytes)).table
+      (pushed (after_read s (packet_at bytes)).seen.tables.demux (without_stream (after_read s (packet_at bytes)) bytes (packet_at bytes))).found o bytes
 
 pub next : (s : ViewState) (o : StreamState) (bytes : List ℕ) → length bytes ≡ 188 → Alike s o → Next s o bytes
 next s o bytes size h =

@@ -39,7 +39,7 @@ use Rattle.tr101290.specs.Samples.{sample_in, sample_with}
 use Rattle.ts_watch.specs.Choices.{RequestView}
 use Rattle.ts_watch.specs.ClockEvents.{error_events, report_events_if}
 use Rattle.ts_watch.specs.RuleEvents.{accuracy_events, judge_after}
-use Rattle.ts_report.specs.Seen.{report_on, timing_of}
+use Rattle.ts_report.specs.Seen.{report_on, timing_for, timing_of}
 use Rattle.ts_report.specs.Views.{ViewState, after_all, start}
 use Rattle.laws_view.specs.StreamPackets.{most_packets, sound_packet}
 use Rattle.laws_view.specs.ViewedReferences.{IsFine, IsFineClock, IsNear, IsSoon, IsWithin, JobReferencesLaw, NoReferenceError, RunReferencesLaw}
@@ -97,7 +97,7 @@ unfolding after_sound timing_of
 sound_judge rate s None at_rate = refl
 sound_judge rate s (Some packet) at_rate = rw at_rate (same_judge rate s.seen.rules.judge packet.header.pid (report_on s.seen packet))
 
-next_watches : (r : Rated) (s : ViewState) (index : ℕ) (bytes : List ℕ) (packets : List (List ℕ)) → index < r.slots → Watches r s index (bytes ∷ packets) →
+pub next_watches : (r : Rated) (s : ViewState) (index : ℕ) (bytes : List ℕ) (packets : List (List ℕ)) → index < r.slots → Watches r s index (bytes ∷ packets) →
     Watches r (next s bytes) (index + 1) packets
 unfolding entries_from
 next_watches r s index bytes packets few h =
@@ -114,7 +114,7 @@ next_watches r s index bytes packets few h =
       held = ap (λ (j : JudgeState). j.held) (sound_judge r.rate s o h.arrival) ∙ h.held;
     }
 
-all_watches : (r : Rated) (s : ViewState) (index : ℕ) (before later : List (List ℕ)) → index + length (before ++ later) ≤ r.slots →
+pub all_watches : (r : Rated) (s : ViewState) (index : ℕ) (before later : List (List ℕ)) → index + length (before ++ later) ≤ r.slots →
     Watches r s index (before ++ later) → Watches r (after_all s before) (index + length before) later
 unfolding after_all
 all_watches r s index [] later few h = subst (λ (n : ℕ). Watches r s n later) (let same : index ≡ index + 0 = omega arith in same) h
@@ -132,7 +132,7 @@ none_last judge h = by (varies judge)
     by true = refl
     by false = h
 
-fine_at : (r : Rated) (s : ViewState) (index : ℕ) (bytes : List ℕ) (later : List (List ℕ)) (packet : PacketView) → index < r.slots →
+pub fine_at : (r : Rated) (s : ViewState) (index : ℕ) (bytes : List ℕ) (later : List (List ℕ)) (packet : PacketView) → index < r.slots →
     sound_packet (packet_at bytes) ≡ Some packet → Watches r s index (bytes ∷ later) → IsFine s.seen packet
 unfolding entries_from timing_of
 fine_at r s index bytes later packet few sound h =
@@ -174,7 +174,7 @@ no_references pid content s (suc n) none =
       | inr k ↦ rw k rest
     ]
 
-abbrev run_rated : (d : Scheduled) (slots : ℕ) → IsInRange d.description → slots ≤ most_packets → Rated
+abbrev pub run_rated : (d : Scheduled) (slots : ℕ) → IsInRange d.description → slots ≤ most_packets → Rated
 run_rated d slots ranges few = record {
   rate = d.description.rate;
   base0 = d.description.base0;
@@ -204,15 +204,15 @@ run_comes d units slots pid ranges promised kept few =
           (no_references pid (content_at d units) 0 slots (λ t. all_none d units pid t none)))
     ]
 
-run_begins : (d : Scheduled) (units : ℕ → List AccessUnit) (slots : ℕ) (request : RequestView) (ranges : IsInRange d.description) →
+pub run_begins : (d : Scheduled) (units : ℕ → List AccessUnit) (slots : ℕ) (request : RequestView) (ranges : IsInRange d.description) →
     Promised d.description d.schedule → UnitsKept d units → (few : slots ≤ most_packets) → request.options.arrival ≡ AtRate d.description.rate →
     Watches (run_rated d slots ranges few) (start request) 0 (cut_packets (run_bytes (content_at d units) 0 slots))
-unfolding timing_of watch_or_new sample_kept
+unfolding timing_for watch_or_new sample_kept
 run_begins d units slots request ranges promised kept few at_rate = record {
   arrival = at_rate;
   count = refl;
   watched = λ pid. record {
-    timing = ap (λ (a : Arrival). timing_of a) at_rate;
+    timing = ap (λ (a : Arrival). timing_for request.stamps a) at_rate;
     comes = run_comes d units slots pid ranges promised kept few;
   };
   fine = All-nil IsFineClock;
@@ -220,7 +220,7 @@ run_begins d units slots request ranges promised kept few at_rate = record {
 }
 
 -- the number of its packets
-run_packets : (d : Scheduled) (units : ℕ → List AccessUnit) (slots : ℕ) → IsInRange d.description → Promised d.description d.schedule → UnitsKept d units →
+pub run_packets : (d : Scheduled) (units : ℕ → List AccessUnit) (slots : ℕ) → IsInRange d.description → Promised d.description d.schedule → UnitsKept d units →
     length (cut_packets (run_bytes (content_at d units) 0 slots)) ≡ slots
 run_packets d units slots ranges promised kept =
     let bytes : List ℕ = run_bytes (content_at d units) 0 slots in

@@ -11,7 +11,7 @@ use Rattle.slot_contents.specs.Contents.{run_bytes}
 use Rattle.slot_contents.proofs.Runs.{run_length}
 use Rattle.pes_packet.specs.Units.{units_of}
 use Rattle.demux.specs.Views.{FindingView, WhatView, IsDuplicate, BreaksCounter, IsScrambled, IsTruncated, IsSection, IsBadSection, IsPes, IsBadPes}
-use Rattle.demux.specs.Views.{Found, IsBadPacket, IsErrored}
+use Rattle.demux.specs.Views.{Found, IsBadPacket, IsErrored, IsStray}
 use Rattle.psi_tables.specs.declared.error.SectionError.{SectionError}
 use Rattle.psi_tables.specs.declared.error.SectionError.TheVariants as refusals
 use Rattle.demux.specs.Machine.{found_by}
@@ -43,13 +43,19 @@ use Rattle.es_view.specs.declared.view_options.ViewOptions.{ViewOptions}
 use Rattle.ts_watch.specs.Choices.{RequestView}
 use Rattle.ts_watch.specs.TableEvents.{TimesState, begin_events, check_word_event, check_word_events, distance_events, error_events, finding_events, findings_events}
 use Rattle.ts_watch.specs.TableEvents.{is_wrong, other_events, section_in, soon_events, whole_in, with_finding}
+use Rattle.ts_watch.proofs.HeaderTables.{events_alike}
+use Rattle.ts_report.specs.StreamTables.{TableState}
 use Rattle.ts_report.specs.Views.{ViewState, after_packet, after_read, start, table_events_at}
 use Rattle.laws_view.specs.ViewedSections.{JobCheckWordsLaw, RunCheckWordsLaw, is_check_word, sections_in}
 use Rattle.laws_view.proofs.MuxedFrames.{packet_sizes_are}
 use Rattle.laws_view.proofs.ViewedCounters.{sound_findings}
-use Rattle.laws_view.proofs.ViewedFindings.{Alike, Next, next, wrongs}
+use Rattle.laws_view.proofs.ViewedFindings.{Alike, FindsAlike, Next, next}
 
 -- 1. Findings without a wrong check word have no such event
+
+abbrev wrongs : List FindingView → List Bool
+wrongs [] = []
+wrongs (f ∷ found) = is_wrong f.what ∷ wrongs found
 
 abbrev Calm : List Bool → Type 0
 Calm [] = Unit {0}
@@ -130,6 +136,7 @@ calm_what packet pid (IsPes header unended bytes) e = refl
 calm_what packet pid (IsBadPes error) e = refl
 calm_what packet pid (IsBadPacket error) e = refl
 calm_what packet pid IsErrored e = refl
+calm_what packet pid (IsStray size) e = refl
 
 none_first : (xs ys : List StreamFault) → xs ++ ys ≡ [] → xs ≡ []
 none_first [] ys e = refl
@@ -169,9 +176,12 @@ calm_packet o bytes (Ok packet) rest e = by packet.header.transport_error_indica
 
 -- 3. All packets
 
-calm_if : (xs ys : List Bool) → (xs ≡ []) ⊎ (xs ≡ ys) → Calm ys → Calm xs
-calm_if xs ys (inl e) h = subst Calm (sym e) tt
-calm_if xs ys (inr e) h = subst Calm (sym e) h
+calm_if : (options : ViewOptions) (x : TimesState) (t : TableState) (fs : List FindingView) (o : StreamState) (bytes : List ℕ) → FindsAlike t fs o bytes →
+    Calm (wrongs (found_in o bytes)) → filter is_check_word (findings_events options x fs) ≡ []
+unfolding findings_events
+calm_if options x t fs o bytes (inl e) h = ap (λ (found : List FindingView). filter is_check_word (findings_events options x found)) e.0
+calm_if options x t fs o bytes (inr e) h =
+    ap (filter is_check_word) (events_alike options x fs (found_in o bytes) e.0) ∙ calm_findings options x (found_in o bytes) h
 
 along : (s : ViewState) (o : StreamState) (packets : List (List ℕ)) → Alike s o → All (λ bytes. length bytes ≡ 188) packets →
     faults_of_all (found_in_all o packets) ≡ [] → filter is_check_word (sections_in s packets) ≡ []
@@ -182,7 +192,7 @@ along s o (bytes ∷ packets) h sizes none =
     let n : Next s o bytes = next s o bytes (All-head (λ b. length b ≡ 188) bytes packets sizes) h in
     let c = calm_packet o bytes (packet_at bytes) (found_in_all (taken o bytes) packets) none in
     none_of (table_events_at v bytes) (sections_in (after_packet s bytes) packets)
-    (calm_findings v.seen.options v.seen.tables.times _ (calm_if _ (wrongs (found_in o bytes)) n.found c.0))
+    (calm_if v.seen.options v.seen.tables.times v.table _ o bytes n.found c.0)
     (along (after_packet s bytes) (taken o bytes) packets n.alike (All-tail (λ b. length b ≡ 188) bytes packets sizes) c.1)
 
 faults_first : (xs ys : List FindingView) → faults_of_all (xs ++ ys) ≡ [] → faults_of_all xs ≡ []
@@ -193,7 +203,7 @@ faults_first (x ∷ xs) ys e =
     ap₂ (λ (a b : List StreamFault). a ++ b) (none_first here (faults_of_all (xs ++ ys)) e)
     (faults_first xs ys (none_last here (faults_of_all (xs ++ ys)) e))
 
-alike_first : (request : RequestView) → Alike (start request) demux.start
+pub alike_first : (request : RequestView) → Alike (start request) demux.start
 alike_first request = record { takes = record { held = refl; found = refl }; packets = refl; states = λ pid free. refl }
 
 quiet : (request : RequestView) (bytes : List ℕ) → length bytes / 188 < 2 ^ 64 - 1 → IsSound bytes →

@@ -18,7 +18,7 @@ pub last_events_law : LastEventsLaw
 last_events_law options count window e =
     let h = seen_held e in
     let t = closed_seen window e in
-    let window_events = tally_events options window (place_at count e) t in
+    let window_events = tally_events options window (place_at count e) t h in
     let under_way = under_way_events options (place_at count e) h in
     let totals = transport_total (place_at count e) h t ∷ main_event (place_at count e) (main_figures h t) t ∷ [] in
     let after = video_closing_events options (place_at count e) (figures_of e.video h) t.units e.video_tally

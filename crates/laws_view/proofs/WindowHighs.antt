@@ -6,8 +6,9 @@ use Rattle.std.proofs.lemmas.Bool.Decides.{eqb_tells}
 use Rattle.tstd_rows.specs.Least.{least_found}
 use Rattle.arrival.specs.Arrivals.{times_at}
 use Rattle.arrival.specs.declared.arrival.Arrival.{Arrival}
-use Rattle.tstd_rows.specs.Held.{Held, main_found}
-use Rattle.tstd_rows.specs.Entering.{EnteredView, after, after_unit, ended_with, entered, lead_in, nothing, payload_main_most, size_of, takes_in}
+use Rattle.tstd_rows.specs.Held.{Held, main_found, main_least_found}
+use Rattle.tstd_rows.specs.Entering.{EnteredView, after, after_unit, ended_with, entered, lead_in, nothing, payload_main_least, payload_main_most}
+use Rattle.tstd_rows.specs.Entering.{size_of, takes_in}
 use Rattle.tstd_rows.specs.declared.arriving.Arriving.{Arriving}
 use Rattle.tstd_rows.specs.History.{Part, left_after, main_fullness, row_least, until_of}
 use Rattle.tstd_rows.specs.History.Part.{Passes, Carries, Begins}
@@ -17,10 +18,10 @@ use Rattle.es_view.specs.Tallies.{tally_after}
 use Rattle.es_view.specs.Tallies.{in_window, with_excesses, with_packet as with_tallied, with_unit_if}
 use Rattle.es_view.specs.declared.tally.Tally.{Tally}
 use Rattle.laws_view.specs.TimedStreams.{Entering, entered_by}
-use Rattle.laws_view.specs.WindowLows.{HasPayload, counted_each}
+use Rattle.laws_view.specs.WindowLows.{HasPayload, counted_each, least_after}
 use Rattle.laws_view.specs.WindowHighs.{HighWithoutLaw, IsHighWith, WholeHighLaw, WindowHighLaw, WindowMostLaw, most_after}
 use Rattle.laws_view.proofs.MainHighs.{entries_of, is_high}
-use Rattle.laws_view.proofs.WindowLows.{each_comes, in_that_window, least_some, none_has, nothing_comes, same_window}
+use Rattle.laws_view.proofs.WindowLows.{each_comes, in_that_window, is_nothing, least_some, none_has, nothing_comes, same_window, window_without_law}
 
 -- ---- where a byte of them enters
 
@@ -43,10 +44,6 @@ none_least step (Begins due ∷ recent) before none = none_least step recent bef
 first_of : (ds : List ℕ) → (ds ≡ [] → ⊥) → (d : ℕ) × (es : List ℕ) × (ds ≡ d ∷ es)
 first_of [] some = absurd (some refl)
 first_of (d ∷ ds) some = (d, ds, refl)
-
-is_nothing : (o : Option ℕ) → o ≡ None → is_some o ≡ true → ⊥
-is_nothing None is h = let no : ⊥ = cc in no
-is_nothing (Some n) is h = let no : ⊥ = cc in no
 
 pub window_high_law : WindowHighLaw
 window_high_law h xs pos has =
@@ -101,35 +98,46 @@ above n not = elim (cases_lt 0 n) [
   | inr few ↦ let none : n ≡ 0 = omega (arith, few) in absurd (not none)
 ]
 
-payload_none : (h : Held) (enters : Bool) (size : ℕ) (times : List ℕ) → (enters ≡ true → 0 < size → ⊥) → payload_main_most h enters size times ≡ 0
-unfolding payload_main_most
+payload_none : (h : Held) (enters : Bool) (size : ℕ) (times : List ℕ) → (enters ≡ true → 0 < size → ⊥) →
+    (payload_main_most h enters size times ≡ 0) × (payload_main_least h enters size times ≡ None)
+unfolding payload_main_most payload_main_least
 payload_none h enters size times none = elim (eqb_tells size 0) [
-  | inl nought ↦ rw nought.0 refl
+  | inl nought ↦ rw nought.0 (refl, refl)
   | inr other ↦ rw other.0 (goes (above size other.1) enters refl)
 ]
   where
-    goes : 0 < size → (b : Bool) → enters ≡ b → (let n : ℕ = if b then main_found h times else 0 in n) ≡ 0
+    goes : 0 < size → (b : Bool) → enters ≡ b →
+        ((let n : ℕ = if b then main_found h times else 0 in n) ≡ 0) × ((let o : Option ℕ = if b then main_least_found h times else None in o) ≡ None)
     goes some true is = absurd (none is some)
-    goes some false is = refl
+    goes some false is = (refl, refl)
 
 entered_none : (h : Held) (arrival : Arrival) (p : Arriving) → ((takes_in h arrival p ≡ true) × (p.enters ≡ true) × (0 < size_of p) → ⊥) →
-    (entered h arrival p).main_most ≡ 0
+    ((entered h arrival p).main_most ≡ 0) × ((entered h arrival p).main_least ≡ None)
 unfolding entered
 entered_none h arrival p none = by (takes_in h arrival p) refl
   where
-    by : (b : Bool) → takes_in h arrival p ≡ b → (if b then ended_with h arrival p (size_of p) (lead_in arrival p) else nothing).main_most ≡ 0
+    by : (b : Bool) → takes_in h arrival p ≡ b →
+        ((if b then ended_with h arrival p (size_of p) (lead_in arrival p) else nothing).main_most ≡ 0)
+        × ((if b then ended_with h arrival p (size_of p) (lead_in arrival p) else nothing).main_least ≡ None)
     by true takes =
         let c : Held = after_unit h arrival p (size_of p) (lead_in arrival p) in
         payload_none c p.enters (size_of p) (times_at arrival c.rx (188 * p.index + (188 - size_of p)) (size_of p)) (λ enters some. none (takes, enters, some))
-    by false takes = refl
+    by false takes = (refl, refl)
 
-most_none : (h : Held) (xs : List Entering) → (HasPayload h xs → ⊥) → most_after 0 (entered_by h xs) ≡ 0
-unfolding entered_by most_after HasPayload
-most_none h [] none = refl
-most_none h (x ∷ xs) none =
-    let here : max 0 (entered h x.arrival x.packet).main_most ≡ 0 = omega (arith, entered_none h x.arrival x.packet (λ has. none (inl has))) in
-    ap (λ (n : ℕ). most_after n (entered_by (after h x.arrival x.packet) xs)) here ∙ most_none (after h x.arrival x.packet) xs (λ has. none (inr has))
+pub after_none : (h : Held) (xs : List Entering) → (HasPayload h xs → ⊥) →
+    (most_after 0 (entered_by h xs) ≡ 0) × (least_after None (entered_by h xs) ≡ None)
+unfolding entered_by most_after least_after least_of_both HasPayload
+after_none h [] none = (refl, refl)
+after_none h (x ∷ xs) none =
+    let now = entered_none h x.arrival x.packet (λ has. none (inl has)) in
+    let most : max 0 (entered h x.arrival x.packet).main_most ≡ 0 = omega (arith, now.0) in
+    let later = after_none (after h x.arrival x.packet) xs (λ has. none (inr has)) in
+    let vs : List EnteredView = entered_by (after h x.arrival x.packet) xs in
+    (ap (λ (n : ℕ). most_after n vs) most ∙ later.0, ap (λ (o : Option ℕ). least_after o vs) now.1 ∙ later.1)
 
 pub high_without_law : HighWithoutLaw
-high_without_law t window h xs v vs zero_before same none =
-    window_most_law t window v vs zero_before ∙ ap (λ (l : List EnteredView). most_after 0 l) same ∙ most_none h xs none
+high_without_law t window h xs v vs zero_before none_before same none =
+    let both = after_none h xs none in (
+      window_most_law t window v vs zero_before ∙ ap (λ (l : List EnteredView). most_after 0 l) same ∙ both.0,
+      window_without_law t window h xs v vs none_before same both.1,
+    )

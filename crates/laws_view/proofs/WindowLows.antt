@@ -1,7 +1,6 @@
 -- The least that a line `held` says of a main buffer is its least fullness while the packets of the window come.
 use Rattle.std.proofs.Common.{◌≡◌, ◌∙◌, sym, ℕ, zero, suc, ◌+◌, ◌-◌, ◌*◌, ◌^◌, ◌<◌, ◌&&◌, is_some, nat_le, nat_lt, max, min, Bool, true, false, List, [], ◌∷◌}
 use Rattle.std.proofs.Common.{◌++◌, length, map, Option, Some, None, if◌then◌else◌, refl, ap, subst, inl, inr, arith, append_assoc}
-use Rattle.std.specs.Prelude.{unwrap_or}
 use Rattle.std.proofs.lemmas.Bool.Decides.{eqb_tells}
 use Rattle.arrival.specs.declared.arrival.Arrival.{Arrival}
 use Rattle.clock27.specs.Arrival.{bytes_from}
@@ -15,19 +14,21 @@ use Rattle.tstd_rows.specs.Entering.{EnteredView, after, after_begin, after_head
 use Rattle.tstd_rows.specs.Entering.{nothing, payload_main_least, payload_main_most, size_of, takes_in, with_packet}
 use Rattle.tstd_rows.specs.declared.arriving.Arriving.{Arriving}
 use Rattle.tstd.specs.BufferedUnits.{one_buffered}
-use Rattle.tstd_rows.specs.History.{Part, last_of, main_fullness, row_least, transport_of, until_of}
+use Rattle.tstd_rows.specs.History.{Part, last_of, left_after, main_fullness, row_least, transport_of, until_of}
 use Rattle.tstd_rows.specs.History.Part.{Passes, Carries, Begins}
 use Rattle.tstd_rows.specs.Lows.{least_of, least_of_both}
+use Rattle.tstd_rows.specs.RowEntry.{entered as row_entered}
 use Rattle.tstd_rows.specs.declared.unit_seen.DueTime.{DueTime}
 use Rattle.tstd_rows.specs.declared.unit_seen.UnitSeen.{UnitSeen}
 use Rattle.tstd_rows.proofs.Lows.{lows_law}
+use Rattle.es_view.specs.HeldEvents.{main_held, main_now}
 use Rattle.es_view.specs.Tallies.{tally_after}
 use Rattle.es_view.specs.Tallies.{in_window, with_excesses, with_packet as with_tallied, with_unit_if}
 use Rattle.es_view.specs.declared.tally.Tally.{Tally}
 use Rattle.laws_view.specs.StreamPackets.{most_packets}
 use Rattle.laws_view.specs.TimedStreams.{Entering, after_entering, entered_by}
 use Rattle.laws_view.specs.WindowHighs.{most_after}
-use Rattle.laws_view.specs.WindowLows.{HasPayload, WholeWindowLaw, WindowLeastLaw, WindowLowLaw, WindowWithoutLaw, counted_each, least_after}
+use Rattle.laws_view.specs.WindowLows.{HasPayload, WholeWindowLaw, WindowLeastLaw, WindowLowLaw, WindowWithoutLaw, counted_each, least_after, still_held}
 use Rattle.laws_view.proofs.MainHighs.{most_of, most_of-append}
 
 -- ---- one of several
@@ -292,7 +293,57 @@ whole_window_law t window h xs [] pos none same has = absurd (none_has h xs same
 whole_window_law t window h xs (v ∷ vs) pos none same has =
     let least = window_least_law t window v vs none ∙ ap (λ (l : List EnteredView). least_after None l) same in
     let some = is_there (least_after None (entered_by h xs)) (least_some None h xs has) in
-    record { n = some.0; said = ap (λ (o : Option ℕ). unwrap_or o 0) (least ∙ some.1); low = window_low_law h xs some.0 pos some.1 }
+    record { n = some.0; said = least ∙ some.1; low = window_low_law h xs some.0 pos some.1 }
+
+-- ---- where none does
+
+none_of_both : (a b : Option ℕ) → least_of_both a b ≡ None → (a ≡ None) × (b ≡ None)
+unfolding least_of_both
+none_of_both None b e = (refl, e)
+none_of_both (Some m) None e = absurd (let no : ⊥ = cc in no)
+none_of_both (Some m) (Some n) e = absurd (let no : ⊥ = cc in no)
+
+pub is_nothing : (o : Option ℕ) → o ≡ None → is_some o ≡ true → ⊥
+is_nothing None is h = let no : ⊥ = cc in no
+is_nothing (Some n) is h = let no : ⊥ = cc in no
+
+no_times : (before : ℕ → ℕ) (until : ℕ) (ts : List ℕ) → least_found before until 0 None ts ≡ None → ts ≡ []
+unfolding least_found lesser
+no_times before until [] none = refl
+no_times before until (t ∷ ts) none =
+    absurd (is_nothing (least_found before until (0 + 1) (Some (before t + 0 * one_buffered until t)) ts) none
+    (found_some before until (0 + 1) (before t + 0 * one_buffered until t) ts))
+
+-- parts of which no payload byte enters change nothing in the main buffer
+still : (step : ℕ) (recent before : List Part) → least_of step recent before ≡ None → (x : ℕ) →
+    main_fullness step (recent ++ before) x ≡ main_fullness step before x
+unfolding least_of main_fullness
+still step [] before none x = refl
+still step (Passes ts ∷ recent) before none x = still step recent before none x
+still step (Carries ts ∷ recent) before none x =
+    let p : List Part = recent ++ before in
+    let both = none_of_both (least_of step recent before) (row_least step p ts) none in
+    let empty : left_after step p ts ≡ [] = no_times (main_fullness step p) (until_of p) (left_after step p ts) both.1 in
+    let zero : main_fullness step before x + 0 ≡ main_fullness step before x = omega arith in
+    ap (λ (n : ℕ). n + row_entered (until_of p) x (left_after step p ts)) (still step recent before both.0 x)
+    ∙ ap (λ (ds : List ℕ). main_fullness step before x + row_entered (until_of p) x ds) empty
+    ∙ zero
+still step (Begins due ∷ recent) before none x = still step recent before none x
+
+still_now : (h : Held) (xs : List Entering) → least_after None (entered_by h xs) ≡ None → main_now (after_entering h xs) ≡ still_held h xs
+still_now h xs none =
+    let come = each_comes h h None 0 xs (nothing_comes h) in
+    let h' : Held = after_entering h xs in
+    ap (λ (r : ℕ). main_fullness r h'.parts (last_of r h'.parts)) come.rate
+    ∙ ap (λ (ps : List Part). main_fullness h.rate ps (last_of h.rate h'.parts)) come.parts
+    ∙ still h.rate come.recent h.parts (come.found ∙ none) (last_of h.rate h'.parts)
+
+says_now : (most : ℕ) (h : Held) (least : Option ℕ) (n : ℕ) → least ≡ None → main_now h ≡ n → main_held most h least ≡ (n, n)
+unfolding main_held
+says_now most h least n none is = rw none (ap (λ (k : ℕ). (k, k)) is)
 
 pub window_without_law : WindowWithoutLaw
-window_without_law t window v vs none without = ap (λ (o : Option ℕ). unwrap_or o 0) (window_least_law t window v vs none ∙ without)
+window_without_law t window h xs v vs none same without =
+    let least = window_least_law t window v vs none ∙ ap (λ (l : List EnteredView). least_after None l) same ∙ without in
+    let t' : Tally = counted_each t window (v ∷ vs) in
+    says_now t'.window_main (after_entering h xs) t'.window_least (still_held h xs) least (still_now h xs without)

@@ -1,5 +1,5 @@
 -- A report on packets that arrive by clock references: the streams that it has once each of them has been viewed, and what its lines `held` say.
-use Rattle.std.specs.Prelude.{◌≡◌, ℕ, ◌^◌, ◌<◌, ◌==◌, false, List, [], ◌∷◌, ◌++◌, length, slice_get, Option, Some, None}
+use Rattle.std.specs.Prelude.{◌≡◌, ℕ, ◌^◌, ◌<◌, ◌==◌, true, false, List, [], ◌∷◌, ◌++◌, length, slice_get, Option, Some, None}
 use Rattle.arrival.specs.declared.arrival.Arrival.{Arrival}
 use Rattle.arrival.specs.declared.arrival.Arrival.TheVariants.{Unknown}
 use Rattle.clocked_packets.specs.Waiting.{QueueState, last_arrival, released, stepped}
@@ -10,7 +10,7 @@ use Rattle.ts_report.specs.ClockedViews as clocked
 use Rattle.es_view.specs.Entries.{EntryState}
 use Rattle.ts_report.specs.StreamTables.{TableState}
 use Rattle.ts_report.specs.Views.{ViewState, after_packet, arriving, start}
-use Rattle.laws_view.specs.HeldWindows.{BeginIn, options_then, window_entering}
+use Rattle.laws_view.specs.HeldWindows.{BeginIn, HasHeld, options_then, window_entering}
 use Rattle.laws_view.specs.TimedStreams.{view_by}
 use Rattle.laws_view.specs.WindowLows.{HasPayload, SaysLow}
 
@@ -78,3 +78,9 @@ abbrev pub ClockedWindowLaw : Type 0
 ClockedWindowLaw = (request : RequestView) (packets : List (List ℕ)) (before now later : List Timed) (window place : ℕ) (e e' : EntryState) →
     OfClockedWindow request packets before now later window place e e' → HasPayload e.held (window_entering request before e now) →
     SaysLow e'.tally e.held (window_entering request before e now)
+
+-- and if no byte of these enters the main buffer, what it still holds
+abbrev pub ClockedWithoutLaw : Type 0
+ClockedWithoutLaw = (request : RequestView) (packets : List (List ℕ)) (before now later : List Timed) (window place : ℕ) (e e' : EntryState) →
+    OfClockedWindow request packets before now later window place e e' → (e'.tally.window == window) ≡ true →
+    (HasPayload e.held (window_entering request before e now) → ⊥) → HasHeld e e' (window_entering request before e now)

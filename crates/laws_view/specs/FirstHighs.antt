@@ -6,16 +6,18 @@ use Rattle.tstd_rows.specs.Held.{main_most, transport_most}
 use Rattle.laws_arrival.specs.TimedPackets.{Timed}
 use Rattle.ts_watch.specs.Choices.{RequestView}
 use Rattle.es_view.specs.Entries.{EntryState}
+use Rattle.es_view.specs.HeldEvents.{main_held}
 use Rattle.ts_report.specs.StreamTables.{TableState}
 use Rattle.ts_report.specs.Views.{start}
 use Rattle.laws_view.specs.ClockedWindows.{report_tables, timed_in}
 use Rattle.laws_view.specs.HeldWindows.{BeginIn, options_then}
 use Rattle.laws_view.specs.TimedStreams.{view_by}
 
--- a window has the most of both buffers so far
+-- a window has the most of both buffers so far, and the line says so of the main buffer, whether a byte enters it or not
 pub record HasMost (e : EntryState) : Type 0 where
   pub transport : e.tally.window_transport ≡ transport_most e.held
   pub main : e.tally.window_main ≡ main_most e.held
+  pub said : (main_held e.tally.window_main e.held e.tally.window_least).0 ≡ main_most e.held
 
 -- of packets that arrive in any way, where a byte takes some time to leave the transport buffer
 abbrev pub FirstHighLaw : Type 0

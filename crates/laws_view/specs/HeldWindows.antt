@@ -1,18 +1,20 @@
 -- A line `held` of a whole window in a report: what its `main_least` is.
-use Rattle.std.specs.Prelude.{◌≡◌, ℕ, ◌+◌, ◌^◌, ◌<◌, ◌≤◌, ◌==◌, false, List, [], ◌∷◌, ◌++◌, length, slice_get, unwrap_or, Some, None}
+use Rattle.std.specs.Prelude.{◌≡◌, ℕ, ◌+◌, ◌^◌, ◌<◌, ◌≤◌, ◌==◌, true, false, List, [], ◌∷◌, ◌++◌, length, slice_get, Some, None}
+use Rattle.arrival.specs.declared.arrival.Arrival.TheVariants.{AtRate}
 use Rattle.tstd_rows.specs.declared.arriving.Arriving.{Arriving}
 use Rattle.laws_arrival.specs.TimedPackets.{Timed}
 use Rattle.es_view.specs.declared.view_options.ViewOptions.{ViewOptions}
 use Rattle.ts_watch.specs.Choices.{RequestView}
 use Rattle.es_view.specs.Clocks.{clock_of}
 use Rattle.es_view.specs.Entries.{EntryState}
+use Rattle.es_view.specs.HeldEvents.{main_held}
 use Rattle.ts_report.specs.Seen.{with_arrival}
 use Rattle.ts_report.specs.Views.{ViewState, after_all, start}
 use Rattle.ts_watch.specs.WindowEvents.{window_of}
 use Rattle.laws_view.specs.StreamPackets.{Before, seen_among}
 use Rattle.laws_view.specs.TimedStreams.{Entering, entering, entering_among, followed_by, view_by}
 use Rattle.laws_view.specs.WholeStreams.{followed}
-use Rattle.laws_view.specs.WindowLows.{HasPayload, SaysLow}
+use Rattle.laws_view.specs.WindowLows.{HasPayload, SaysLow, still_held}
 
 -- what a view knows of a stream before the packets that come next
 abbrev pub known_then : ViewState → EntryState → Before
@@ -49,12 +51,23 @@ TimedWindowLaw = (request : RequestView) (before packets : List Timed) (window p
     OfWindow request before packets window place e e' → 0 < e.held.rate → HasPayload e.held (window_entering request before e packets) →
     SaysLow e'.tally e.held (window_entering request before e packets)
 
--- in the window in which a stream's buffers begin its line says 0: nothing is in them before their first byte
+-- as the most and as the least, it has what the buffer holds of the earlier bytes once the last of these packets has left the transport buffer
+abbrev pub HasHeld : EntryState → EntryState → List Entering → Type 0
+HasHeld e e' xs = main_held e'.tally.window_main e'.held e'.tally.window_least ≡ (still_held e.held xs, still_held e.held xs)
+
+-- if none of them does
+abbrev pub TimedWithoutLaw : Type 0
+TimedWithoutLaw = (request : RequestView) (before packets : List Timed) (window place : ℕ) (e e' : EntryState) →
+    OfWindow request before packets window place e e' → (e'.tally.window == window) ≡ true →
+    (HasPayload e.held (window_entering request before e packets) → ⊥) → HasHeld e e' (window_entering request before e packets)
+
+-- in the window in which a stream's buffers begin its line says 0: nothing is in them before their first payload byte
 abbrev pub FirstWindowLaw : Type 0
 FirstWindowLaw = (request : RequestView) (before packets : List Timed) (window place : ℕ) (e : EntryState) → length before + length packets < 2 ^ 64 →
     slice_get (view_by (start request) before).table.entries place ≡ None →
     slice_get (view_by (start request) (before ++ packets)).table.entries place ≡ Some e →
-    BeginIn (options_then request e before) window (length before) packets → unwrap_or e.tally.window_least 0 ≡ 0
+    BeginIn (options_then request e before) window (length before) packets →
+    (main_held e.tally.window_main e.held e.tally.window_least).1 ≡ 0
 
 -- 2. At a constant rate
 
@@ -78,3 +91,9 @@ HeldWindowLaw = (request : RequestView) (before packets : List (List ℕ)) (wind
     OfRateWindow request before packets window place e e' → 0 < e.held.rate →
     HasPayload e.held (entering request.options.arrival (window_packets request before e packets)) →
     SaysLow e'.tally e.held (entering request.options.arrival (window_packets request before e packets))
+
+abbrev pub RateWithoutLaw : Type 0
+RateWithoutLaw = (request : RequestView) (rate : ℕ) (before packets : List (List ℕ)) (window place : ℕ) (e e' : EntryState) →
+    OfRateWindow request before packets window place e e' → (e'.tally.window == window) ≡ true → request.options.arrival ≡ AtRate rate →
+    (HasPayload e.held (entering (AtRate rate) (window_packets request before e packets)) → ⊥) →
+    HasHeld e e' (entering (AtRate rate) (window_packets request before e packets))

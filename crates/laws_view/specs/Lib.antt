@@ -20,3 +20,6 @@ pub mod AsMeasured
 pub mod ViewedCounters
 pub mod MuxedTables
 pub mod ViewedSections
+pub mod ViewedTables
+pub mod ViewedVerdicts
+pub mod HomeTables

@@ -1,8 +1,9 @@
 -- Of what a multiplexer wrote, at its rate, no section of a table is late by the rules of `tr101290`, which a view goes by (ETSI TR 101 290, 5.2.1
 -- and 5.2.3).
-use Rattle.std.specs.Prelude.{◌≡◌, ℕ, ◌-◌, ◌^◌, ◌<◌, ◌≤◌, false, List, [], None}
+use Rattle.std.specs.Prelude.{◌≡◌, ℕ, ◌-◌, ◌^◌, ◌<◌, ◌≤◌, false, List, [], slice_get, Some, None}
 use Rattle.slot_contents.specs.Contents.{run_bytes}
 use Rattle.pes_packet.specs.AccessUnits.{AccessUnit}
+use Rattle.description_parts.specs.Described.{Described, DescribedProgram}
 use Rattle.description_parts.specs.Ranges.{IsInRange}
 use Rattle.plan_timing.specs.Promised.{Promised}
 use Rattle.monitor.specs.Begins.{found_on}
@@ -19,23 +20,27 @@ use Rattle.laws_monitor.specs.Tables.{errors_from, sections_of}
 abbrev pub table_errors : ℕ → ℕ → ℕ → List ℕ → List TableError
 table_errors rate pid table_id bytes = errors_from (no_section (ConstantRate rate)) (sections_of pid table_id (found_on pid bytes))
 
--- the tables that have a limit and no parts that have to come again by themselves
-pub record NoneIsLate (rate : ℕ) (bytes : List ℕ) : Type 0 where
+-- the tables that have a limit, but those that are ready-made
+pub record NoneIsLate (d : Described) (bytes : List ℕ) : Type 0 where
   -- 1.3.a: program association, every 500 ms
-  pub associations : table_errors rate 0x00 0x00 bytes ≡ []
+  pub associations : table_errors d.rate 0x00 0x00 bytes ≡ []
+  -- 1.5.a: the map of each program, every 500 ms
+  pub maps : (i : ℕ) (p : DescribedProgram) → slice_get d.programs i ≡ Some p → table_errors d.rate p.pmt_pid 0x02 bytes ≡ []
   -- 3.1.a: network information of the actual network, every 10 s
-  pub network : table_errors rate 0x10 0x40 bytes ≡ []
+  pub network : table_errors d.rate 0x10 0x40 bytes ≡ []
   -- 3.5.a: service description of the actual stream, every 2 s
-  pub services : table_errors rate 0x11 0x42 bytes ≡ []
+  pub services : table_errors d.rate 0x11 0x42 bytes ≡ []
+  -- 3.6.a: present and following events of the actual stream, section 0 and section 1 each every 2 s
+  pub events : table_errors d.rate 0x12 0x4E bytes ≡ []
   -- 3.8: time and date, every 30 s
-  pub time : table_errors rate 0x14 0x70 bytes ≡ []
+  pub time : table_errors d.rate 0x14 0x70 bytes ≡ []
 
 -- so of every run over a plan that keeps its conditions or two in turn
 abbrev pub RunTablesLaw : Type 0
 RunTablesLaw = (d : Scheduled) (units : ℕ → List AccessUnit) (slots : ℕ) → IsInRange d.description → Promised d.description d.schedule → UnitsKept d units →
-    slots < 2 ^ 64 - 1 → NoneIsLate d.description.rate (run_bytes (content_at d units) 0 slots)
+    slots < 2 ^ 64 - 1 → NoneIsLate d.description (run_bytes (content_at d units) 0 slots)
 
 -- and of a whole job of which no unit is refused
 abbrev pub JobTablesLaw : Type 0
 JobTablesLaw = (d : Scheduled) (units : List (ℕ × AccessUnit)) (slots : ℕ) → IsInRange d.description → Promised d.description d.schedule →
-    first_refused d (capacity_for units) [] units ≡ None → slots ≤ 2 ^ 40 → NoneIsLate d.description.rate (output_of false d (job_history units slots))
+    first_refused d (capacity_for units) [] units ≡ None → slots ≤ 2 ^ 40 → NoneIsLate d.description (output_of false d (job_history units slots))

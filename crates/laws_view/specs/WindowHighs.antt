@@ -1,6 +1,6 @@
 -- The greatest that a line `held` says of a main buffer: over the packets of a window, the greatest fullness of the buffer from their first
 -- payload byte that enters it on. What the buffer holds before that byte enters may be more, and is not counted.
-use Rattle.std.specs.Prelude.{◌≡◌, ℕ, ◌<◌, ◌≤◌, max, Bool, map, List, [], ◌∷◌, ◌++◌, All}
+use Rattle.std.specs.Prelude.{◌≡◌, ℕ, ◌<◌, ◌≤◌, max, Bool, map, List, [], ◌∷◌, ◌++◌, None, All}
 use Rattle.tstd_rows.specs.Held.{Held}
 use Rattle.tstd_rows.specs.Entering.{EnteredView}
 use Rattle.tstd_rows.specs.History.{Part, main_fullness, payload_left}
@@ -12,7 +12,7 @@ use Rattle.es_view.specs.declared.tally.Tally.{Tally}
 use Rattle.laws_view.specs.ClockedWindows.{OfClockedWindow}
 use Rattle.laws_view.specs.HeldWindows.{OfRateWindow, OfWindow, window_entering, window_packets}
 use Rattle.laws_view.specs.TimedStreams.{Entering, after_entering, entered_by, entering}
-use Rattle.laws_view.specs.WindowLows.{HasPayload, counted_each}
+use Rattle.laws_view.specs.WindowLows.{HasPayload, SaysHeld, counted_each}
 
 -- 1. Packets of a window
 
@@ -59,11 +59,11 @@ WholeHighLaw = (t : Tally) (window : ℕ) (h : Held) (xs : List Entering) (vs : 
     (in_window t window).window_main ≡ 0 → map (λ w. w.1) vs ≡ entered_by h xs → HasPayload h xs →
     IsHighWith h xs (counted_each t window vs).window_main
 
--- and where no byte of them enters the main buffer it says 0, whatever the buffer holds
+-- and if no byte of them enters the main buffer none is found: the line says what is still in it of what had come before them
 abbrev pub HighWithoutLaw : Type 0
 HighWithoutLaw = (t : Tally) (window : ℕ) (h : Held) (xs : List Entering) (v : Bool × EnteredView) (vs : List (Bool × EnteredView)) →
-    (in_window t window).window_main ≡ 0 → map (λ w. w.1) (v ∷ vs) ≡ entered_by h xs → (HasPayload h xs → ⊥) →
-    (counted_each t window (v ∷ vs)).window_main ≡ 0
+    (in_window t window).window_main ≡ 0 → (in_window t window).window_least ≡ None → map (λ w. w.1) (v ∷ vs) ≡ entered_by h xs →
+    (HasPayload h xs → ⊥) → ((counted_each t window (v ∷ vs)).window_main ≡ 0) × SaysHeld (counted_each t window (v ∷ vs)) h xs
 
 -- 2. In a report, at the end of a window before which the stream's buffers have begun
 

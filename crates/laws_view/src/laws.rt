@@ -1,10 +1,11 @@
 //! Laws of the report on a stream. Each function does nothing: its contract is the law, over the definitions of
 //! `specs/`.
 ghost use Rattle.laws_view.specs.AsMeasured.{AsMeasuredLaw, JobAsMeasuredLaw, JobLateAsMeasuredLaw, RunAsMeasuredLaw, RunLateAsMeasuredLaw};
-ghost use Rattle.laws_view.specs.ClockedWindows.{ClockedTablesLaw, ClockedWindowLaw};
+ghost use Rattle.laws_view.specs.ClockedWindows.{ClockedTablesLaw, ClockedWindowLaw, ClockedWithoutLaw};
 ghost use Rattle.laws_view.specs.FirstHighs.{ClockedFirstLaw, FirstHighLaw};
 ghost use Rattle.laws_view.specs.FrameExcesses.{JobFramesLaw, RunFramesLaw};
-ghost use Rattle.laws_view.specs.HeldWindows.{FirstWindowLaw, HeldWindowLaw, TimedWindowLaw};
+ghost use Rattle.laws_view.specs.HeldWindows.{FirstWindowLaw, HeldWindowLaw, RateWithoutLaw, TimedWindowLaw, TimedWithoutLaw};
+ghost use Rattle.laws_view.specs.HomeTables.{JobHomesLaw, RunHomesLaw};
 ghost use Rattle.laws_view.specs.MainExcesses.{NoMainExcessLaw, TimedNoExcessLaw};
 ghost use Rattle.laws_view.specs.MeasuredStreams.{MeasuredStreamLaw};
 ghost use Rattle.laws_view.specs.MuxedStreams.{JobNoExcessLaw, MuxedStreamLaw};
@@ -16,6 +17,8 @@ ghost use Rattle.laws_view.specs.ViewedCounters.{JobCountersLaw, RunCountersLaw,
 ghost use Rattle.laws_view.specs.ViewedReferences.{JobReferencesLaw, RunReferencesLaw};
 ghost use Rattle.laws_view.specs.ViewedRuns.{JobFirstLaw, JobLateLaw, JobLateUnitsLaw, JobMainLaw, RunFirstLaw, RunLateLaw, RunLateUnitsLaw, RunMainLaw};
 ghost use Rattle.laws_view.specs.ViewedSections.{JobCheckWordsLaw, RunCheckWordsLaw};
+ghost use Rattle.laws_view.specs.ViewedTables.{JobTableEventsLaw, RunTableEventsLaw, ViewedTablesLaw};
+ghost use Rattle.laws_view.specs.ViewedVerdicts.{JobVerdictLaw, RunVerdictLaw};
 ghost use Rattle.laws_view.specs.WholeStreams.{LastEventsLaw, WholeStreamLaw};
 ghost use Rattle.laws_view.specs.WindowHighs.{ClockedHighLaw, HighWithoutLaw, RateHighLaw, TimedHighLaw, WholeHighLaw, WindowHighLaw, WindowMostLaw};
 ghost use Rattle.laws_view.specs.WindowLows.{WholeWindowLaw, WindowLeastLaw, WindowLowLaw, WindowWithoutLaw};
@@ -47,15 +50,17 @@ pub fn main_excesses()
 /// States that the least that a line `held` says of a main buffer is the least that the bytes of its window's packets
 /// find in it, which is the least fullness of the buffer meanwhile, whichever way they arrive. A report counts it so
 /// for a stream whose buffers began before the window, if a packet of the window carries payload; otherwise the line
-/// says 0.
+/// says what the buffer still holds of earlier bytes, once the last of the packets has left the transport buffer.
 pub fn window_lows()
     ensures counted { WindowLeastLaw }
     ensures low { WindowLowLaw }
     ensures whole { WholeWindowLaw }
     ensures without { WindowWithoutLaw }
     ensures timed { TimedWindowLaw }
+    ensures timed_without { TimedWithoutLaw }
     ensures first { FirstWindowLaw }
     ensures report { HeldWindowLaw }
+    ensures report_without { RateWithoutLaw }
 {}
 
 /// States the same fact for each window of a report on packets that arrive by clock references: its streams, once each
@@ -63,15 +68,16 @@ pub fn window_lows()
 pub fn clocked_windows()
     ensures tables { ClockedTablesLaw }
     ensures window { ClockedWindowLaw }
+    ensures without { ClockedWithoutLaw }
 {}
 
 /// States that the greatest that a line `held` says of a main buffer is the most that the bytes of its window's packets
 /// find in it, themselves counted, which is the greatest fullness of the buffer from their first payload byte on:
 /// earlier it may be more. A report counts it so for a stream whose buffers began before the window, whichever way
-/// packets arrive; if no byte enters, the line says 0. The greatest of a transport buffer is its greatest fullness from
-/// the first byte of the window's packets on, if bytes arrive in their order, as they do at a constant rate and by
-/// clock references. If the buffers begin in the window, the line says what the lines `transport` and `main` say so
-/// far.
+/// packets arrive; if no byte enters, the line says what the buffer still holds. The greatest of a transport buffer is
+/// its greatest fullness from the first byte of the window's packets on, if bytes arrive in their order, as they do at a
+/// constant rate and by clock references. If the buffers begin in the window, the line says what the lines `transport`
+/// and `main` say so far.
 pub fn window_highs()
     ensures counted { WindowMostLaw }
     ensures main { WindowHighLaw }
@@ -174,9 +180,9 @@ pub fn viewed_counters()
     ensures jobs { JobCountersLaw }
 {}
 
-/// States that in the output of a multiplexer, at its rate, no section of the PAT, of the NIT of the actual network, of
-/// the SDT of the actual stream and of the TDT is late by the rules of a view (ETSI TR 101 290, 1.3.a, 3.1.a, 3.5.a and
-/// 3.8).
+/// States that in the output of a multiplexer, at its rate, no section of the PAT, of a program's map, of NIT, SDT and
+/// EIT of the actual stream, and of the TDT is late by the rules of a view (ETSI TR 101 290, 1.3.a, 1.5.a, 3.1.a, 3.5.a,
+/// 3.6.a and 3.8): of the EIT sections 0 and 1 each by themselves.
 pub fn muxed_tables()
     ensures run { RunTablesLaw }
     ensures jobs { JobTablesLaw }
@@ -186,4 +192,31 @@ pub fn muxed_tables()
 pub fn muxed_check_words()
     ensures run { RunCheckWordsLaw }
     ensures jobs { JobCheckWordsLaw }
+{}
+
+/// States that no event of a view of this output is of a section whose table does not belong on its PID (ETSI TR 101
+/// 290, 5.2.1, 1.3.a; 5.2.2, 2.6; 5.2.3, 3.1.a, 3.5.a, 3.6.a, 3.7 and 3.8).
+pub fn muxed_homes()
+    ensures run { RunHomesLaw }
+    ensures jobs { JobHomesLaw }
+{}
+
+/// States that at a constant rate the events of late sections of a table in a view of any stream are the errors of its
+/// sections that begin on the PID, if no stream on the PID is viewed.
+pub fn viewed_tables()
+    ensures { ViewedTablesLaw }
+{}
+
+/// States that no event of a view of this output is of a late section on a PID without a ready-made table, whatever
+/// streams are viewed.
+pub fn muxed_table_events()
+    ensures run { RunTableEventsLaw }
+    ensures jobs { JobTableEventsLaw }
+{}
+
+/// States that without ready-made tables the verdict of a view on this output depends on buffers and units alone: no
+/// packet is refused, no error of a counter, a clock reference or a table is counted, and no byte is left.
+pub fn muxed_verdicts()
+    ensures run { RunVerdictLaw }
+    ensures jobs { JobVerdictLaw }
 {}

@@ -11,12 +11,13 @@
 //! - `ViewedReferences`: a multiplexer's output, with no clock reference late or inaccurate.
 //! - `VideoExcesses`: a multiplexer's output, with neither buffer of video too full.
 //! - `FrameExcesses`: a multiplexer's output, with no main buffer of sound too full that is viewed by access units.
-//! - `ViewedCounters`, `ViewedSections`: a view's events of counters and of sections; `MuxedTables`: a multiplexer's tables, never late.
+//! - `ViewedCounters`, `ViewedSections`, `ViewedTables`: a view's events of counters, check words and late tables; `ViewedVerdicts`: its verdict.
+//! - `MuxedTables`, `HomeTables`: a multiplexer's tables, never late, and on their PIDs.
 //! - `CarriedStreams`: which packets carry units, and their clock references; `AsMeasured`: when the figures equal the measured numbers.
 //!
 //! - [`laws`]: the last lines of a stream are about all packets of its PID and say no more than the measured numbers, and the same numbers
 //!   if units are carried so; a multiplexer's output has no excess of a transport buffer, no late unit, and no excess of a main buffer;
-//!   nor a break of a counter, a wrong check word, a late PAT, NIT, SDT or TDT, or an error of a clock reference.
+//!   nor a break of a counter, a wrong check word, a late table that is not ready-made, or an error of a clock reference.
 #![tactic(auto)]
 
 pub mod laws;

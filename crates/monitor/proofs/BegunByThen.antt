@@ -1,9 +1,9 @@
 -- What is found has begun by then, packet by packet of a stream.
-use Rattle.std.proofs.Common.{ℕ, zero, suc, ◌-◌, ◌≤◌, ◌==◌, Bool, true, false, cond, List, [], ◌∷◌, ◌++◌, map, Option, Some, None, Result, Ok, Err, arith}
+use Rattle.std.proofs.Common.{ℕ, zero, suc, ◌-◌, ◌≤◌, ◌==◌, Bool, true, false, cond, List, [], ◌∷◌, ◌++◌, length, map, Option, Some, None, Result, Ok, Err, arith}
 use Rattle.std.specs.Prelude.{option_map}
 use Rattle.ts_packet.specs.declared.packet.PacketError.{PacketError}
 use Rattle.ts_packet.specs.Views.{PacketView}
-use Rattle.demux.specs.Views.{WhatView, IsDuplicate, IsErrored, Found}
+use Rattle.demux.specs.Views.{WhatView, IsDuplicate, IsErrored, IsStray, Found}
 use Rattle.demux.specs.Marks.{Marked, mark}
 use Rattle.demux.specs.Roles.{Role, NoPayload, ScrambledPayload, PesStart, SectionStart, PointerPastEnd, Continuation, role}
 use Rattle.demux.specs.declared.open_unit.UnitKind.{UnitKind}
@@ -63,9 +63,13 @@ last_by index bytes (Some part) h = by part.kind
     by unit_kinds.Pes = ended_by index false (Some part) h
     by unit_kinds.Section = or_cut_by index (appended part bytes) (decided unit_kinds.Section (part.bytes ++ bytes)) h
 
+stray_by : (index n : ℕ) (none : Bool) → founds_by index (cond none [] (plain (IsStray n) ∷ []))
+stray_by index n true = tt
+stray_by index n false = (tt, tt)
+
 goes_by : (index : ℕ) (payload : List ℕ) (held : Option OpenUnit) → part_by index held → founds_by index (found_appended payload held)
 unfolding found_appended
-goes_by index payload None h = tt
+goes_by index payload None h = stray_by index (length payload) (length payload == 0)
 goes_by index payload (Some part) h = if_by index (appended part payload) (decided part.kind (part.bytes ++ payload)) h
 
 itself : (n : ℕ) → n ≤ n

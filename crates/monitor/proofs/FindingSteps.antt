@@ -4,7 +4,7 @@ use Rattle.std.proofs.lemmas.List.{append-nil}
 use Rattle.psi_tables.specs.declared.error.SectionError.TheVariants as section_errors
 use Rattle.demux.specs.declared.finding.Kind.{Kind}
 use Rattle.demux.specs.declared.finding.Kind.TheVariants.{Table, Pes}
-use Rattle.demux.specs.Views.{WhatView, IsDuplicate, BreaksCounter, IsScrambled, IsTruncated, IsSection, IsBadSection, IsPes, IsBadPes, IsBadPacket, IsErrored}
+use Rattle.demux.specs.Views.{WhatView, IsDuplicate, BreaksCounter, IsScrambled, IsTruncated, IsSection, IsBadSection, IsPes, IsBadPes, IsBadPacket, IsErrored, IsStray}
 use Rattle.demux.specs.Views.{FindingView}
 use Rattle.monitor.specs.declared.fault.StreamFault.{StreamFault}
 use Rattle.monitor.specs.declared.counts.FindingCounts.{FindingCounts}
@@ -116,6 +116,7 @@ what_is s pid packet (IsPes header unended body) = nothing_more s
 what_is s pid packet (IsBadPes error) = nothing_more s
 what_is s pid packet (IsBadPacket error) = nothing_more s
 what_is s pid packet IsErrored = nothing_more s
+what_is s pid packet (IsStray size) = nothing_more s
 
 finding_is : (s : FindingState) (packet : ℕ) (pid : Option ℕ) (begun : Option (ℕ × Kind)) (what : WhatView) →
     noted_from s packet pid begun what ≡ noticed s (record { packet = packet; pid = pid; begun = begun; what = what })

@@ -43,7 +43,7 @@ drop_drop n zero xs = ap (λ (k : ℕ). drop k xs) (sym (zero-add n))
 drop_drop n (suc m) [] = drop_none n ∙ sym (drop_none (suc m + n))
 drop_drop n (suc m) (x ∷ xs) = let e : suc m + n ≡ suc (m + n) = omega arith in rw e (drop_drop n m xs)
 
-take_rest : (k : ℕ) (bytes : List ℕ) → concat (first_chunks 188 k bytes) ++ drop (188 * k) bytes ≡ bytes
+pub take_rest : (k : ℕ) (bytes : List ℕ) → concat (first_chunks 188 k bytes) ++ drop (188 * k) bytes ≡ bytes
 take_rest zero bytes = refl
 take_rest (suc k) bytes =
     let at : 188 * suc k ≡ 188 + 188 * k = omega arith in
@@ -53,7 +53,7 @@ take_rest (suc k) bytes =
     ∙ ap (λ (xs : List ℕ). take 188 bytes ++ xs) (take_rest k (drop 188 bytes))
     ∙ take_drop 188 bytes
 
-sizes : (k : ℕ) (bytes : List ℕ) → 188 * k ≤ length bytes → All (λ packet. length packet ≡ 188) (first_chunks 188 k bytes)
+pub sizes : (k : ℕ) (bytes : List ℕ) → 188 * k ≤ length bytes → All (λ packet. length packet ≡ 188) (first_chunks 188 k bytes)
 sizes zero bytes h = All-nil (λ packet. length packet ≡ 188)
 sizes (suc k) bytes h =
     let m : length (drop 188 bytes) ≡ length bytes - 188 = length-drop 188 bytes in
@@ -66,7 +66,7 @@ packet_count (suc k) bytes = let e = packet_count k (drop 188 bytes) in omega ar
 
 -- 2. What stays as packets are taken
 
-kept_held : (s : StreamState) (packets : List (List ℕ)) → (taken_all s packets).held ≡ s.held
+pub kept_held : (s : StreamState) (packets : List (List ℕ)) → (taken_all s packets).held ≡ s.held
 unfolding taken_all taken
 kept_held s [] = refl
 kept_held s (packet ∷ packets) = kept_held (taken s packet) packets

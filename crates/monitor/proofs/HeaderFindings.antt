@@ -3,7 +3,7 @@ use Rattle.std.proofs.Common.{◌≡◌, ◌∙◌, ℕ, suc, ◌<◌, ◌≤◌
 use Rattle.std.proofs.Common.{arith}
 use Rattle.std.proofs.lemmas.List.{drop_all}
 use Rattle.std.proofs.lemmas.Option.{slice_get_cases}
-use Rattle.demux.specs.Views.{WhatView, IsDuplicate, BreaksCounter, IsScrambled, IsTruncated, IsSection, IsBadSection, IsPes, IsBadPes, IsBadPacket, IsErrored}
+use Rattle.demux.specs.Views.{WhatView, IsDuplicate, BreaksCounter, IsScrambled, IsTruncated, IsSection, IsBadSection, IsPes, IsBadPes, IsBadPacket, IsErrored, IsStray}
 use Rattle.demux.specs.Views.{FindingView}
 use Rattle.demux.specs.Machine.{PidState}
 use Rattle.demux.specs.Findings.{ended}
@@ -25,6 +25,7 @@ what_besides s pid packet (IsBadSection error) = refl
 what_besides s pid packet (IsBadPes error) = refl
 what_besides s pid packet (IsBadPacket error) = refl
 what_besides s pid packet IsErrored = refl
+what_besides s pid packet (IsStray size) = refl
 
 noted_besides : (s : FindingState) (packet : ℕ) (pid : Option ℕ) (x : FindingView) → x.pid ≡ pid → finding_noted s (finding_without_body x) ≡ finding_noted s x
 unfolding noted_from

@@ -9,7 +9,7 @@ use Rattle.std.proofs.lemmas.Bool.Decides.{nat_tests}
 use Rattle.psi_tables.specs.Reading.{section_at}
 use Rattle.demux.specs.declared.finding.Kind.{Kind}
 use Rattle.demux.specs.declared.finding.Kind.TheVariants.{Table, Pes}
-use Rattle.demux.specs.Views.{WhatView, IsDuplicate, BreaksCounter, IsScrambled, IsTruncated, IsSection, IsBadSection, IsPes, IsBadPes, IsBadPacket, IsErrored}
+use Rattle.demux.specs.Views.{WhatView, IsDuplicate, BreaksCounter, IsScrambled, IsTruncated, IsSection, IsBadSection, IsPes, IsBadPes, IsBadPacket, IsErrored, IsStray}
 use Rattle.demux.specs.Views.{FindingView}
 use Rattle.monitor.specs.declared.program_maps.NamedMap.{NamedMap}
 use Rattle.monitor.specs.Gaps.{is_long}
@@ -81,6 +81,7 @@ names pid q packet s (IsPes header unended body) = nothing_named pid packet s (q
 names pid q packet s (IsBadPes error) = nothing_named pid packet s (q == 0)
 names pid q packet s (IsBadPacket error) = nothing_named pid packet s (q == 0)
 names pid q packet s IsErrored = nothing_named pid packet s (q == 0)
+names pid q packet s (IsStray size) = nothing_named pid packet s (q == 0)
 
 -- 2. Begins
 

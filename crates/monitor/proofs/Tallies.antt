@@ -8,7 +8,7 @@ use Rattle.ts_packet.specs.Views.{PacketView}
 use Rattle.ts_packet.specs.Reading.{packet_at}
 use Rattle.ts_packet.specs.PidList.{Entry, entry_of, is_of_pid}
 use Rattle.demux.specs.Views.{PidFinding, FindingView, WhatView, IsDuplicate, BreaksCounter, IsScrambled, IsTruncated, IsSection, IsBadSection, IsPes, IsBadPes}
-use Rattle.demux.specs.Views.{IsBadPacket, IsErrored}
+use Rattle.demux.specs.Views.{IsBadPacket, IsErrored, IsStray}
 use Rattle.demux.specs.Laws.{found_of, has_pid, with_pid_at}
 use Rattle.monitor.specs.declared.counts.PacketCounts.{PacketCounts}
 use Rattle.monitor.specs.declared.counts.FindingCounts.{FindingCounts}
@@ -185,6 +185,7 @@ noted_one pid finding_counts (Some q) (IsPes header unended body) = noted_plain 
 noted_one pid finding_counts (Some q) (IsBadPes error) = noted_plain (finding_counts_of pid finding_counts) (q == pid)
 noted_one pid finding_counts (Some q) (IsBadPacket error) = noted_plain (finding_counts_of pid finding_counts) (q == pid)
 noted_one pid finding_counts (Some q) IsErrored = noted_plain (finding_counts_of pid finding_counts) (q == pid)
+noted_one pid finding_counts (Some q) (IsStray size) = noted_plain (finding_counts_of pid finding_counts) (q == pid)
 
 noted_tally : (pid : ℕ) (finding_counts : List (ℕ × FindingCounts)) (found : List FindingView) →
     finding_counts_of pid (counts_of_found finding_counts found) ≡ note_tally (finding_counts_of pid finding_counts) (found_of pid found)
@@ -233,6 +234,7 @@ one_noted_more n (IsPes header unended body) d s = same n d s
 one_noted_more n (IsBadPes error) d s = same n d s
 one_noted_more n (IsBadPacket error) d s = same n d s
 one_noted_more n IsErrored d s = same n d s
+one_noted_more n (IsStray size) d s = same n d s
 
 one_noted_small : (n : FindingCounts) (what : WhatView) → n.duplicates ≤ 2 ^ 64 - 1 → n.scrambled ≤ 2 ^ 64 - 1 →
     ((one_noted n what).duplicates ≤ 2 ^ 64 - 1) × ((one_noted n what).scrambled ≤ 2 ^ 64 - 1)
@@ -247,6 +249,7 @@ one_noted_small n (IsPes header unended body) h k = (h, k)
 one_noted_small n (IsBadPes error) h k = (h, k)
 one_noted_small n (IsBadPacket error) h k = (h, k)
 one_noted_small n IsErrored h k = (h, k)
+one_noted_small n (IsStray size) h k = (h, k)
 
 note_tally_is : (pid : ℕ) (n : FindingCounts) (found : List PidFinding) → n.duplicates ≤ 2 ^ 64 - 1 → n.scrambled ≤ 2 ^ 64 - 1 →
     note_tally n (map (with_pid_at pid) found) ≡ more_noted n (duplicates_among found) (scrambled_among found)

@@ -148,6 +148,7 @@ impl<A: Allocator + Copy> FindingWatch<A> {
             What::BadPes(_) => Ok(()),
             What::BadPacket(_) => Ok(()),
             What::Errored => Ok(()),
+            What::Stray(_) => Ok(()),
         }
     }
 

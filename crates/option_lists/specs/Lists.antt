@@ -2,7 +2,7 @@
 use Rattle.std.specs.Prelude.{ℕ, ◌==◌, List, [], ◌∷◌, Option, Some, None, map, option_and_then, option_map}
 use Rattle.std.specs.List.{slice_split}
 use Rattle.clap.specs.Words.{Text}
-use Rattle.stream_coding.specs.declared.buffers.PidBuffers.{PidBuffers}
+use Rattle.es_buffers.specs.declared.buffers.PidBuffers.{PidBuffers}
 use Rattle.devices.specs.Options.{decimal, within}
 
 -- the parts of a text between commas, and between colons

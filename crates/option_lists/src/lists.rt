@@ -4,8 +4,8 @@ ghost use Rattle.std.specs.Prelude.{◌≡◌, IfOk, [], ◌∷◌, map, option_
 ghost use Rattle.option_lists.specs.Lists as spec;
 
 use devices::number_in;
+use es_buffers::{Buffers, PidBuffers};
 use std::alloc::{AllocError, Global};
-use stream_coding::{Buffers, PidBuffers};
 
 /// Returns the parts of a text between commas.
 pub fn comma_parts<'a>(alloc: Global, text: &'a str) -> Result<Vec<&'a str>, AllocError>

@@ -4,7 +4,7 @@ use Rattle.std.specs.Prelude.{slice_index, Option, Some, None, option_and_then}
 use Rattle.std.specs.List.{list_any, list_all}
 use Rattle.std.specs.Str.{bytes_eq}
 use Rattle.demux.specs.declared.finding.Kind.{Kind}
-use Rattle.demux.specs.Views.{WhatView, IsDuplicate, IsSection, IsTruncated, FindingView}
+use Rattle.demux.specs.Views.{WhatView, IsDuplicate, IsSection, IsTruncated, IsStray, FindingView}
 use Rattle.demux.specs.Laws.{has_pid}
 use Rattle.other_tables.specs.declared.steady.FoundSection.{FoundSection}
 
@@ -26,12 +26,13 @@ begun_by packet (Some b) = b.0
 abbrev pub begun_at : FindingView → ℕ
 begun_at f = begun_by f.packet f.begun
 
--- what a finding adds to the sections of its PID: a section; nothing where a packet comes twice, or where the end of a stream of `count`
--- whole packets cuts a section short; anything else is not of a PID of whole sections alone
+-- what a finding adds to the sections of its PID: a section; nothing where a packet comes twice or its payload is stray, or where the end of a
+-- stream of `count` whole packets cuts a section short; anything else is not of a PID of whole sections alone
 unfoldable pub section_by : ℕ → ℕ → ℕ → WhatView → Option (List PidSection)
 section_by count packet begun (IsSection bytes) = Some (record { begun = begun; bytes = bytes } ∷ [])
 section_by count packet begun IsDuplicate = Some []
 section_by count packet begun (IsTruncated bytes) = if nat_le count packet then Some [] else None
+section_by count packet begun (IsStray size) = Some []
 section_by count packet begun _ = None
 
 abbrev pub section_at : ℕ → FindingView → Option (List PidSection)

@@ -60,6 +60,7 @@ fn section_at<'f>(count: u64, finding: &'f Finding<'_>) -> Option<Option<FoundSe
             bytes: part.bytes(),
         })),
         What::Duplicate => Some(None),
+        What::Stray(_) => Some(None),
         What::Truncated(_) => {
             if count <= finding.packet {
                 Some(None)

@@ -2,12 +2,12 @@
 use Rattle.std.specs.Prelude.{ℕ, ◌+◌, ◌-◌, ◌*◌, ◌/◌, ◌^◌, min, max, nat_lt, if◌then◌else◌, List, [], ◌++◌, codes, decimal, flat_map, Option, Some, None}
 use Rattle.page_charts.specs.declared.bounds.Bounds.{Bounds}
 use Rattle.page_charts.specs.declared.frame.ChartUnit.{ChartUnit}
-use Rattle.page_charts.specs.declared.frame.ChartUnit.TheVariants.{BitRate, Bytes, Time, Nanoseconds}
+use Rattle.page_charts.specs.declared.frame.ChartUnit.TheVariants.{BitRate, Bytes, Time, Nanoseconds, Offset}
 use Rattle.page_charts.specs.declared.frame.Frame.{Frame}
-use Rattle.page_charts.specs.declared.frame_text.TheConstants.{FIFTHS, STEP_COUNTS}
+use Rattle.page_charts.specs.declared.frame_text.TheConstants.{FIFTHS, QUARTERS, STEP_COUNTS}
 use Rattle.page_charts.specs.declared.scale.TheConstants.{GREATEST_VALUE, LEFT, WIDTH}
 use Rattle.page_charts.specs.Numbers.{grouped, tenths}
-use Rattle.page_charts.specs.Scale.{height_of, scale_for, slots_in}
+use Rattle.page_charts.specs.Scale.{above_zero, below_zero, height_of, offset_height, quarter_of, scale_for, slots_in}
 use Rattle.page_charts.specs.declared.time_scale.TimeUnit.{TimeUnit}
 use Rattle.page_charts.specs.TimeScale.{step_for, unit_millis, unit_of}
 use Rattle.page_charts.specs.TimeScale as time
@@ -18,6 +18,7 @@ least_top BitRate = 10000
 least_top Bytes = 10
 least_top Time = 10000
 least_top Nanoseconds = 10
+least_top Offset = 10
 
 abbrev pub frame : ChartUnit → ℕ → ℕ → ℕ → Frame
 frame unit windows millis greatest = record { unit = unit; windows = windows; millis = millis; top = scale_for (max greatest (least_top unit)) }
@@ -28,6 +29,17 @@ window_count f = min f.windows (2 ^ 38)
 
 abbrev pub top_value : Frame → ℕ
 top_value f = min f.top GREATEST_VALUE
+
+-- how high a value lies
+unfoldable pub height_by : ChartUnit → ℕ → ℕ → ℕ
+height_by BitRate top value = height_of top value
+height_by Bytes top value = height_of top value
+height_by Time top value = height_of top value
+height_by Nanoseconds top value = height_of top value
+height_by Offset top value = offset_height top value
+
+abbrev pub height : Frame → ℕ → ℕ
+height f value = height_by f.unit (top_value f) value
 
 -- 1. What is drawn of a slot
 
@@ -46,6 +58,7 @@ shown_of BitRate windows b = Some (with_absent b windows)
 shown_of Bytes windows b = b
 shown_of Time windows b = b
 shown_of Nanoseconds windows b = b
+shown_of Offset windows b = b
 
 abbrev pub shown : Frame → ℕ → ℕ → Option Bounds → Option Bounds
 shown f span slot b = shown_of f.unit (windows_in f span slot) b
@@ -55,18 +68,24 @@ slots_of f span = slots_in (window_count f) span
 
 -- 2. Its scales
 
--- bit rates in kbit/s, bytes, and times in ms or in ns
+-- a difference, with its sign if it is below 0
+unfoldable pub offset_text : ℕ → List ℕ
+offset_text value = if nat_lt 0 (below_zero value) then codes "&#8722;" ++ grouped (below_zero value) else grouped (above_zero value)
+
+-- bit rates in kbit/s, bytes, times in ms or in ns, and differences in ns
 unfoldable pub value_text : ChartUnit → ℕ → List ℕ
 value_text BitRate value = tenths value 1000
 value_text Bytes value = grouped value
 value_text Time value = tenths value 1000
 value_text Nanoseconds value = grouped value
+value_text Offset value = offset_text value
 
 unfoldable pub unit_name : ChartUnit → List ℕ
 unit_name BitRate = codes "kbit/s"
 unit_name Bytes = codes "bytes"
 unit_name Time = codes "ms"
 unit_name Nanoseconds = codes "ns"
+unit_name Offset = codes "ns"
 
 unfoldable pub level_line : ℕ → List ℕ
 level_line y =
@@ -98,6 +117,17 @@ fifth_at f fifth = level_text f.unit (top_value f * fifth / 5) (height_of (top_v
 abbrev pub fifth_text : Frame → ℕ → List ℕ
 fifth_text f fifth = fifth_at f (min fifth 5)
 
+-- so many quarters of a scale of differences
+abbrev pub quarter_text : Frame → ℕ → List ℕ
+quarter_text f quarter = level_text f.unit (quarter_of (top_value f) quarter) (offset_height (top_value f) (quarter_of (top_value f) quarter))
+
+unfoldable pub levels_by : Frame → ChartUnit → List ℕ
+levels_by f BitRate = flat_map (fifth_text f) FIFTHS
+levels_by f Bytes = flat_map (fifth_text f) FIFTHS
+levels_by f Time = flat_map (fifth_text f) FIFTHS
+levels_by f Nanoseconds = flat_map (fifth_text f) FIFTHS
+levels_by f Offset = flat_map (quarter_text f) QUARTERS
+
 -- the end of so many steps of the scale of times, if it lies in it
 abbrev pub moment_at : Frame → ℕ → List ℕ
 moment_at f moment = if nat_lt (length_of f) moment then []
@@ -107,4 +137,4 @@ abbrev pub step_text : Frame → ℕ → List ℕ
 step_text f count = moment_at f (step_for (length_of f) * min count 6)
 
 unfoldable pub scales_text : Frame → List ℕ
-scales_text f = flat_map (fifth_text f) FIFTHS ++ (flat_map (step_text f) STEP_COUNTS ++ unit_text f.unit)
+scales_text f = levels_by f f.unit ++ (flat_map (step_text f) STEP_COUNTS ++ unit_text f.unit)

@@ -3,7 +3,7 @@ use Rattle.std.specs.Prelude.{ℕ, suc, nat_le, if◌then◌else◌, List, [], �
 use Rattle.page_charts.specs.declared.bounds.Bounds.{Bounds}
 use Rattle.page_charts.specs.declared.frame.Frame.{Frame}
 use Rattle.page_charts.specs.Scale.{across, height_of}
-use Rattle.page_charts.specs.Frames.{shown, slots_of, top_value}
+use Rattle.page_charts.specs.Frames.{height, shown, slots_of, top_value}
 
 -- texts of the elements of a list, each made from the element and its number; the first has number k
 abbrev pub numbered : {A : Type 0} → (ℕ → A → List ℕ) → ℕ → List A → List ℕ
@@ -18,7 +18,7 @@ numbered_back part k (x ∷ xs) = numbered_back part (suc k) xs ++ part k x
 -- a point of the line of greatest values: those after the first `M` are joined by lines
 unfoldable pub point_of : Frame → ℕ → ℕ → Option Bounds → List ℕ
 point_of f span slot None = []
-point_of f span slot (Some b) = codes " " ++ (decimal (across (slots_of f span) slot) ++ (codes " " ++ decimal (height_of (top_value f) b.greatest)))
+point_of f span slot (Some b) = codes " " ++ (decimal (across (slots_of f span) slot) ++ (codes " " ++ decimal (height f b.greatest)))
 
 abbrev pub point : Frame → ℕ → ℕ → Option Bounds → List ℕ
 point f span slot b = point_of f span slot (shown f span slot b)
@@ -26,7 +26,7 @@ point f span slot b = point_of f span slot (shown f span slot b)
 -- and one of the line of least values
 unfoldable pub low_of : Frame → ℕ → ℕ → Option Bounds → List ℕ
 low_of f span slot None = []
-low_of f span slot (Some b) = codes " " ++ (decimal (across (slots_of f span) slot) ++ (codes " " ++ decimal (height_of (top_value f) b.least)))
+low_of f span slot (Some b) = codes " " ++ (decimal (across (slots_of f span) slot) ++ (codes " " ++ decimal (height f b.least)))
 
 abbrev pub low : Frame → ℕ → ℕ → Option Bounds → List ℕ
 low f span slot b = low_of f span slot (shown f span slot b)

@@ -3,7 +3,7 @@ use Rattle.std.specs.Prelude.{ℕ, ◌-◌, ◌*◌, ◌/◌, ◌^◌, ◌==◌,
 use Rattle.std.specs.Prelude.{length, Option, Some, None}
 use Rattle.page_charts.specs.declared.bounds.Bounds.{Bounds}
 use Rattle.page_charts.specs.declared.frame.ChartUnit.{ChartUnit}
-use Rattle.page_charts.specs.declared.frame.ChartUnit.TheVariants.{BitRate, Bytes, Time, Nanoseconds}
+use Rattle.page_charts.specs.declared.frame.ChartUnit.TheVariants.{BitRate, Bytes, Time, Nanoseconds, Offset}
 use Rattle.page_charts.specs.declared.frame.Frame.{Frame}
 use Rattle.page_charts.specs.declared.pid_curves.PidCurve.{PidCurve}
 use Rattle.page_charts.specs.Numbers.{tenths}
@@ -21,6 +21,7 @@ step_of BitRate = 100
 step_of Bytes = 1
 step_of Time = 100
 step_of Nanoseconds = 1
+step_of Offset = 1
 
 -- whether two slots have the same values, as they are written, or both have none
 abbrev pub is_alike : ℕ → Bounds → Bounds → Bool

@@ -1,17 +1,19 @@
 //! The scales of a picture.
 /// What a picture's values are: bit rates, in bits a second, where a window without a value has none of them; numbers
-/// of bytes; times in microseconds; or times in nanoseconds. A window without a byte, a unit or a clock reference says
-/// nothing of these.
+/// of bytes; times in microseconds; times in nanoseconds; or differences in nanoseconds, each as the number that
+/// [`offset`](crate::scale::offset) makes of it. A window without a byte, a unit or a clock reference says nothing of
+/// these.
 #[derive(Clone, Copy)]
 pub enum ChartUnit {
     BitRate,
     Bytes,
     Time,
     Nanoseconds,
+    Offset,
 }
 
 /// The scales of a picture: at most 2^38 windows of at most 2^22 milliseconds each, and values from 0 to `top`, 10^15
-/// at most.
+/// at most; or differences from `top` below 0 to `top` above 0.
 #[derive(Clone, Copy)]
 pub struct Frame {
     pub unit: ChartUnit,

@@ -5,7 +5,10 @@ ghost use Rattle.page_charts.specs.Frames as spec;
 use crate::bounds::Bounds;
 use crate::frame::{ChartUnit, Frame};
 use crate::numbers::{write_grouped, write_tenths};
-use crate::scale::{GREATEST_VALUE, LEFT, WIDTH, height_of, scale_for, slots_in};
+use crate::scale::{
+    GREATEST_VALUE, LEFT, WIDTH, above_zero, below_zero, height_of, offset_height, quarter_of,
+    scale_for, slots_in,
+};
 use crate::time_scale::{TimeUnit, step_for};
 use std::alloc::AllocError;
 use std::fmt::Write;
@@ -13,8 +16,25 @@ use std::fmt::Write;
 // What the scale of values is divided into: fifths.
 const FIFTHS: [u64; 6] = [0, 1, 2, 3, 4, 5];
 
+// What a scale of differences is divided into: quarters.
+const QUARTERS: [u64; 5] = [0, 1, 2, 3, 4];
+
 // How many steps of the scale of times from its begin on have a line: each of these that lies in it.
 const STEP_COUNTS: [u64; 7] = [0, 1, 2, 3, 4, 5, 6];
+
+// A difference, with a sign if it is below 0.
+#[tactic(auto, unfolding(crate::specs::Frames::offset_text))]
+fn write_offset(text: &mut String, value: u64) -> Result<(), AllocError>
+    ensures { OnOk result (string_bytes text.new ≡ string_bytes text.old ++ spec.offset_text value) }
+{
+    let below = below_zero(value);
+    if below > 0 {
+        text.push_str("&#8722;")?;
+        write_grouped(text, below)
+    } else {
+        write_grouped(text, above_zero(value))
+    }
+}
 
 /// Appends a value in the unit in which a picture has its values.
 #[tactic(auto, unfolding(crate::specs::Frames::value_text))]
@@ -26,6 +46,7 @@ pub(crate) fn write_value(text: &mut String, unit: ChartUnit, value: u64) -> Res
         ChartUnit::Bytes => write_grouped(text, value),
         ChartUnit::Time => write_tenths(text, value, 1_000),
         ChartUnit::Nanoseconds => write_grouped(text, value),
+        ChartUnit::Offset => write_offset(text, value),
     }
 }
 
@@ -38,7 +59,7 @@ pub(crate) fn unit_name(unit: ChartUnit) -> &'static str
         ChartUnit::BitRate => "kbit/s",
         ChartUnit::Bytes => "bytes",
         ChartUnit::Time => "ms",
-        ChartUnit::Nanoseconds => "ns",
+        ChartUnit::Nanoseconds | ChartUnit::Offset => "ns",
     }
 }
 
@@ -119,7 +140,7 @@ fn least_top(unit: ChartUnit) -> u64
         ChartUnit::BitRate => 10_000,
         ChartUnit::Bytes => 10,
         ChartUnit::Time => 10_000,
-        ChartUnit::Nanoseconds => 10,
+        ChartUnit::Nanoseconds | ChartUnit::Offset => 10,
     }
 }
 
@@ -178,7 +199,7 @@ impl Frame {
             ChartUnit::BitRate => Some(with_absent(bounds, self.windows_in(span, slot))),
             ChartUnit::Bytes => bounds,
             ChartUnit::Time => bounds,
-            ChartUnit::Nanoseconds => bounds,
+            ChartUnit::Nanoseconds | ChartUnit::Offset => bounds,
         }
     }
 
@@ -190,6 +211,48 @@ impl Frame {
         ensures bound { result ≤ 2 ^ 39 }
     {
         slots_in(self.window_count(), span)
+    }
+
+    /// Returns how high a value lies.
+    #[tactic(auto, unfolding(crate::specs::Frames::height_by))]
+    pub(crate) fn height(&self, value: u64) -> u64
+        ensures { result ≡ spec.height self.now value }
+    {
+        match self.unit {
+            ChartUnit::Offset => offset_height(self.top_value(), value),
+            _ => height_of(self.top_value(), value),
+        }
+    }
+
+    // So many quarters of the scale of differences.
+    fn write_quarter(&self, text: &mut String, quarter: u64) -> Result<(), AllocError>
+        ensures { OnOk result (string_bytes text.new ≡ string_bytes text.old ++ spec.quarter_text self.now quarter) }
+    {
+        let top = self.top_value();
+        let value = quarter_of(top, quarter);
+        write_level(text, self.unit, value, offset_height(top, value))
+    }
+
+    // Some quarters of it.
+    fn write_quarters(&self, text: &mut String, quarters: &[u64]) -> Result<(), AllocError>
+        ensures { OnOk result (string_bytes text.new
+            ≡ string_bytes text.old ++ flat_map (spec.quarter_text self.now) quarters.now) }
+    {
+        for quarter in quarters {
+            self.write_quarter(text, *quarter)?;
+        }
+        Ok(())
+    }
+
+    // The scale of values.
+    #[tactic(auto, unfolding(crate::specs::Frames::levels_by))]
+    fn write_levels(&self, text: &mut String) -> Result<(), AllocError>
+        ensures { OnOk result (string_bytes text.new ≡ string_bytes text.old ++ spec.levels_by self.now self.now.unit) }
+    {
+        match self.unit {
+            ChartUnit::Offset => self.write_quarters(text, &QUARTERS),
+            _ => self.write_fifths(text, &FIFTHS),
+        }
     }
 
     // So many fifths of the scale of values.
@@ -243,7 +306,7 @@ impl Frame {
     pub(crate) fn write_scales(&self, text: &mut String) -> Result<(), AllocError>
         ensures { OnOk result (string_bytes text.new ≡ string_bytes text.old ++ spec.scales_text self.now) }
     {
-        self.write_fifths(text, &FIFTHS)?;
+        self.write_levels(text)?;
         self.write_steps(text, &STEP_COUNTS)?;
         write_name_above(text, unit_name(self.unit))
     }

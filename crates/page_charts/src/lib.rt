@@ -6,7 +6,7 @@
 //! - [`Bounds`]: the least and the greatest of values, and their number; [`joined`] the bounds of two sets of values.
 //! - [`laws`]: each value lies within the bounds of its slot, and each bound is a value of its slot.
 //! - [`PidCurves`]: curves by PID, each with a name and a limit, [`MOST_CURVES`] at most.
-//! - [`ChartUnit`]: the unit of the written numbers, and what a window without a value means.
+//! - [`ChartUnit`]: the unit of the written numbers, and what a window without a value means; [`offset`]: a difference as a value.
 //! - [`write_chart`]: a picture of some of them over all windows, with a key and all its numbers as a table.
 //! - [`write_strips`]: a table of how full buffers were, a row a buffer, on one scale of times.
 //! - [`PidLabels`]: the programs of PIDs and the names of their services, written beside each PID ([`write_label`]).
@@ -45,6 +45,7 @@ pub use frame::{ChartUnit, Frame};
 pub use numbers::{write_grouped, write_tenths};
 pub use pid_curves::{MOST_CURVES, PidCurve, PidCurves, greatest_value};
 pub use pid_labels::{PidLabels, PidProgram, write_label};
+pub use scale::offset;
 pub use slots::MOST_SLOTS;
 pub use stack::write_stack;
 pub use strip_table::write_strips;

@@ -27,7 +27,7 @@ fn write_point(
         None => Ok(()),
         Some(shown) => {
             let x = across(frame.slots_of(span), slot);
-            let y = height_of(frame.top_value(), shown.greatest);
+            let y = frame.height(shown.greatest);
             write!(text, " {x} {y}")
         }
     }
@@ -50,7 +50,7 @@ fn write_low(
         None => Ok(()),
         Some(shown) => {
             let x = across(frame.slots_of(span), slot);
-            let y = height_of(frame.top_value(), shown.least);
+            let y = frame.height(shown.least);
             write!(text, " {x} {y}")
         }
     }

@@ -14,6 +14,31 @@ const HEIGHT: u64 = 2_000;
 /// The greatest value of a scale.
 pub(crate) const GREATEST_VALUE: u64 = 1_000_000_000_000_000;
 
+/// The number that represents a difference of 0.
+const ZERO: u64 = 500_000_000_000_000;
+
+/// Returns the number that represents a difference of two numbers, one of them 0: more than 5 * 10^14 if the difference
+/// is above 0.
+pub fn offset(above: u64, below: u64) -> u64
+    ensures { result ≡ spec.offset above below }
+{
+    (ZERO + above.min(ZERO)).saturating_sub(below)
+}
+
+/// Returns by how much the difference that a number represents is above 0; 0 if it is not above.
+pub(crate) fn above_zero(value: u64) -> u64
+    ensures { result ≡ spec.above_zero value }
+{
+    value.saturating_sub(ZERO)
+}
+
+/// Returns by how much the difference that a number represents is below 0; 0 if it is not below.
+pub(crate) fn below_zero(value: u64) -> u64
+    ensures { result ≡ spec.below_zero value }
+{
+    ZERO.saturating_sub(value)
+}
+
 // What a scale may end at.
 static SCALES: [u64; 43] = [
     10,
@@ -114,4 +139,21 @@ pub(crate) fn height_of(top: u64, value: u64) -> u64
     ensures { result ≡ spec.height_of top value }
 {
     BOTTOM - HEIGHT * value.min(top) / top.max(1)
+}
+
+/// Returns how high a difference lies on a scale from `top` below 0 to `top` above 0; one beyond it lies at its end.
+pub(crate) fn offset_height(top: u64, value: u64) -> u64
+    requires { top ≤ 10 ^ 15 }
+    ensures { result ≡ spec.offset_height top value }
+{
+    let place = (top + above_zero(value).min(top)).saturating_sub(below_zero(value));
+    BOTTOM - HEIGHT * place.min(2 * top) / (2 * top).max(1)
+}
+
+/// Returns the number that represents the difference so many quarters of a scale above its bottom.
+pub(crate) fn quarter_of(top: u64, quarter: u64) -> u64
+    requires { top ≤ 10 ^ 15 }
+    ensures { result ≡ spec.quarter_of top quarter }
+{
+    (ZERO + top * quarter.min(4) / 2).saturating_sub(top)
 }

@@ -43,7 +43,7 @@ fn step_of(unit: ChartUnit) -> u64
         ChartUnit::BitRate => 100,
         ChartUnit::Bytes => 1,
         ChartUnit::Time => 100,
-        ChartUnit::Nanoseconds => 1,
+        ChartUnit::Nanoseconds | ChartUnit::Offset => 1,
     }
 }
 

@@ -1,7 +1,7 @@
 -- The first finding that a test passes, finding by finding.
 use Rattle.std.proofs.Common.{◌≡◌, ◌≤◌, ◌<◌, ℕ, ◌+◌, Bool, true, false, List, ◌∷◌, length, map, drop, get_or, Some, None, refl}
 use Rattle.demux.specs.Views.{FindingView}
-use Rattle.stream_programs.proofs.Slices.{more, done}
+use Rattle.program_tables.proofs.Slices.{more, done}
 use Rattle.service_information.specs.FirstFindings.{first_packet}
 
 pub packet_later : {X : Type 0} (view : X → FindingView) (passes : FindingView → Bool) (i : ℕ) (fs : List X) (f : X) → i < length fs → f ≡ get_or fs i f →

@@ -2,7 +2,7 @@
 use Rattle.std.proofs.Common.{◌≡◌, ◌≤◌, ◌<◌, ℕ, ◌+◌, List, length, map, drop, get_or, None, refl}
 use Rattle.std.specs.Option.{option_or}
 use Rattle.demux.specs.Views.{FindingView}
-use Rattle.stream_programs.proofs.Slices.{more, done}
+use Rattle.program_tables.proofs.Slices.{more, done}
 use Rattle.service_information.specs.StreamTime.{time_found, stream_time}
 
 pub time_more : {X : Type 0} (view : X → FindingView) (i : ℕ) (fs : List X) (f : X) → i < length fs → f ≡ get_or fs i f →

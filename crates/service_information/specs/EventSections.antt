@@ -7,7 +7,7 @@ use Rattle.psi_tables.specs.declared.section.LongHeader.{LongHeader}
 use Rattle.dvb_tables.specs.EventEntries.{EventView, events_of}
 use Rattle.dvb_tables.specs.EventInformation.{EitView, eit_at}
 use Rattle.demux.specs.Views.{FindingView}
-use Rattle.stream_programs.specs.Sections.{section_on}
+use Rattle.program_tables.specs.Sections.{section_on}
 use Rattle.service_information.specs.declared.event_sections.EventSection.{EventSection}
 
 -- service_id, which is a program's program_number, and the events

@@ -7,7 +7,7 @@ use Rattle.psi_tables.specs.declared.error.SectionError.{SectionError}
 use Rattle.dvb_tables.specs.TimeAndDate.{tdt_at}
 use Rattle.dvb_tables.specs.declared.time_and_date.Tdt.{Tdt}
 use Rattle.demux.specs.Views.{FindingView}
-use Rattle.stream_programs.specs.Sections.{section_on}
+use Rattle.program_tables.specs.Sections.{section_on}
 use Rattle.service_information.specs.CodedTimes.{moment_in}
 use Rattle.service_information.specs.FirstFindings.{first_packet, has_table_id}
 

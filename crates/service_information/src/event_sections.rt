@@ -9,8 +9,8 @@ ghost use Rattle.service_information.specs.EventSections as spec;
 
 use demux::Finding;
 use dvb_tables::{EIT_TABLE_ID, EventEntries};
+use program_tables::section_on;
 use psi_tables::{GREATEST_LENGTH, LongHeader, Section, table_header_at};
-use stream_programs::section_on;
 
 // The PID of event information sections.
 const EIT_PID: u16 = 0x12;

@@ -10,8 +10,8 @@ use crate::coded_times::moment_in;
 use crate::table_sections::has_table_id;
 use demux::Finding;
 use dvb_tables::{TDT_TABLE_ID, Tdt};
+use program_tables::section_on;
 use psi_tables::Section;
-use stream_programs::section_on;
 
 // The PID of time and date sections.
 const TDT_PID: u16 = 0x14;

@@ -3,5 +3,3 @@ pub mod RbspBytes
 pub mod SeiPlaces
 pub mod Elements
 pub mod ScalingLists
-mod FrameWalks
-mod FrameParts

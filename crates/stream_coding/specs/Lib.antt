@@ -6,11 +6,5 @@ pub mod Avc
 pub mod Hevc
 pub mod Adts
 pub mod Codings
-pub mod Video
-pub mod Buffers
-pub mod FrameHeaders
-pub mod Frames
-pub mod FrameWalks
-pub mod Stays
 pub mod AccessPoints
 pub mod Sei

@@ -1,4 +1,4 @@
-//! Jobs from any transport stream: a description, a plan that serves it, and the units of its streams.
+//! Jobs from any transport stream: description, plan, and units of its streams.
 //!
 //! `describe` and `make_job` write the description of an input (`specs/Texts`), find a rate with a plan
 //! (`specs/Rates`), and give the units in order (`specs/Jobs`), or say why there is no job (`specs/WhyNoJob`).

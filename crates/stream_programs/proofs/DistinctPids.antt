@@ -19,7 +19,7 @@ use Rattle.stream_programs.specs.FreePids.{is_taken, least_free}
 use Rattle.stream_programs.specs.Laws.{PidsAreDistinct, EachHasPids}
 use Rattle.stream_programs.specs.PidAssignment.{IsPid, AreDistinctPids, stream_pids, map_pids, assigned_map_pid, assigned_map_pids, with_pcr_pids}
 use Rattle.stream_programs.specs.PidAssignment.{assigned_pids, all_pids}
-use Rattle.stream_programs.specs.ProgramMaps.{program_map}
+use Rattle.program_tables.specs.ProgramMaps.{program_map}
 use Rattle.stream_programs.specs.Programs.{FoundProgramsView, FoundProgramView, nothing, can_place, can_share, holder_in, with_left_out, with_table}
 use Rattle.stream_programs.specs.Programs.{with_shared, with_stream_if, with_stream, with_streams, is_scrambled_map, is_multiplexed_map, with_multiplex}
 use Rattle.stream_programs.specs.Programs.{with_access, with_program_if, with_map, with_program_by, with_programs, programs_of, kept_stream, kept_program}

@@ -1,13 +1,4 @@
-pub mod Slices
-pub mod AssociationSteps
-pub mod ProgramLists
 pub mod PidHolders
-pub mod LastMaps
-pub mod NumberedMaps
-pub mod MapKeys
-pub mod MapPlaces
-pub mod KnownSteps
-pub mod NotedChanges
 pub mod ProgramSteps
 pub mod PidLists
 pub mod TakenPids

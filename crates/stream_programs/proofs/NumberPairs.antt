@@ -9,7 +9,7 @@ use Rattle.indexmap.specs.IndexMap.{insert_entry}
 use Rattle.stream_programs.specs.Streams.{FoundStreamView, holder, is_shared_with, is_stream_of, shared_by, with_sharer}
 use Rattle.stream_programs.specs.Programs.{FoundProgramView, FoundProgramsView, can_share, shares}
 use Rattle.stream_programs.specs.NumberPairs.{AreClocks, AreOwners, ArePairs, AreSharers, is_pair, pair_key}
-use Rattle.stream_programs.proofs.MapKeys.{apart, inserted, same_number, same_pid, same_rest}
+use Rattle.program_tables.proofs.MapKeys.{apart, inserted, same_number, same_pid, same_rest}
 
 -- 1. One more pair
 

@@ -4,7 +4,7 @@ use Rattle.std.proofs.Math.Seq.{drop-cons}
 use Rattle.std.proofs.lemmas.List.{drop_all}
 use Rattle.psi_tables.specs.declared.pat.programs.Program.{Program}
 use Rattle.demux.specs.Views.{FindingView}
-use Rattle.stream_programs.specs.ProgramMaps.{program_map}
+use Rattle.program_tables.specs.ProgramMaps.{program_map}
 use Rattle.stream_programs.specs.Programs.{FoundProgramsView, with_program_by, with_programs}
 
 pub programs_more : (found after : FoundProgramsView) (i : ℕ) (ps : List Program) (d : Program) (fs : List FindingView) → i < length ps →

@@ -2,7 +2,7 @@
 use Rattle.std.proofs.Common.{◌≡◌, ◌≤◌, ◌<◌, ℕ, ◌+◌, List, ◌++◌, length, map, drop, get_or, refl}
 use Rattle.demux.specs.Views.{FindingView}
 use Rattle.stream_programs.specs.StrayPids.{stray_pid, stray_pids}
-use Rattle.stream_programs.proofs.Slices.{more, done}
+use Rattle.program_tables.proofs.Slices.{more, done}
 
 pub strays_more : {X : Type 0} (view : X → FindingView) (known : List ℕ) (i : ℕ) (fs : List X) (f : X) (found after : List ℕ) → i < length fs →
     f ≡ get_or fs i f →

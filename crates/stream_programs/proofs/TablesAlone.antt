@@ -5,9 +5,9 @@ use Rattle.std.proofs.lemmas.Bool.{cases_Bool}
 use Rattle.psi_tables.specs.declared.pat.programs.Program.{Program}
 use Rattle.demux.specs.Views.{FindingView}
 use Rattle.demux.specs.Laws.{has_pid, found_of}
-use Rattle.stream_programs.specs.Sections.{section_on}
-use Rattle.stream_programs.specs.Association as a
-use Rattle.stream_programs.specs.ProgramMaps.{pmt_found, program_map}
+use Rattle.program_tables.specs.Sections.{section_on}
+use Rattle.program_tables.specs.Association as a
+use Rattle.program_tables.specs.ProgramMaps.{pmt_found, program_map}
 use Rattle.stream_programs.specs.Programs.{FoundProgramsView, nothing, with_program_by, with_programs, programs_of}
 use Rattle.stream_programs.specs.Laws.{FindingsOfPidZero, FindingsOfTheMap, SameOnMaps, MapsDecide}
 

@@ -1,9 +1,3 @@
-pub mod Sections
-pub mod Association
-pub mod ProgramLists
-pub mod ProgramMaps
-pub mod MapPlaces
-pub mod KnownTables
 pub mod Omissions
 pub mod Streams
 pub mod Programs

@@ -6,7 +6,7 @@ use Rattle.psi_tables.specs.ProgramMap.{StreamView, PmtView}
 use Rattle.psi_tables.specs.declared.pat.programs.Program.{Program}
 use Rattle.demux.specs.Views.{FindingView}
 use Rattle.descriptor_loops.specs.Descriptors.{has_ca, kept_descriptors, has_of_multiplex}
-use Rattle.stream_programs.specs.ProgramMaps.{program_map}
+use Rattle.program_tables.specs.ProgramMaps.{program_map}
 use Rattle.stream_programs.specs.Streams.{FoundStreamView, is_alike, is_shared_with, is_stream_of, holder, is_reserved, omission_of, shared_by}
 use Rattle.stream_programs.specs.declared.omission.TableOmission.{TableOmission}
 use Rattle.stream_programs.specs.declared.omission.TableOmission.TheVariants.{NoMap, NoPes, NoStream, ConditionalAccess, Multiplex, Taken, SharedOtherwise}

@@ -4,13 +4,12 @@ ghost use Rattle.std.specs.Prelude.{◌≡◌, ◌==◌, ◌&&◌, [], true, IfO
 ghost use Rattle.std.specs.List.{list_any};
 ghost use Rattle.psi_tables.specs.ProgramMap.{pmt_view, stream_view, streams_of};
 ghost use Rattle.demux.specs.Shown.{finding_view};
-ghost use Rattle.stream_programs.specs.MapPlaces.{places_in};
-ghost use Rattle.stream_programs.specs.ProgramMaps.{program_map};
+ghost use Rattle.program_tables.specs.MapPlaces.{places_in};
+ghost use Rattle.program_tables.specs.ProgramMaps.{program_map};
 ghost use Rattle.stream_programs.specs.Programs as spec;
 ghost use Rattle.stream_programs.specs.declared.omission.TableOmission.TheVariants.{Taken};
 ghost use Rattle.stream_programs.specs.Streams as held;
 
-use crate::map_places::{MapPlaces, map_at};
 use crate::number_pairs::{NumberPairs, add_pair, has_pair};
 use crate::omission::TableOmission;
 use crate::programs::{FoundProgram, FoundPrograms, any_ca, any_of_multiplex};
@@ -18,6 +17,7 @@ use crate::streams::{FoundStream, has_alike, holder, is_reserved, omission_of, s
 use demux::Finding;
 use descriptor_loops::{has_ca, has_of_multiplex, kept_descriptors};
 use indexmap::IndexMap;
+use program_tables::map_places::{MapPlaces, map_at};
 use psi_tables::{Pmt, Program, Stream, Streams};
 use std::alloc::{AllocError, Allocator};
 use std::marker::Model;

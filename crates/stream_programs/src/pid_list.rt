@@ -11,7 +11,7 @@ const NUMBERS: usize = 65_536;
 
 /// PIDs in order, one or more times each.
 #[derive(Drop)]
-pub(crate) struct PidList<A: Allocator> {
+pub struct PidList<A: Allocator> {
     pids: Vec<u16, A>,
     // by PID: whether it is one of them
     taken: [bool; NUMBERS],

@@ -6,11 +6,11 @@ ghost use Rattle.demux.specs.Shown.{finding_view};
 ghost use Rattle.stream_programs.specs.Programs as spec;
 
 use crate::gathering::Gathered;
-use crate::map_places::map_places;
 use crate::omission::TableOmission;
 use crate::streams::FoundStream;
 use demux::Finding;
 use descriptor_loops::{has_ca, has_of_multiplex};
+use program_tables::map_places::map_places;
 use psi_tables::{Program, Streams};
 use std::alloc::{AllocError, Allocator, Global};
 use std::marker::Model;

@@ -5,10 +5,10 @@
 //! - [`TableExcess`]: an excess of such a buffer.
 #![tactic(auto)]
 
-mod program_tables;
+mod program_buffers;
 mod system_tables;
 mod table_excess;
 
-pub use program_tables::{DRAIN, ProgramTables};
+pub use program_buffers::{DRAIN, ProgramTables};
 pub use system_tables::SystemTables;
 pub use table_excess::{TableBuffer, TableExcess};

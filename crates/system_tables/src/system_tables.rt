@@ -2,7 +2,7 @@
 ghost use Rattle.std.specs.Prelude.{◌≡◌, ◌++◌, IfOk, None, OnOk, flat_map, map};
 ghost use Rattle.system_tables.specs.Programs as spec;
 
-use crate::program_tables::ProgramTables;
+use crate::program_buffers::ProgramTables;
 use crate::table_excess::TableExcess;
 use arrival::Arrival;
 use std::alloc::{AllocError, Global};

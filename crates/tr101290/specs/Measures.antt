@@ -10,7 +10,7 @@ use Rattle.arrival.specs.declared.clock.ClockStep.{ClockStep}
 use Rattle.arrival.specs.declared.line.Line.{Line}
 use Rattle.arrival.specs.Clock.{ClockState, step_after, line_in}
 use Rattle.tr101290.specs.declared.watch.PcrTiming.{PcrTiming}
-use Rattle.tr101290.specs.declared.watch.PcrTiming.TheVariants.{ConstantRate, References}
+use Rattle.tr101290.specs.declared.watch.PcrTiming.TheVariants.{ConstantRate, References, Stamps}
 use Rattle.tr101290.specs.declared.report.Inaccuracy.{Inaccuracy}
 use Rattle.tr101290.specs.declared.report.PcrReport.{PcrReport}
 
@@ -32,6 +32,7 @@ time_of_bytes rate bytes = rounded_up (bytes * byte_ticks_at_1bps) rate
 unfoldable pub interval_from : PcrTiming → PcrSample → PcrSample → Option Line → Option ℕ
 interval_from (ConstantRate rate) before sample line = Some (time_of_bytes rate (sample.byte - before.byte))
 interval_from References before sample line = option_map (λ l. l.ticks) line
+interval_from Stamps before sample line = option_map (λ l. l.ticks) line
 
 unfoldable pub interval_after : PcrTiming → Option TimedSample → PcrSample → Option Line → Option ℕ
 interval_after timing None sample line = None
@@ -58,11 +59,13 @@ off_neighbours before line = record {
   nanoseconds = nanoseconds_off before (before.bytes + line.bytes) (before.ticks + line.ticks);
 }
 
+-- and if packets arrive by stamps, none: between references they come at no even rate (ETSI TR 101 290, 5.2.2: at a constant bit rate only)
 unfoldable pub inaccuracy_by : PcrTiming → Option Line → Option Line → Option Inaccuracy
 inaccuracy_by timing before None = None
 inaccuracy_by (ConstantRate rate) before (Some line) = Some (off_rate rate line)
 inaccuracy_by References None (Some line) = None
 inaccuracy_by References (Some before) (Some line) = Some (off_neighbours before line)
+inaccuracy_by Stamps before (Some line) = None
 
 -- 4. The report on a reference after those before it, of which the clock's state is
 

@@ -1,7 +1,7 @@
 -- The PIDs that the tables of a stream name: the program association table and the maps by which its streams are known (ISO/IEC
 -- 13818-1, 2.4.4.3 and 2.4.4.8).
 use Rattle.std.specs.Prelude.{ℕ, ◌==◌, if◌then◌else◌, List, [], ◌∷◌, ◌++◌, map, flat_map, Option, Some, None}
-use Rattle.stream_programs.specs.Association.{AssociationView, association}
+use Rattle.program_tables.specs.Association.{AssociationView, association}
 use Rattle.stream_programs.specs.Programs.{FoundProgramView, FoundProgramsView}
 use Rattle.stream_programs.specs.StrayPids.{mapped_pids}
 use Rattle.demux.specs.Views.{FindingView}

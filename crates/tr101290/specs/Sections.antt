@@ -4,7 +4,7 @@ use Rattle.std.specs.Prelude.{ℕ, ◌+◌, ◌*◌, nat_lt, if◌then◌else◌
 use Rattle.demux.specs.declared.finding.Kind.{Kind}
 use Rattle.demux.specs.declared.finding.Kind.TheVariants.{Table, Pes}
 use Rattle.demux.specs.Views.{FindingView, WhatView, IsDuplicate, BreaksCounter, IsScrambled, IsTruncated, IsSection, IsBadSection, IsPes, IsBadPes}
-use Rattle.demux.specs.Views.{IsBadPacket, IsErrored}
+use Rattle.demux.specs.Views.{IsBadPacket, IsErrored, IsStray}
 use Rattle.tr101290.specs.Parts.{part_of}
 use Rattle.tr101290.specs.declared.distances.WholeSection.{WholeSection}
 use Rattle.tr101290.specs.declared.intervals.SectionBegin.{SectionBegin}
@@ -36,6 +36,7 @@ extension_of (IsPes header unended body) = None
 extension_of (IsBadPes error) = None
 extension_of (IsBadPacket error) = None
 extension_of IsErrored = None
+extension_of (IsStray size) = None
 
 unfoldable pub whole_by : Option SectionBegin → Option ℕ → ℕ → Option WholeSection
 whole_by None extension end = None

@@ -40,7 +40,9 @@ pub(crate) fn interval_after(
             rate,
             sample.byte.saturating_sub(before.sample.byte),
         )),
-        PcrTiming::References => line.as_ref().map(|line| u128::from(line.ticks)),
+        PcrTiming::References | PcrTiming::Stamps => {
+            line.as_ref().map(|line| u128::from(line.ticks))
+        }
     }
 }
 
@@ -91,7 +93,7 @@ pub(crate) fn inaccuracy_by(
     ensures { result ≡ spec.inaccuracy_by timing before.now line.now }
 {
     match (timing, before, line) {
-        (_, _, None) => None,
+        (_, _, None) | (PcrTiming::Stamps, _, _) => None,
         (PcrTiming::ConstantRate(rate), _, Some(line)) => Some(off_rate(rate, line)),
         (PcrTiming::References, None, Some(_)) => None,
         (PcrTiming::References, Some(before), Some(line)) => Some(off_neighbours(before, line)),

@@ -2,9 +2,10 @@
 ghost use Rattle.std.specs.Prelude.{◌≡◌, ◌++◌, IfOk, OnOk, flat_map, map, option_map, option_to_list};
 ghost use Rattle.tr101290.specs.References as spec;
 
+use program_tables::{Association, named_programs};
 use psi_tables::Program;
 use std::alloc::{AllocError, Global};
-use stream_programs::{Association, FoundProgram, FoundPrograms, mapped_pids, named_programs};
+use stream_programs::{FoundProgram, FoundPrograms, mapped_pids};
 use ts_tables::NamedStreams;
 
 // Appends the PIDs of the maps of programs.

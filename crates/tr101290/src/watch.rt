@@ -19,6 +19,8 @@ pub enum PcrTiming {
     ConstantRate(Rate),
     /// The references around.
     References,
+    /// The references around; their places say nothing, because packets arrive by stamps.
+    Stamps,
 }
 
 /// The references of a PID as far as they have come: the last two of them are kept, and counts.

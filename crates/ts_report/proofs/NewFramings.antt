@@ -1,6 +1,6 @@
 -- A stream that is viewed by access units, or is not, before its first packet.
 use Rattle.std.proofs.Common.{◌≡◌, Option, Some, None, refl}
-use Rattle.stream_coding.specs.declared.frame_headers.FrameKind.{FrameKind}
+use Rattle.sound_frames.specs.declared.frame_headers.FrameKind.{FrameKind}
 use Rattle.tstd_rows.specs.Held.{Held}
 use Rattle.es_view.specs.Entries.{held_in, tally_in}
 use Rattle.es_view.specs.Tallies.{none_counted}

@@ -1,5 +1,5 @@
 -- When packets arrive: ticks of 27 MHz from the stream's first byte on.
-use Rattle.std.specs.Prelude.{ℕ, ◌*◌, ◌/◌, ◌-◌, Bool, true, false, Option, Some, None}
+use Rattle.std.specs.Prelude.{ℕ, ◌+◌, ◌*◌, ◌/◌, ◌-◌, ◌^◌, min, Bool, true, false, Option, Some, None}
 use Rattle.arrival.specs.Arrivals.{moment_on}
 use Rattle.arrival.specs.declared.arrival.Arrival.{Arrival}
 use Rattle.arrival.specs.declared.arrival.Arrival.TheVariants.{Unknown, AtRate, OnLines}
@@ -19,6 +19,10 @@ moment_by (OnLines lines) origin byte = Some (moment_on lines byte - origin)
 -- of the packet at an index
 abbrev pub moment_at : ViewOptions → ℕ → Option ℕ
 moment_at options index = moment_by options.arrival options.origin (first_byte index)
+
+-- of the byte that ends the base of its clock reference
+abbrev pub reference_moment : ViewOptions → ℕ → Option ℕ
+reference_moment options index = moment_by options.arrival options.origin (min (first_byte index + 10) (2 ^ 64 - 1))
 
 unfoldable pub has_moments : Arrival → Bool
 has_moments Unknown = false

@@ -17,7 +17,7 @@ use Rattle.tr101290.specs.PidWatches as watching
 use Rattle.tr101290.specs.RateJudges.{JudgeState}
 use Rattle.tr101290.specs.declared.report.PcrReport.{PcrReport}
 use Rattle.tr101290.specs.declared.watch.PcrTiming.{PcrTiming}
-use Rattle.tr101290.specs.declared.watch.PcrTiming.TheVariants.{ConstantRate, References}
+use Rattle.tr101290.specs.declared.watch.PcrTiming.TheVariants.{ConstantRate, References, Stamps}
 use Rattle.events.specs.declared.packet_fault.RefusalCause.{RefusalCause}
 use Rattle.events.specs.declared.packet_fault.RefusalCause.TheVariants as causes
 use Rattle.tr101290.specs.Continuity.{Lasts, after, error_at}
@@ -31,6 +31,7 @@ use Rattle.events.specs.declared.event.Event.{Event}
 use Rattle.events.specs.declared.event.Event.TheVariants as found
 use Rattle.es_view.specs.declared.view_options.ViewOptions.{ViewOptions}
 use Rattle.es_view.specs.Clocks.{ClockEntries, clocks_after, no_clocks}
+use Rattle.ts_report.specs.Moments.{moment_at, reference_moment}
 use Rattle.ts_watch.specs.ClockEvents.{clock_events, errors_in, report_events_if}
 use Rattle.ts_watch.specs.ClockWindows.{ClocksState}
 use Rattle.ts_watch.specs.ClockWindows as clocks_by_window
@@ -69,6 +70,12 @@ timing_of Unknown = References
 timing_of (AtRate rate) = ConstantRate rate
 timing_of (OnLines lines) = References
 
+-- and from the first packet on, if packets arrive by stamps, or not
+unfoldable pub timing_for : Bool → Arrival → PcrTiming
+timing_for stamps Unknown = if stamps then Stamps else References
+timing_for stamps (AtRate rate) = ConstantRate rate
+timing_for stamps (OnLines lines) = if stamps then Stamps else References
+
 -- and in what the places of sections are counted
 unfoldable pub table_timing : Arrival → TableTiming
 table_timing Unknown = timings.Ticks
@@ -76,8 +83,8 @@ table_timing (AtRate rate) = timings.ConstantRate rate
 table_timing (OnLines lines) = timings.Ticks
 
 -- before the first packet
-abbrev pub nothing_seen : ViewOptions → SeenState
-nothing_seen options = record {
+abbrev pub nothing_seen : Bool → ViewOptions → SeenState
+nothing_seen stamps options = record {
   options = options;
   packets = 0;
   refused = 0;
@@ -85,7 +92,7 @@ nothing_seen options = record {
   window = no_packet;
   totals = no_packet;
   clocks = no_clocks;
-  watches = watching.no_packet (timing_of options.arrival);
+  watches = watching.no_packet (timing_for stamps options.arrival);
   errors = 0;
   references = clocks_by_window.no_reference;
   rules = no_rule (table_timing options.arrival);
@@ -151,12 +158,13 @@ next_window s = window_of s.options s.packets
 -- what the reference leaves in its window and of the judge of the rate, and how many errors of accuracy count with it
 abbrev pub with_accuracy : SeenState → ℕ → Option PcrReport → SeenState
 with_accuracy s pid report = record s {
-  references = clocks_by_window.taken s.references (next_window s) pid report;
+  references = clocks_by_window.taken s.references (next_window s) pid (reference_moment s.options s.packets) report;
   rules = with_judge s.rules (judge_after (timing_of s.options.arrival) s.rules.judge pid report);
 }
 
 abbrev pub references_on : SeenState → PacketView → ClocksState
-references_on s packet = clocks_by_window.taken s.references (next_window s) packet.header.pid (report_on s packet)
+references_on s packet =
+    clocks_by_window.taken s.references (next_window s) packet.header.pid (reference_moment s.options s.packets) (report_on s packet)
 
 abbrev pub judge_on : SeenState → PacketView → JudgeState
 judge_on s packet = judge_after (timing_of s.options.arrival) s.rules.judge packet.header.pid (report_on s packet)
@@ -246,6 +254,7 @@ abbrev pub pid_ends : SeenState → List Event
 pid_ends s = clock_events s.watches ++ (table_events s.tables ++ (pid_events s.totals ++ (reference_events s.named s.totals
     ++ rules.end_events s.rules s.packets (has_table s.tables 0x01 0x01))))
 
--- the end, with the bytes that are left after the last whole packet
+-- the end, with the bytes that are left after the last whole packet, and the moment of the byte after that packet
 abbrev pub end_event : SeenState → ℕ → Event
-end_event s left = found.End (record { packets = s.packets; refused = s.refused; left = left })
+end_event s left =
+    found.End (record { packets = s.packets; refused = s.refused; left = left; length = moment_at s.options s.packets })

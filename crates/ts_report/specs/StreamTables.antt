@@ -7,7 +7,7 @@ use Rattle.indexmap.specs.IndexMap.{insert_entry}
 use Rattle.ts_packet.specs.Views.{PacketView}
 use Rattle.arrival.specs.Arrivals.{step_of}
 use Rattle.stream_coding.specs.declared.coding.Coding.{Coding}
-use Rattle.stream_coding.specs.declared.buffers.Buffers.{Buffers}
+use Rattle.es_buffers.specs.declared.buffers.Buffers.{Buffers}
 use Rattle.stream_coding.specs.Codings.{coding_of}
 use Rattle.stream_programs.specs.Streams.{FoundStreamView}
 use Rattle.ts_tables.specs.NamedStreams.{NamedView, stream_of}
@@ -19,11 +19,11 @@ use Rattle.ts_report.specs.declared.stream_table.StreamTable.{StreamTable}
 use Rattle.es_view.specs.declared.view_options.ViewOptions.{ViewOptions}
 use Rattle.ts_watch.specs.Choices.{ChoiceView, buffers_for, chosen, frames_for, rates_for}
 use Rattle.es_view.specs.Clocks.{ClockEntries, clock_of}
-use Rattle.es_view.specs.Entries.{EntryState, Framed, IsEntry, end_events, entry_after, entry_events, units_of}
+use Rattle.es_view.specs.Entries.{EntryState, Framed, IsEntry, end_events, entry_after, entry_events, traces_of, units_of}
 use Rattle.es_view.specs.EntryFrames.{unit_in}
-use Rattle.stream_coding.specs.declared.frame_headers.FrameKind.{FrameKind}
-use Rattle.stream_coding.specs.FrameWalks.{no_walk}
-use Rattle.stream_coding.specs.Stays.{longest_stay}
+use Rattle.sound_frames.specs.declared.frame_headers.FrameKind.{FrameKind}
+use Rattle.sound_frames.specs.FrameWalks.{no_walk}
+use Rattle.es_buffers.specs.Stays.{longest_stay}
 use Rattle.es_view.specs.Entries.{is_good as entry_is_good}
 use Rattle.es_view.specs.EntryEvents.{stream_event}
 use Rattle.es_view.specs.Tallies.{none_counted}
@@ -158,7 +158,7 @@ abbrev pub table_units : ViewOptions → ℕ → TableState → List Event
 table_units options window t = flat_map (units_of options window) t.entries
 
 abbrev pub table_end : ViewOptions → ℕ → ℕ → TableState → List Event
-table_end options packets window t = flat_map (end_events options packets window) t.entries
+table_end options packets window t = flat_map (end_events options packets window) t.entries ++ flat_map (traces_of options) t.entries
 
 abbrev pub is_good : TableState → Bool
 is_good t = list_all entry_is_good t.entries

@@ -29,7 +29,7 @@ pub record IsView (view : View) (s : ViewState) : Type 0 where
 
 -- before the first packet
 abbrev pub start : RequestView → ViewState
-start request = record { seen = nothing_seen request.options; table = no_streams request.choice }
+start request = record { seen = nothing_seen request.stamps request.options; table = no_streams request.choice }
 
 -- so many packets that come next arrive so
 abbrev pub arriving : ViewState → Arrival → ℕ → ViewState

@@ -18,6 +18,7 @@ mod clocked_view;
 mod moments;
 mod seen;
 mod stream_table;
+mod timings;
 mod view;
 
 pub use clocked_view::ClockedView;

@@ -15,13 +15,11 @@ fn ticks_at(rate: Rate, byte: u64) -> u128
     u128::from(byte) * BYTE_TICKS_AT_1BPS / u128::from(rate.bits_per_second())
 }
 
-/// Returns the moment of the first byte of the packet at an index, in ticks from the stream's first byte on, as packets
-/// arrive.
+// The moment of a byte, in ticks from the stream's first byte on, as packets arrive.
 #[tactic(auto, unfolding(crate::specs::Moments::moment_by))]
-pub(crate) fn moment_at(options: &ViewOptions, index: u64) -> Option<u128>
-    ensures { result ≡ spec.moment_at options.now index }
+fn byte_moment(options: &ViewOptions, byte: u64) -> Option<u128>
+    ensures { result ≡ spec.moment_by options.now.arrival options.now.origin byte }
 {
-    let byte = first_byte(index);
     match &options.arrival {
         Arrival::Unknown => None,
         Arrival::AtRate(rate) => Some(ticks_at(*rate, byte)),
@@ -29,6 +27,21 @@ pub(crate) fn moment_at(options: &ViewOptions, index: u64) -> Option<u128>
             lines.moment(byte).saturating_sub(options.origin),
         )),
     }
+}
+
+/// Returns the moment of the first byte of the packet at an index, in ticks from the stream's first byte on, as packets
+/// arrive.
+pub(crate) fn moment_at(options: &ViewOptions, index: u64) -> Option<u128>
+    ensures { result ≡ spec.moment_at options.now index }
+{
+    byte_moment(options, first_byte(index))
+}
+
+/// Returns the moment of the byte that ends the base of that packet's clock reference.
+pub(crate) fn reference_moment(options: &ViewOptions, index: u64) -> Option<u128>
+    ensures { result ≡ spec.reference_moment options.now index }
+{
+    byte_moment(options, first_byte(index).saturating_add(10))
 }
 
 /// Returns whether packets have moments.

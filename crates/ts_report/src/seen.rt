@@ -11,6 +11,8 @@ ghost use Rattle.ts_watch.specs.RuleEvents.{accuracy_count, accuracy_events};
 ghost use Rattle.ts_report.specs.Seen as spec;
 ghost use Rattle.ts_report.specs.Seen.{timing_of};
 
+use crate::moments::{moment_at, reference_moment};
+use crate::timings::{table_timing, timing_for, timing_of};
 use arrival::Arrival;
 use es_view::clocks::Clocks;
 use es_view::view_options::ViewOptions;
@@ -19,9 +21,7 @@ use pid_windows::PidWindow;
 use std::alloc::{AllocError, Global};
 use std::marker::Model;
 use system_tables::SystemTables;
-use tr101290::{
-    ContinuityError, ContinuityWatch, PcrReport, PcrTiming, PcrWatches, TableTiming, pcr_sample,
-};
+use tr101290::{ContinuityError, ContinuityWatch, PcrReport, PcrWatches, pcr_sample};
 use ts_packet::{Packet, PacketError, has_pcr};
 use ts_tables::{NamedStreams, ServiceNames};
 use ts_watch::clock_events::{errors_in, push_clocks, push_report};
@@ -79,28 +79,6 @@ impl Model for Seen {
       named = s.named;
       services = s.services;
     } };
-}
-
-// By what references are measured.
-#[tactic(auto, unfolding(crate::specs::Seen::timing_of))]
-fn timing_of(arrival: &Arrival) -> PcrTiming
-    ensures { result ≡ spec.timing_of arrival.now }
-{
-    match arrival {
-        Arrival::AtRate(rate) => PcrTiming::ConstantRate(*rate),
-        Arrival::Unknown | Arrival::OnLines(_) => PcrTiming::References,
-    }
-}
-
-// In what the places of sections are counted.
-#[tactic(auto, unfolding(crate::specs::Seen::table_timing))]
-fn table_timing(arrival: &Arrival) -> TableTiming
-    ensures { result ≡ spec.table_timing arrival.now }
-{
-    match arrival {
-        Arrival::AtRate(rate) => TableTiming::ConstantRate(*rate),
-        Arrival::Unknown | Arrival::OnLines(_) => TableTiming::Ticks,
-    }
 }
 
 // The moment of the stream's first byte on the first line that is known.
@@ -174,9 +152,9 @@ fn push_counter_if(
 }
 
 impl Seen {
-    /// Returns the state before the first packet.
-    pub fn new(alloc: Global, options: ViewOptions) -> Seen
-        ensures { result ≡ spec.nothing_seen options }
+    /// Returns the state before the first packet; `stamps`: packets arrive by stamps.
+    pub fn new(alloc: Global, options: ViewOptions, stamps: bool) -> Seen
+        ensures { result ≡ spec.nothing_seen stamps options }
     {
         Seen {
             alloc,
@@ -187,7 +165,7 @@ impl Seen {
             window: PidWindow::new(alloc),
             totals: PidWindow::new(alloc),
             clocks: Clocks::new(alloc),
-            watches: PcrWatches::new(alloc, timing_of(&options.arrival)),
+            watches: PcrWatches::new(alloc, timing_for(&options.arrival, stamps)),
             errors: 0,
             references: ClockWindows::new(alloc),
             rules: RuleWatch::new(alloc, table_timing(&options.arrival)),
@@ -367,7 +345,8 @@ impl Seen {
     {
         let timing = timing_of(&self.options.arrival);
         let window = self.next_window();
-        self.references.take(window, pid, report)?;
+        let moment = reference_moment(&self.options, self.packets);
+        self.references.take(window, pid, moment, report)?;
         self.rules
             .take_report(timing, self.packets, pid, report, events)
     }
@@ -469,7 +448,8 @@ impl Seen {
         self.rules.push_end(self.packets, has_cat, events)
     }
 
-    /// Returns the end of the stream, `left` bytes after its last whole packet.
+    /// Returns the end of the stream, `left` bytes after its last whole packet; its length is the moment of the byte after
+    /// that packet.
     pub fn end_event(&self, left: usize) -> Event
         ensures { result ≡ spec.end_event self.now left }
     {
@@ -477,6 +457,7 @@ impl Seen {
             packets: self.packets,
             refused: self.refused,
             left: left as u64,
+            length: moment_at(&self.options, self.packets),
         })
     }
 }

@@ -6,12 +6,13 @@ ghost use Rattle.ts_packet.specs.Views.{packet_view};
 ghost use Rattle.ts_watch.specs.Choices as choices;
 ghost use Rattle.ts_report.specs.Crowding as crowding;
 ghost use Rattle.ts_report.specs.StreamTables as spec;
-ghost use Rattle.es_view.specs.Entries.{AreFrames, EntryState, IsEntry, end_events, units_of};
+ghost use Rattle.es_view.specs.Entries.{AreFrames, EntryState, IsEntry, end_events, traces_of, units_of};
 ghost use Rattle.es_view.specs.EntryFrames.{unit_in};
 ghost use Rattle.tstd_rows.specs.Held.{Held};
 ghost use Rattle.es_view.specs.Entries.{is_good as entry_is_good};
 ghost use Rattle.ts_report.specs.StreamTables.{AreEntries, IsTable, TableState};
 
+use es_buffers::{Buffers, longest_stay};
 use es_view::clocks::Clocks;
 use es_view::counted_buffers::CountedBuffers;
 use es_view::entry_events::stream_event;
@@ -24,8 +25,9 @@ use es_view::video_tally::VideoTally;
 use es_view::view_options::ViewOptions;
 use events::Event;
 use pid_map::PidMap;
+use sound_frames::FrameKind;
 use std::alloc::{AllocError, Global};
-use stream_coding::{Buffers, Coding, FrameKind, coding_of, longest_stay};
+use stream_coding::{Coding, coding_of};
 use stream_programs::FoundStream;
 use ts_packet::Packet;
 use ts_tables::NamedStreams;
@@ -142,6 +144,20 @@ fn push_all_ends(
 {
     for entry in entries {
         entry.push_end(events, options, packets, window)?;
+    }
+    Ok(())
+}
+
+fn push_all_traces(
+    events: &mut Vec<Event>,
+    options: &ViewOptions,
+    entries: &[StreamEntry],
+) -> Result<(), AllocError>
+    ensures { (es : List EntryState) → AreEntries entries.now es → OnOk result (events.new.items
+        ≡ events.old.items ++ flat_map (traces_of options.now) es) }
+{
+    for entry in entries {
+        entry.push_traces(events, options)?;
     }
     Ok(())
 }
@@ -319,7 +335,8 @@ impl StreamTable {
         ensures { (t : TableState) → IsTable self.now t → OnOk result (events.new.items
             ≡ events.old.items ++ spec.table_end options.now packets window t) }
     {
-        push_all_ends(events, options, packets, window, &self.entries)
+        push_all_ends(events, options, packets, window, &self.entries)?;
+        push_all_traces(events, options, &self.entries)
     }
 
     /// Returns whether a stream has enough waiting units to stop the view.

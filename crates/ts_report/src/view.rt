@@ -45,7 +45,7 @@ impl View {
         ensures calm { is_view_crowded result ≡ false }
     {
         View {
-            seen: Seen::new(alloc, request.options),
+            seen: Seen::new(alloc, request.options, request.stamps),
             table: StreamTable::new(alloc, request.choice),
         }
     }

@@ -3,7 +3,7 @@ use Rattle.std.proofs.Common.{◌≡◌, ◌≤◌, ◌<◌, ℕ, ◌+◌, List,
 use Rattle.std.specs.Option.{option_or}
 use Rattle.demux.specs.Views.{FindingView}
 use Rattle.ts_services.specs.Networks.{network_found, network}
-use Rattle.stream_programs.proofs.Slices.{more, done}
+use Rattle.program_tables.proofs.Slices.{more, done}
 
 pub network_more : {X : Type 0} (view : X → FindingView) (i : ℕ) (fs : List X) (f : X) → i < length fs → f ≡ get_or fs i f →
     network (map view (drop i fs)) ≡ option_or (network_found (view f)) (network (map view (drop (i + 1) fs)))

@@ -3,10 +3,10 @@ use Rattle.std.proofs.Common.{◌≡◌, ◌≤◌, ◌<◌, ℕ, ◌+◌, List,
 use Rattle.std.specs.Option.{option_or}
 use Rattle.demux.specs.Views.{FindingView}
 use Rattle.ts_services.specs.Services.{FoundServiceView, service_found, service}
-use Rattle.stream_programs.proofs.LastMaps.{or_both}
-use Rattle.stream_programs.specs.Sections.{section_on}
+use Rattle.program_tables.proofs.LastMaps.{or_both}
+use Rattle.program_tables.specs.Sections.{section_on}
 use Rattle.ts_services.specs.ServiceDescriptions.{sdt_found}
-use Rattle.stream_programs.proofs.Slices.{more, done}
+use Rattle.program_tables.proofs.Slices.{more, done}
 
 pub service_more : {X Y : Type 0} (view : X → FindingView) (shown : Y → FoundServiceView) (number i : ℕ) (fs : List X) (f : X) (found last next : Option Y) →
     i < length fs → f ≡ get_or fs i f → option_map shown found ≡ service_found number (view f) → next ≡ option_or found last →

@@ -4,7 +4,7 @@ use Rattle.std.specs.Option.{option_or}
 use Rattle.demux.specs.Views.{FindingView}
 use Rattle.ts_services.specs.NetworkInformation.{FoundNetworkView, is_surplus, network_said, first_network, surplus_from}
 use Rattle.ts_services.specs.declared.network_information.KnownStream.{KnownStream}
-use Rattle.stream_programs.proofs.Slices.{more, done}
+use Rattle.program_tables.proofs.Slices.{more, done}
 
 -- the first network
 

@@ -11,9 +11,9 @@ use Rattle.descriptor_loops.specs.Descriptors.{descriptors_in}
 use Rattle.ts_services.specs.ServiceDescriptions.{sdt_found}
 use Rattle.ts_services.specs.Services.{FoundServiceView, in_descriptors, in_entries, of_entry, service, service_found}
 use Rattle.ts_services.specs.ServicePlaces.{ServicesAreThere, service_there, services_from, with_entries, with_entry, with_said, with_table}
-use Rattle.stream_programs.proofs.MapKeys.{inserted}
-use Rattle.stream_programs.proofs.MapPlaces.{at_front}
-use Rattle.stream_programs.proofs.Slices.{more, done}
+use Rattle.program_tables.proofs.MapKeys.{inserted}
+use Rattle.program_tables.proofs.MapPlaces.{at_front}
+use Rattle.program_tables.proofs.Slices.{more, done}
 
 -- 1. Findings one after another
 

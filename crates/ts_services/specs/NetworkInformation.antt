@@ -12,7 +12,7 @@ use Rattle.dvb_tables.specs.TransportStreams.{TransportStreamView}
 use Rattle.descriptor_loops.specs.Descriptors.{DescriptorView, descriptors_in, is_tagged}
 use Rattle.demux.specs.Views.{WhatView, IsSection, FindingView}
 use Rattle.ts_services.specs.Networks.{network}
-use Rattle.stream_programs.specs.Sections.{section_on}
+use Rattle.program_tables.specs.Sections.{section_on}
 use Rattle.ts_services.specs.declared.network_information.FoundNetwork.{FoundNetwork}
 use Rattle.ts_services.specs.declared.network_information.KnownStream.{KnownStream}
 

@@ -5,7 +5,7 @@ use Rattle.psi_tables.specs.Reading.{section_at}
 use Rattle.psi_tables.specs.declared.error.SectionError.{SectionError}
 use Rattle.dvb_tables.specs.ServiceDescription.{SdtView, sdt_at}
 use Rattle.demux.specs.Views.{FindingView}
-use Rattle.stream_programs.specs.Sections.{section_on}
+use Rattle.program_tables.specs.Sections.{section_on}
 
 -- a table that is in force now, and not the next one
 unfoldable pub in_force : Result SdtView SectionError → Option SdtView

@@ -12,9 +12,9 @@ use crate::networks::original_network;
 use demux::{Finding, What};
 use descriptor_loops::Descriptors;
 use dvb_tables::{NIT_TABLE_ID, Nit, TransportStream, TransportStreams, are_whole_descriptors};
+use program_tables::section_on;
 use psi_tables::Section;
 use std::alloc::Allocator;
-use stream_programs::section_on;
 
 // The PID of network information sections.
 const NIT_PID: u16 = 0x10;

@@ -8,9 +8,9 @@ ghost use Rattle.ts_services.specs.ServiceDescriptions as spec;
 
 use demux::Finding;
 use dvb_tables::Sdt;
+use program_tables::section_on;
 use psi_tables::Section;
 use std::alloc::Allocator;
-use stream_programs::section_on;
 
 /// The PID of service description sections.
 pub(crate) const SDT_PID: u16 = 0x11;

@@ -10,8 +10,8 @@ use crate::service_description::{SDT_PID, sdt_found};
 use demux::Finding;
 use descriptor_loops::{Descriptor, Descriptors};
 use dvb_tables::{Service, Services};
+use program_tables::sections::is_on;
 use std::alloc::Allocator;
-use stream_programs::sections::is_on;
 
 // The tag of a service descriptor.
 const SERVICE: u8 = 0x48;

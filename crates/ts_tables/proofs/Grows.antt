@@ -5,7 +5,7 @@ use Rattle.psi_tables.specs.ProgramMap.{PmtView}
 use Rattle.psi_tables.specs.declared.pat.programs.Program.{Program}
 use Rattle.demux.specs.Views.{FindingView}
 use Rattle.demux.specs.Stream.{StreamState, pushed, completed, found_in}
-use Rattle.stream_programs.specs.ProgramMaps.{pmt_found, program_map}
+use Rattle.program_tables.specs.ProgramMaps.{pmt_found, program_map}
 
 -- 1. By bytes
 

@@ -12,11 +12,11 @@ use Rattle.psi_tables.specs.ProgramMap.{PmtView}
 use Rattle.psi_tables.specs.declared.pat.programs.Program.{Program}
 use Rattle.demux.specs.Views.{FindingView}
 use Rattle.demux.specs.Stream.{StreamState, start, pushed}
-use Rattle.stream_programs.specs.Association.{association, first_pat}
-use Rattle.stream_programs.specs.KnownTables.{KnownView, known_in}
-use Rattle.stream_programs.specs.ProgramMaps.{program_map}
+use Rattle.program_tables.specs.Association.{association, first_pat}
+use Rattle.program_tables.specs.KnownTables.{KnownView, known_in}
+use Rattle.program_tables.specs.ProgramMaps.{program_map}
 use Rattle.stream_programs.specs.Programs.{FoundProgramsView, programs_of}
-use Rattle.stream_programs.proofs.KnownSteps.{named_by, programs_grow, programs_known, version_known}
+use Rattle.program_tables.proofs.KnownSteps.{named_by, programs_grow, programs_known, version_known}
 use Rattle.ts_tables.specs.NamedStreams.{have_maps, streams_by, streams_at}
 use Rattle.ts_tables.specs.Mapped.{AreMapped, AreTables, AreUnknown}
 use Rattle.ts_tables.proofs.Grows.{grows, map_both}

@@ -2,7 +2,7 @@
 use Rattle.std.specs.Prelude.{◌≡◌, ◌≤◌, ℕ, ◌==◌, true, List, length, take, Option, Some, None}
 use Rattle.psi_tables.specs.declared.pat.programs.Program.{Program}
 use Rattle.demux.specs.Views.{FindingView}
-use Rattle.stream_programs.specs.KnownTables.{KnownView, known_in}
+use Rattle.program_tables.specs.KnownTables.{KnownView, known_in}
 use Rattle.stream_programs.specs.Programs.{FoundProgramsView}
 use Rattle.ts_tables.specs.NamedStreams.{have_maps}
 

@@ -4,8 +4,8 @@ use Rattle.std.specs.List.{list_all}
 use Rattle.psi_tables.specs.declared.pat.programs.Program.{Program}
 use Rattle.demux.specs.Views.{FindingView}
 use Rattle.demux.specs.Stream.{StreamState, start, pushed}
-use Rattle.stream_programs.specs.Association.{AssociationView, association}
-use Rattle.stream_programs.specs.ProgramMaps.{program_map}
+use Rattle.program_tables.specs.Association.{AssociationView, association}
+use Rattle.program_tables.specs.ProgramMaps.{program_map}
 use Rattle.stream_programs.specs.Programs.{FoundProgramView, FoundProgramsView, programs_of}
 use Rattle.stream_programs.specs.Streams.{FoundStreamView}
 use Rattle.ts_tables.specs.declared.named_streams.TheConstants.{FIRST_PACKETS}

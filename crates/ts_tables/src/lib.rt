@@ -1,4 +1,4 @@
-//! What the first tables of a transport stream name, as soon as they name it: elementary streams and services.
+//! What the first tables of a transport stream name, as soon as they name it.
 //!
 //! - [`NamedStreams`]: takes the first packets of a stream, until each program of its program association table has a
 //!   program map table.

@@ -1,13 +1,13 @@
 //! Programs of an association table that have maps.
 ghost use Rattle.std.specs.Prelude.{◌≡◌, ◌==◌, ◌≤◌, true, length, map, take};
 ghost use Rattle.demux.specs.Shown.{finding_view};
-ghost use Rattle.stream_programs.specs.KnownTables.{known_in};
+ghost use Rattle.program_tables.specs.KnownTables.{known_in};
 ghost use Rattle.ts_tables.specs.NamedStreams.{have_maps};
 ghost use Rattle.ts_tables.specs.Mapped.{AreMapped, AreTables};
 
 use demux::Finding;
+use program_tables::KnownTables;
 use psi_tables::Program;
-use stream_programs::KnownTables;
 
 // How many programs from the first on have maps: all before a place have one.
 fn mapped_from(

@@ -3,16 +3,17 @@ ghost use Rattle.std.specs.Prelude.{◌≡◌, ◌==◌, ◌||◌, ◌&&◌, [],
 ghost use Rattle.std.specs.Prelude.{map, option_map};
 ghost use Rattle.demux.specs.Shown.{finding_view};
 ghost use Rattle.demux.specs.Stream.{pushed, start};
-ghost use Rattle.stream_programs.specs.KnownTables.{known_in};
+ghost use Rattle.program_tables.specs.KnownTables.{known_in};
 ghost use Rattle.ts_tables.specs.NamedStreams as spec;
 ghost use Rattle.ts_tables.specs.NamedStreams.{have_maps};
 ghost use Rattle.ts_tables.specs.Mapped.{AreTables};
 
 use crate::mapped::mapped_programs;
 use demux::{Demux, Finding};
+use program_tables::KnownTables;
 use std::alloc::{AllocError, Global};
 use std::marker::Model;
-use stream_programs::{FoundProgram, FoundPrograms, FoundStream, KnownTables, found_programs};
+use stream_programs::{FoundProgram, FoundPrograms, FoundStream, found_programs};
 
 /// The number of packets that are looked at at most.
 pub const FIRST_PACKETS: u32 = 32_768;

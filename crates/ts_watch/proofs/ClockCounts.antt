@@ -14,7 +14,7 @@ use Rattle.ts_watch.specs.Laws.{is_in, reports_in, state_of}
 
 -- 1. The counts of a PID after a reference
 
-same_number : (a b : ℕ) → (a == b) ≡ true → a ≡ b
+pub same_number : (a b : ℕ) → (a == b) ≡ true → a ≡ b
 same_number a b e = grind (arith, nat_tests)
 
 itself : (a : ℕ) → (a == a) ≡ true
@@ -33,7 +33,7 @@ turned_test a b = by (a == b) (b == a) refl refl
     by true false p q = absurd (grind (arith, nat_tests))
     by false true p q = absurd (grind (arith, nat_tests))
 
-found : (pid q : ℕ) (x : PcrCounts) (es : List (ℕ × PcrCounts)) (t : Bool) → (q == pid) ≡ t →
+pub found : {V : Type 0} (pid q : ℕ) (x : V) (es : List (ℕ × V)) (t : Bool) → (q == pid) ≡ t →
     lookup (nat_eq pid) (insert_entry nat_eq es q x) ≡ cond t (Some x) (lookup (nat_eq pid) es)
 found pid q x [] t e = rw (turned_test pid q ∙ e) refl
 found pid q x (y ∷ es) t e = by t e (q == y.0) refl (found pid q x es t e)
@@ -45,7 +45,7 @@ found pid q x (y ∷ es) t e = by t e (q == y.0) refl (found pid q x es t e)
     by true e true f h = let g : (pid == y.0) ≡ true = subst (λ (k : ℕ). (k == y.0) ≡ true) (same_number q pid e) f in rw g refl
     by false e true f h = let g : (pid == y.0) ≡ false = subst (λ (k : ℕ). (pid == k) ≡ false) (same_number q y.0 f) (turned_test pid q ∙ e) in rw g refl
     by true e false f h = let g : (pid == y.0) ≡ false = subst (λ (k : ℕ). (k == y.0) ≡ false) (same_number q pid e) f in rw g h
-    by false e false f h = ap (λ (o : Option PcrCounts). cond (nat_eq pid y.0) (Some y.1) o) h
+    by false e false f h = ap (λ o. cond (nat_eq pid y.0) (Some y.1) o) h
 
 entry_is : (pid q : ℕ) (report : PcrReport) (es : List (ℕ × PcrCounts)) (t : Bool) → (q == pid) ≡ t →
     counts_of pid (insert_entry nat_eq es q (counted (counts_of q es) report)) ≡ cond t (counted (counts_of pid es) report) (counts_of pid es)

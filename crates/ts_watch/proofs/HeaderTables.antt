@@ -4,7 +4,7 @@ use Rattle.std.specs.Prelude.{min, if◌then◌else◌, option_and_then, unwrap_
 use Rattle.psi_tables.specs.declared.error.SectionError.TheVariants as refusals
 use Rattle.demux.specs.declared.finding.Kind.{Kind}
 use Rattle.demux.specs.declared.finding.Kind.TheVariants.{Table, Pes}
-use Rattle.demux.specs.Views.{WhatView, IsDuplicate, BreaksCounter, IsScrambled, IsTruncated, IsSection, IsBadSection, IsPes, IsBadPes, IsBadPacket, IsErrored}
+use Rattle.demux.specs.Views.{WhatView, IsDuplicate, BreaksCounter, IsScrambled, IsTruncated, IsSection, IsBadSection, IsPes, IsBadPes, IsBadPacket, IsErrored, IsStray}
 use Rattle.demux.specs.Views.{FindingView}
 use Rattle.demux.specs.Bodies.{all_without_body, finding_without_body, without_body}
 use Rattle.events.specs.declared.event.Event.{Event}
@@ -31,6 +31,7 @@ part_besides pid table_id (IsBadSection error) = refl
 part_besides pid table_id (IsBadPes error) = refl
 part_besides pid table_id (IsBadPacket error) = refl
 part_besides pid table_id IsErrored = refl
+part_besides pid table_id (IsStray size) = refl
 
 begin_besides : (pid packet : ℕ) (kind : Kind) (w : WhatView) → begin_of pid packet kind (without_body w) ≡ begin_of pid packet kind w
 unfolding begin_of
@@ -55,6 +56,7 @@ extension_besides (IsBadSection error) = refl
 extension_besides (IsBadPes error) = refl
 extension_besides (IsBadPacket error) = refl
 extension_besides IsErrored = refl
+extension_besides (IsStray size) = refl
 
 whole_besides : (f : FindingView) → whole_section (finding_without_body f) ≡ whole_section f
 whole_besides f = ap₂ (λ (section : Option SectionBegin) (extension : Option ℕ). whole_by section extension f.packet) (section_besides f.pid f.begun f.what)
@@ -72,6 +74,7 @@ wrong_besides (IsBadSection error) = refl
 wrong_besides (IsBadPes error) = refl
 wrong_besides (IsBadPacket error) = refl
 wrong_besides IsErrored = refl
+wrong_besides (IsStray size) = refl
 
 -- 2. What it leaves, and what is said of it
 

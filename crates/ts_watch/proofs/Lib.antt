@@ -2,3 +2,4 @@ pub mod Sections
 pub mod HeaderTables
 pub mod TablePackets
 mod ClockCounts
+mod ClockDrifts

@@ -2,11 +2,11 @@
 use Rattle.std.specs.Prelude.{ℕ, ◌==◌, ◌||◌, is_some, min, Bool, if◌then◌else◌, List, length, Option, Some, None}
 use Rattle.std.specs.List.{list_any}
 use Rattle.stream_coding.specs.declared.coding.Coding.{Coding}
-use Rattle.stream_coding.specs.declared.frame_headers.FrameKind.{FrameKind}
-use Rattle.stream_coding.specs.FrameHeaders.{frame_kind}
-use Rattle.stream_coding.specs.declared.buffers.Buffers.{Buffers}
-use Rattle.stream_coding.specs.declared.buffers.PidBuffers.{PidBuffers}
-use Rattle.stream_coding.specs.Buffers.{buffers_of, given_buffers, joined_buffers_of, multiplexing_of}
+use Rattle.sound_frames.specs.declared.frame_headers.FrameKind.{FrameKind}
+use Rattle.sound_frames.specs.FrameHeaders.{frame_kind}
+use Rattle.es_buffers.specs.declared.buffers.Buffers.{Buffers}
+use Rattle.es_buffers.specs.declared.buffers.PidBuffers.{PidBuffers}
+use Rattle.es_buffers.specs.Buffers.{buffers_of, given_buffers, joined_buffers_of, multiplexing_of}
 use Rattle.unit_timing.specs.declared.multiplexing_buffer.MultiplexingBuffer.{MultiplexingBuffer}
 use Rattle.tstd_rows.specs.declared.video_buffers.VideoRates.{VideoRates}
 use Rattle.stream_programs.specs.Streams.{FoundStreamView}

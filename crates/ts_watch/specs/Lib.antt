@@ -2,6 +2,7 @@ pub mod PidLabels
 pub mod WindowEvents
 pub mod Choices
 pub mod ClockEvents
+pub mod ClockDrifts
 pub mod ClockWindows
 pub mod ReferenceEvents
 pub mod TableEvents

@@ -19,7 +19,7 @@ use Rattle.tr101290.specs.declared.intervals.TableTiming.{TableTiming}
 use Rattle.tr101290.specs.declared.report.PcrReport.{PcrReport}
 use Rattle.tr101290.specs.declared.stamps.PtsError.{PtsError}
 use Rattle.tr101290.specs.declared.watch.PcrTiming.{PcrTiming}
-use Rattle.tr101290.specs.declared.watch.PcrTiming.TheVariants.{ConstantRate, References}
+use Rattle.tr101290.specs.declared.watch.PcrTiming.TheVariants.{ConstantRate, References, Stamps}
 use Rattle.ts_packet.specs.Views.{PacketView}
 use Rattle.ts_watch.specs.ClockEvents.{inaccuracy_events, variable_events}
 use Rattle.es_view.specs.Clocks.{first_byte}
@@ -64,16 +64,19 @@ unfoldable pub judge_after : PcrTiming → JudgeState → ℕ → Option PcrRepo
 judge_after timing judge pid None = judge
 judge_after (ConstantRate rate) judge pid (Some report) = judge
 judge_after References judge pid (Some report) = judge_taken judge pid report
+judge_after Stamps judge pid (Some report) = judge_taken judge pid report
 
 unfoldable pub accuracy_events : PcrTiming → JudgeState → ℕ → ℕ → Option PcrReport → List Event
 accuracy_events timing judge index pid None = []
 accuracy_events (ConstantRate rate) judge index pid (Some report) = exact_events pid report
 accuracy_events References judge index pid (Some report) = judged_events judge index pid report
+accuracy_events Stamps judge index pid (Some report) = judged_events judge index pid report
 
 unfoldable pub accuracy_count : PcrTiming → JudgeState → ℕ → Option PcrReport → ℕ
 accuracy_count timing judge pid None = 0
 accuracy_count (ConstantRate rate) judge pid (Some report) = exact_count pid report
 accuracy_count References judge pid (Some report) = judged_count judge pid report
+accuracy_count Stamps judge pid (Some report) = judged_count judge pid report
 
 -- 2. Time stamps
 

@@ -4,7 +4,7 @@ use Rattle.std.specs.List.{list_all}
 use Rattle.std.specs.Option.{option_to_list}
 use Rattle.tstd_rows.specs.Limits.{bsys_size, tb_size}
 use Rattle.system_tables.specs.Programs.{ProgramState, system_most, told, transport_most}
-use Rattle.system_tables.specs.declared.program_tables.TheConstants.{DRAIN}
+use Rattle.system_tables.specs.declared.program_buffers.TheConstants.{DRAIN}
 use Rattle.system_tables.specs.declared.table_excess.TableBuffer.{TableBuffer}
 use Rattle.system_tables.specs.declared.table_excess.TableBuffer.TheVariants.{Transport, System}
 use Rattle.system_tables.specs.declared.table_excess.TableExcess.{TableExcess}

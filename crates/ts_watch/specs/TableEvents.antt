@@ -6,7 +6,7 @@ use Rattle.arrival.specs.Arrivals.{moment_on}
 use Rattle.arrival.specs.declared.arrival.Arrival.{Arrival}
 use Rattle.arrival.specs.declared.arrival.Arrival.TheVariants.{Unknown, AtRate, OnLines}
 use Rattle.demux.specs.Views.{FindingView, WhatView, IsDuplicate, BreaksCounter, IsScrambled, IsTruncated, IsSection, IsBadSection, IsPes, IsBadPes}
-use Rattle.demux.specs.Views.{IsBadPacket, IsErrored}
+use Rattle.demux.specs.Views.{IsBadPacket, IsErrored, IsStray}
 use Rattle.psi_tables.specs.declared.error.SectionError.TheVariants as refusals
 use Rattle.demux.specs.Stream.{StreamState, start, pushed}
 use Rattle.demux.specs.Bodies.{headers_pushed}
@@ -132,6 +132,7 @@ is_wrong (IsPes header unended bytes) = false
 is_wrong (IsBadPes error) = false
 is_wrong (IsBadPacket error) = false
 is_wrong IsErrored = false
+is_wrong (IsStray size) = false
 
 abbrev pub check_word_event : FindingView → Event
 check_word_event f = found.CheckWord (record { pid = unwrap_or f.pid 0; packet = f.packet })

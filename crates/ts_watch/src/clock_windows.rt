@@ -2,6 +2,7 @@
 ghost use Rattle.std.specs.Prelude.{◌≡◌, ◌++◌, OnOk};
 ghost use Rattle.ts_watch.specs.ClockWindows as spec;
 
+use crate::clock_drift::{ClockDrift, ahead_of, behind_of, drift_after};
 use events::{ClockFigures, Event, RuleEvent};
 use indexmap::IndexMap;
 use std::alloc::{AllocError, Global};
@@ -12,12 +13,16 @@ use tr101290::{PcrCounts, PcrReport};
 /// Counts of references by PID, in the order of the first references of a window.
 type CountEntries = IndexMap<u16, PcrCounts, BuildHasherDefault<FoldHasher>, Global>;
 
-/// The window of the last clock reference, and the counts of the references of each PID in it. Each PID has one entry,
-/// whatever the number of windows.
+/// The drift of the program clock of each PID, in the order of the first references.
+type DriftEntries = IndexMap<u16, Option<ClockDrift>, BuildHasherDefault<FoldHasher>, Global>;
+
+/// The window of the last clock reference, the counts of the references of each PID in it, and the drift of the program
+/// clock of each PID. Each PID has one entry, whatever the number of windows.
 #[derive(Drop)]
 pub struct ClockWindows {
     number: u64,
     counts: CountEntries,
+    drifts: DriftEntries,
 }
 
 impl Model for ClockWindows {
@@ -25,7 +30,7 @@ impl Model for ClockWindows {
 
     ghost Value = { ClocksState };
 
-    ghost view = { λ w. record { number = w.number; counts = w.counts.entries } };
+    ghost view = { λ w. record { number = w.number; counts = w.counts.entries; drifts = w.drifts.entries } };
 }
 
 // The counts of a PID.
@@ -39,8 +44,19 @@ fn counts_of(counts: &CountEntries, pid: u16) -> PcrCounts
     }
 }
 
-fn window_event(number: u64, pid: u16, counts: PcrCounts) -> Event
-    ensures { result ≡ spec.window_event number (pid, counts) }
+// The drift of a PID.
+#[tactic(auto, unfolding(crate::specs::ClockWindows::drift_or_none))]
+fn drift_of(drifts: &DriftEntries, pid: u16) -> Option<ClockDrift>
+    ensures { result ≡ spec.drift_of pid drifts.now.entries }
+{
+    match drifts.get(&pid) {
+        None => None,
+        Some(drift) => *drift,
+    }
+}
+
+fn window_event(number: u64, pid: u16, counts: PcrCounts, drift: Option<ClockDrift>) -> Event
+    ensures { result ≡ spec.figures number pid counts drift }
 {
     Event::Rule(RuleEvent::ClockWindow(ClockFigures {
         number,
@@ -48,6 +64,8 @@ fn window_event(number: u64, pid: u16, counts: PcrCounts) -> Event
         references: counts.references,
         interval: counts.interval,
         inaccuracy: counts.inaccuracy,
+        ahead: ahead_of(drift),
+        behind: behind_of(drift),
     }))
 }
 
@@ -59,15 +77,23 @@ impl ClockWindows {
         ClockWindows {
             number: 0,
             counts: IndexMap::new(alloc),
+            drifts: IndexMap::new(alloc),
         }
     }
 
-    // Takes the report on a reference of a PID in the last window.
-    fn take_report(&mut self, pid: u16, report: &PcrReport) -> Result<(), AllocError>
-        ensures { OnOk result (self.new ≡ spec.with_report self.old pid report.now) }
+    // Takes the report on a reference of a PID, which arrives at a moment in the last window.
+    fn take_report(
+        &mut self,
+        pid: u16,
+        moment: Option<u128>,
+        report: &PcrReport,
+    ) -> Result<(), AllocError>
+        ensures { OnOk result (self.new ≡ spec.with_report self.old pid moment report.now) }
     {
         let counts = counts_of(&self.counts, pid).with(report);
+        let drift = drift_after(drift_of(&self.drifts, pid), &report.step, moment);
         self.counts.insert(pid, counts)?;
+        self.drifts.insert(pid, drift)?;
         Ok(())
     }
 
@@ -82,8 +108,8 @@ impl ClockWindows {
         }
     }
 
-    /// Takes the report on the reference of a packet of a PID in a window, if the packet has one. Windows come in their
-    /// order.
+    /// Takes the report on the reference of a packet of a PID in a window, if the packet has one, and the moment at
+    /// which the reference arrives. Windows come in their order.
     ///
     /// After an `AllocError` the state describes no stream: drop it.
     #[tactic(auto, unfolding(crate::specs::ClockWindows::taken))]
@@ -91,15 +117,16 @@ impl ClockWindows {
         &mut self,
         window: u64,
         pid: u16,
+        moment: Option<u128>,
         report: &Option<PcrReport>,
     ) -> Result<(), AllocError>
-        ensures { OnOk result (self.new ≡ spec.taken self.old window pid report.now) }
+        ensures { OnOk result (self.new ≡ spec.taken self.old window pid moment report.now) }
     {
         match report {
             None => Ok(()),
             Some(report) => {
                 self.enter(window);
-                self.take_report(pid, report)
+                self.take_report(pid, moment, report)
             }
         }
     }
@@ -109,7 +136,8 @@ impl ClockWindows {
         ensures { OnOk result (events.new.items ≡ events.old.items ++ spec.all_events self.now) }
     {
         for (pid, counts) in &self.counts {
-            events.push(window_event(self.number, *pid, *counts))?;
+            let drift = drift_of(&self.drifts, *pid);
+            events.push(window_event(self.number, *pid, *counts, drift))?;
         }
         Ok(())
     }

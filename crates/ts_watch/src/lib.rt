@@ -2,6 +2,7 @@
 //! the rules of TR 101 290, and the buffers of system data.
 #![tactic(auto)]
 
+mod clock_drift;
 pub mod clock_events;
 pub mod clock_windows;
 pub mod laws;

@@ -196,7 +196,9 @@ impl RuleWatch {
             return Ok(0);
         };
         match timing {
-            PcrTiming::References => self.take_judged(index, pid, report, events),
+            PcrTiming::References | PcrTiming::Stamps => self.take_judged(
+                index, pid, report, events,
+            ),
             PcrTiming::ConstantRate(_) => push_exact(events, pid, report),
         }
     }

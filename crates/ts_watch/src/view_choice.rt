@@ -1,13 +1,14 @@
 //! Which streams are viewed, and their buffers.
 ghost use Rattle.std.specs.Prelude.{◌≡◌};
-ghost use Rattle.stream_coding.specs.Buffers.{buffers_of, multiplexing_of};
+ghost use Rattle.es_buffers.specs.Buffers.{buffers_of, multiplexing_of};
 ghost use Rattle.ts_watch.specs.Choices as spec;
 
-use std::marker::Model;
-use stream_coding::{
-    Buffers, Coding, FrameKind, PidBuffers, buffers_of, frame_kind, given_buffers,
-    joined_buffers_of, multiplexing_of,
+use es_buffers::{
+    Buffers, PidBuffers, buffers_of, given_buffers, joined_buffers_of, multiplexing_of,
 };
+use sound_frames::{FrameKind, frame_kind};
+use std::marker::Model;
+use stream_coding::Coding;
 use tstd_rows::VideoRates;
 
 /// Which streams are viewed, and their buffers.

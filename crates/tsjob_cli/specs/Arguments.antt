@@ -5,9 +5,9 @@ use Rattle.clap.specs.Words.{Row, Text, first_of}
 use Rattle.given_values.specs.GivenNames.{NetworkNameView, ServiceNameView}
 use Rattle.given_values.specs.declared.clock_base.ClockBase.{ClockBase}
 use Rattle.given_values.specs.declared.declare_by.DeclareBy.{DeclareBy}
-use Rattle.stream_coding.specs.declared.buffers.PidBuffers.{PidBuffers}
+use Rattle.es_buffers.specs.declared.buffers.PidBuffers.{PidBuffers}
 use Rattle.devices.specs.Options.{is_given}
-use Rattle.job_run.specs.declared.job_arguments.Reporting.{Reporting}
+use Rattle.job_lines.specs.declared.reporting.Reporting.{Reporting}
 use Rattle.job_run.specs.declared.job_arguments.Subcommand.{Subcommand}
 use Rattle.job_run.specs.declared.job_arguments.Subcommand.TheVariants.{Whole, Describe, Units, Why}
 use Rattle.job_run.specs.JobArguments.{JobArgumentsView}

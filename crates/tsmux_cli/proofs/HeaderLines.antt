@@ -1,23 +1,23 @@
 -- The lines of findings need no body.
 use Rattle.std.proofs.Common.{◌≡◌, ◌∙◌, ℕ, suc, ◌<◌, ◌≤◌, Bool, true, false, List, [], ◌∷◌, ◌++◌, length, map, drop, slice_get, Some, Result, Ok, Err, OnOk}
 use Rattle.std.proofs.Common.{inl, inr, refl, sym, ap, ap₂, arith, append_assoc}
-use Rattle.std.specs.Prelude.{◌||◌, IfOk, codes, decimal}
+use Rattle.std.specs.Prelude.{◌||◌, if◌then◌else◌, IfOk, codes, decimal}
 use Rattle.std.proofs.lemmas.List.{append-nil, drop_all, length-replicate}
 use Rattle.std.proofs.lemmas.Grind.{flat_map-append}
 use Rattle.std.proofs.lemmas.List.Folds.{list_any-append}
 use Rattle.std.proofs.lemmas.Option.{slice_get_cases}
-use Rattle.demux.specs.Views.{WhatView, IsDuplicate, BreaksCounter, IsScrambled, IsTruncated, IsSection, IsBadSection, IsPes, IsBadPes, IsBadPacket, IsErrored}
+use Rattle.demux.specs.Views.{WhatView, IsDuplicate, BreaksCounter, IsScrambled, IsTruncated, IsSection, IsBadSection, IsPes, IsBadPes, IsBadPacket, IsErrored, IsStray}
 use Rattle.demux.specs.Views.{FindingView}
 use Rattle.demux.specs.Machine.{PidState}
 use Rattle.demux.specs.Findings.{ended}
 use Rattle.demux.specs.Shown.{with_pid}
 use Rattle.demux.specs.Stream.{States, ended_found}
-use Rattle.demux.specs.Bodies.{AddsHeaders, all_without_body, without_body}
+use Rattle.demux.specs.Bodies.{AddsHeaders, all_without_body, finding_without_body, without_body}
 use Rattle.demux.proofs.StreamEnd.{ended_next}
-use Rattle.tsmux_cli.specs.FindingLines.{finding_line, finding_lines, has_fault, is_fault, pes_text, place_text, what_text}
+use Rattle.tsmux_cli.specs.FindingLines.{finding_lines, has_fault, is_fault, is_listed, listed_line, pes_text, place_text, what_text}
 
 pub both_lines : (found more : List FindingView) → finding_lines (found ++ more) ≡ finding_lines found ++ finding_lines more
-both_lines found more = flat_map-append finding_line found more
+both_lines found more = flat_map-append listed_line found more
 
 pub both_faults : (found more : List FindingView) → has_fault (found ++ more) ≡ (has_fault found || has_fault more)
 both_faults found more = list_any-append (λ (finding : FindingView). is_fault finding.what) found more
@@ -36,6 +36,7 @@ text_besides (IsBadSection error) = refl
 text_besides (IsBadPes error) = refl
 text_besides (IsBadPacket error) = refl
 text_besides IsErrored = refl
+text_besides (IsStray size) = refl
 
 fault_besides : (w : WhatView) → is_fault (without_body w) ≡ is_fault w
 unfolding is_fault
@@ -49,11 +50,30 @@ fault_besides (IsBadSection error) = refl
 fault_besides (IsBadPes error) = refl
 fault_besides (IsBadPacket error) = refl
 fault_besides IsErrored = refl
+fault_besides (IsStray size) = refl
+
+listed_besides : (w : WhatView) → is_listed (without_body w) ≡ is_listed w
+unfolding is_listed
+listed_besides (IsPes header unended body) = refl
+listed_besides (IsTruncated bytes) = refl
+listed_besides IsDuplicate = refl
+listed_besides (BreaksCounter expected found) = refl
+listed_besides IsScrambled = refl
+listed_besides (IsSection bytes) = refl
+listed_besides (IsBadSection error) = refl
+listed_besides (IsBadPes error) = refl
+listed_besides (IsBadPacket error) = refl
+listed_besides IsErrored = refl
+listed_besides (IsStray size) = refl
+
+line_besides : (x : FindingView) → listed_line (finding_without_body x) ≡ listed_line x
+line_besides x =
+    ap₂ (λ (listed : Bool) (text : List ℕ). if listed then place_text x.packet x.pid ++ text ++ codes "\n" else []) (listed_besides x.what)
+    (text_besides x.what)
 
 lines_besides : (found : List FindingView) → finding_lines (all_without_body found) ≡ finding_lines found
 lines_besides [] = refl
-lines_besides (x ∷ found) =
-    ap₂ (λ (text rest : List ℕ). (place_text x.packet x.pid ++ text ++ codes "\n") ++ rest) (text_besides x.what) (lines_besides found)
+lines_besides (x ∷ found) = ap₂ (λ (text rest : List ℕ). text ++ rest) (line_besides x) (lines_besides found)
 
 faults_besides : (found : List FindingView) → has_fault (all_without_body found) ≡ has_fault found
 faults_besides [] = refl

@@ -7,7 +7,7 @@ use Rattle.pes_packet.specs.declared.reading.PesHeader.{PesHeader}
 use Rattle.pes_packet.specs.Codes.{code_of as pes_code}
 use Rattle.psi_tables.specs.Codes.{code_of as section_code}
 use Rattle.ts_packet.specs.Codes.{code_of as packet_code}
-use Rattle.demux.specs.Views.{WhatView, IsDuplicate, BreaksCounter, IsScrambled, IsTruncated, IsSection, IsBadSection, IsPes, IsBadPes, IsBadPacket, IsErrored}
+use Rattle.demux.specs.Views.{WhatView, IsDuplicate, BreaksCounter, IsScrambled, IsTruncated, IsSection, IsBadSection, IsPes, IsBadPes, IsBadPacket, IsErrored, IsStray}
 use Rattle.demux.specs.Views.{FindingView}
 
 -- `I pid P`, or `I` where the packet has no PID
@@ -50,20 +50,30 @@ what_text (IsPes header unended bytes) = pes_text header unended (length bytes)
 what_text (IsBadPes error) = codes " bad-pes " ++ decimal (pes_code error)
 what_text (IsBadPacket error) = codes " bad-packet " ++ decimal (packet_code error)
 what_text IsErrored = codes " errored"
+what_text (IsStray size) = []
 
 -- a finding's line
 abbrev pub finding_line : FindingView → List ℕ
 finding_line finding = place_text finding.packet finding.pid ++ what_text finding.what ++ codes "\n"
 
-abbrev pub finding_lines : List FindingView → List ℕ
-finding_lines found = flat_map finding_line found
+-- stray payload has none
+unfoldable pub is_listed : WhatView → Bool
+is_listed (IsStray size) = false
+is_listed _ = true
 
--- a finding that is a fault: any but PES packets, sections, duplicates and scrambled packets
+abbrev pub listed_line : FindingView → List ℕ
+listed_line finding = if is_listed finding.what then finding_line finding else []
+
+abbrev pub finding_lines : List FindingView → List ℕ
+finding_lines found = flat_map listed_line found
+
+-- a finding that is a fault: any but PES packets, sections, duplicates, scrambled packets and stray payload
 unfoldable pub is_fault : WhatView → Bool
 is_fault IsDuplicate = false
 is_fault IsScrambled = false
 is_fault (IsSection bytes) = false
 is_fault (IsPes header unended bytes) = false
+is_fault (IsStray size) = false
 is_fault _ = true
 
 abbrev pub has_fault : List FindingView → Bool

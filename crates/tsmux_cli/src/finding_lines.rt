@@ -3,7 +3,7 @@
 //! A line is put into a room on the stack from its end: each part of it before the parts that are already there.
 ghost use Rattle.std.specs.Prelude.{◌≡◌, ◌++◌, ◌+◌, ◌≤◌, codes, decimal, drop, OnOk, Option, length, slice_index, map};
 ghost use Rattle.demux.specs.Shown.{finding_view, what_view};
-ghost use Rattle.tsmux_cli.specs.FindingLines.{dts_of, finding_line, finding_lines, has_fault, is_fault};
+ghost use Rattle.tsmux_cli.specs.FindingLines.{dts_of, finding_line, finding_lines, has_fault, is_fault, is_listed, listed_line};
 ghost use Rattle.tsmux_cli.specs.FindingLines.{pes_text, place_text, pts_of, section_text, stamp_text, what_text};
 
 use demux::{Finding, What};
@@ -174,6 +174,7 @@ fn put_what(room: &mut [u8; ROOM], end: usize, what: &What<'_>) -> usize
         What::BadPes(error) => put_named(room, end, b" bad-pes ", u64::from(error.code())),
         What::BadPacket(error) => put_named(room, end, b" bad-packet ", u64::from(error.code())),
         What::Errored => put(room, end, b" errored"),
+        What::Stray(_) => end,
     }
 }
 
@@ -187,6 +188,33 @@ fn put_finding(room: &mut [u8; ROOM], finding: &Finding<'_>) -> usize
     put_place(room, end, finding.packet, finding.pid)
 }
 
+/// Returns whether a finding has a line: stray payload has none.
+#[tactic(auto, unfolding(crate::specs::FindingLines::is_listed))]
+fn is_listed(finding: &Finding<'_>) -> bool
+    ensures { result ≡ is_listed (finding_view finding.now).what }
+{
+    match finding.what {
+        What::Stray(_) => false,
+        _ => true,
+    }
+}
+
+/// Appends the line of a finding, if it has one.
+fn write_finding(
+    text: &mut Vec<u8>,
+    room: &mut [u8; ROOM],
+    finding: &Finding<'_>,
+) -> Result<(), AllocError>
+    ensures { OnOk result (text.new.items ≡ text.old.items ++ listed_line (finding_view finding.now)) }
+{
+    if !is_listed(finding) {
+        return Ok(());
+    }
+    let start = put_finding(room, finding);
+    text.extend_from_slice(&room[start..])?;
+    Ok(())
+}
+
 /// Appends the lines of findings.
 pub fn write_findings(text: &mut Vec<u8>, found: &[Finding<'_>]) -> Result<(), AllocError>
     ensures { OnOk result
@@ -194,8 +222,7 @@ pub fn write_findings(text: &mut Vec<u8>, found: &[Finding<'_>]) -> Result<(), A
 {
     let mut room = [0; ROOM];
     for finding in found {
-        let start = put_finding(&mut room, finding);
-        text.extend_from_slice(&room[start..])?;
+        write_finding(text, &mut room, finding)?;
     }
     Ok(())
 }
@@ -206,7 +233,8 @@ fn is_fault(finding: &Finding<'_>) -> bool
     ensures { result ≡ is_fault (finding_view finding.now).what }
 {
     match finding.what {
-        What::Duplicate | What::Scrambled | What::Section(_) | What::Pes { .. } => false,
+        What::Duplicate | What::Scrambled | What::Section(_) | What::Pes { .. } | What::Stray(_) =>
+            false,
         What::CounterBreak { .. }
         | What::Truncated(_)
         | What::BadSection(_)

@@ -6,7 +6,7 @@ use Rattle.std.proofs.lemmas.Grind.{flat_map-append}
 use Rattle.std.specs.Io.KnownBytes.{Appends}
 use Rattle.capture.specs.Captures.{Part, capture_of}
 use Rattle.capture.specs.Reading.{capture_by, no_bytes}
-use Rattle.events.specs.EventLines.{lines_of, timed_line}
+use Rattle.event_lines.specs.EventLines.{lines_of, timed_line}
 use Rattle.events.specs.declared.timed_event.TimedEvent.{TimedEvent}
 use Rattle.ts_watch.specs.Choices.{RequestView}
 use Rattle.analysis.specs.Analysis.{is_crowded}

@@ -7,7 +7,7 @@ use Rattle.devices.specs.Options.{is_given}
 use Rattle.arrival.specs.declared.arrival.Arrival.{Arrival}
 use Rattle.arrival.specs.declared.arrival.Arrival.TheVariants.{Unknown, AtRate, OnLines}
 use Rattle.option_lists.specs.Lists.{buffer_list}
-use Rattle.stream_coding.specs.declared.buffers.PidBuffers.{PidBuffers}
+use Rattle.es_buffers.specs.declared.buffers.PidBuffers.{PidBuffers}
 use Rattle.es_view.specs.declared.view_options.ViewOptions.{ViewOptions}
 use Rattle.ts_watch.specs.declared.view_request.ViewSpan.{ViewSpan}
 use Rattle.ts_watch.specs.Choices.{ChoiceView, RequestView}

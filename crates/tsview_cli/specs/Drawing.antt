@@ -25,7 +25,7 @@ pub record IsDrawn (drawing : Drawing) (s : AnalysisState) (p : PageState) (byte
   pub page : IsPage drawing.page (after_events p (events_of s found))
 
 abbrev pub first_page : RequestView → PageState
-first_page request = no_events request.options.window (rate_in request)
+first_page request = no_events request.options.window (rate_in request) request.stamps
 
 abbrev pub TakesBytes : List ℕ → Drawing → Drawing → Type 0
 TakesBytes bytes first now = (s : AnalysisState) (p : PageState) → IsDrawn first s p [] → IsDrawn now s p bytes

@@ -6,7 +6,7 @@ use Rattle.ts_watch.specs.Choices.{RequestView}
 use Rattle.analysis.specs.Analysis.{is_crowded}
 use Rattle.analysis.specs.declared.analyser.Analyser.{Analyser}
 use Rattle.analysis.specs.Analysis.{IsAnalysed, AnalysisState, start}
-use Rattle.events.specs.EventLines.{lines_of}
+use Rattle.event_lines.specs.EventLines.{lines_of}
 use Rattle.devices.specs.Devices.{Device, HasFailed, IsClean, IsUntouched, Takes}
 use Rattle.devices.specs.Lines.{Reports, Stopped, line_text}
 use Rattle.devices.specs.Outcomes.{Outcome, halt_line, printed}

@@ -33,13 +33,20 @@ fn window_of(request: &ViewRequest) -> u32
     request.options.window
 }
 
+// Whether stamps of arrival are asked for.
+fn stamps_of(request: &ViewRequest) -> bool
+    ensures { result ≡ request.now.stamps }
+{
+    request.stamps
+}
+
 impl Drawing {
     // Before the first byte.
     fn new(alloc: Global, request: ViewRequest) -> Drawing
         ensures { IsDrawn result (start request) (first_page request) [] }
     {
         let rate = rate_of(&request);
-        let page = Page::new(alloc, window_of(&request), rate);
+        let page = Page::new(alloc, window_of(&request), rate, stamps_of(&request));
         Drawing {
             stream: CapturedView::new(alloc, request),
             page,

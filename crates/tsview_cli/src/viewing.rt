@@ -1,5 +1,6 @@
 //! The input, read piece by piece, and the lines of the events that each piece settles.
-ghost use Rattle.std.specs.Prelude.{◌≡◌, ◌%◌, ◌<◌, ◌≤◌, ◌++◌, ℕ, List, [], IfOk, IfErr, OnOk, Ok, false, length, take, string_bytes};
+ghost use Rattle.std.specs.Prelude.{◌≡◌, ◌%◌, ◌<◌, ◌≤◌, ◌++◌, ℕ, List, [], IfOk, IfErr, OnOk, Ok, false, length, take};
+ghost use Rattle.std.specs.Prelude.{string_bytes};
 ghost use Rattle.capture.specs.Captures.{Part};
 ghost use Rattle.analysis.specs.Analysis.{AnalysisState, start};
 ghost use Rattle.devices.specs.Devices.{reads, writes};
@@ -14,7 +15,7 @@ ghost use Rattle.tsview_cli.specs.Viewing as spec;
 use crate::captured::{CapturedView, rate_of};
 use counted_io::{Sink, Source};
 use devices::{Halt, LONGEST_INPUT, new_piece, read_piece, size_within, write_text};
-use events::write_events;
+use event_lines::write_events;
 use std::alloc::{AllocError, Global};
 use ts_report::ViewRequest;
 

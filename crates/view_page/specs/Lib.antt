@@ -11,4 +11,5 @@ pub mod Services
 pub mod Trees
 pub mod Values
 pub mod Pages
+pub mod SummaryText
 pub mod PageText

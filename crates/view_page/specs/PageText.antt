@@ -1,22 +1,22 @@
 -- The text of a page.
-use Rattle.std.specs.Prelude.{ℕ, List, [], ◌∷◌, ◌++◌, codes, decimal, flat_map, length, Option, Some, None}
+use Rattle.std.specs.Prelude.{ℕ, List, [], ◌∷◌, ◌++◌, codes, decimal, flat_map}
 use Rattle.page_charts.specs.declared.frame.ChartUnit.{ChartUnit}
-use Rattle.page_charts.specs.declared.frame.ChartUnit.TheVariants.{BitRate, Bytes, Time, Nanoseconds}
+use Rattle.page_charts.specs.declared.frame.ChartUnit.TheVariants.{BitRate, Bytes, Time, Nanoseconds, Offset}
 use Rattle.page_charts.specs.declared.pid_curves.PidCurve.{PidCurve}
 use Rattle.page_charts.specs.Charts.{chart}
 use Rattle.page_charts.specs.Frames.{frame}
-use Rattle.page_charts.specs.Numbers.{grouped}
 use Rattle.page_charts.specs.PidCurves.{greatest_value}
 use Rattle.view_page.specs.declared.page.Page.{Page}
-use Rattle.events.specs.declared.event.ReportEnd.{ReportEnd}
 use Rattle.view_page.specs.declared.page_heads.TheConstants.{APART, BACK, BUFFERS, CHECKS, CLOCKS, FAULTS, FRONT, MAINS, PIDS, RATES, SLACKS, STREAMS, STRIPS}
-use Rattle.view_page.specs.declared.page_heads.TheConstants.{INACCURACIES, INTERVALS, SERVICES, SYSTEMS, TABLES, TRANSPORTS, TREE}
+use Rattle.view_page.specs.declared.page_heads.TheConstants.{DRIFTS, INACCURACIES, INTERVALS, SERVICES, SYSTEMS, TABLES, TRANSPORTS, TREE}
 use Rattle.page_charts.specs.PidLabels.{LabelsState}
 use Rattle.page_charts.specs.Stacks.{stack}
+use Rattle.fault_pictures.specs.TracePictures.{pictures_text}
 use Rattle.page_charts.specs.StripTables.{table as strip_table}
 use Rattle.view_page.specs.Cells.{carried_cell}
 use Rattle.view_page.specs.MarkCells.{marks_text}
 use Rattle.view_page.specs.SummaryCells.{kinds_text}
+use Rattle.view_page.specs.SummaryText.{summary}
 use Rattle.view_page.specs.Trees.{tree}
 use Rattle.view_page.specs.RowTexts.{RowTexts, StreamText}
 
@@ -41,6 +41,9 @@ intervals_text = INTERVALS.now
 
 unfoldable pub inaccuracies_text : List ℕ
 inaccuracies_text = INACCURACIES.now
+
+unfoldable pub drifts_text : List ℕ
+drifts_text = DRIFTS.now
 
 unfoldable pub transports_text : List ℕ
 transports_text = TRANSPORTS.now
@@ -81,28 +84,6 @@ tree_text = TREE.now
 unfoldable pub back_text : List ℕ
 back_text = BACK.now
 
--- what was read
-unfoldable pub counts : ReportEnd → List ℕ
-counts end = codes "<p>" ++ (grouped end.packets ++ (codes " packets, " ++ (grouped end.refused ++ (codes " refused, " ++ (grouped end.left
-    ++ codes " bytes after the last.</p>\n")))))
-
--- by what clock bytes arrive: a given rate, or the clock references
-unfoldable pub rate_text : ℕ → List ℕ
-rate_text rate = codes "<p>Moments at " ++ (grouped rate ++ codes " bit/s")
-
-unfoldable pub clock_text : Option ℕ → List ℕ
-clock_text None = codes "<p>Moments by the clock references"
-clock_text (Some rate) = rate_text rate
-
--- the number of windows and of viewed streams
-unfoldable pub extent : ℕ → ℕ → ℕ → List ℕ
-extent windows millis streams = codes ". Windows: " ++ (grouped windows ++ (codes " of " ++ (decimal millis ++ (codes " ms. Streams with buffers: "
-    ++ (decimal streams ++ codes ".</p>\n")))))
-
--- and what it comes to
-unfoldable pub summary : Page → List ℕ
-summary p = counts p.end ++ (clock_text p.rate ++ (extent p.values.windows p.millis (length p.rows.streams) ++ p.rows.verdict))
-
 -- how full the buffers were, as strips on one scale of times
 unfoldable pub strips : Page → List ℕ
 strips p = strips_text ++ strip_table (frame Bytes p.values.windows p.millis 0) p.labels p.values.transports.curves.items p.values.mains.curves.items
@@ -133,7 +114,7 @@ mains p = mains_text ++ flat_map (buffer_chart p (codes "bytes in a main buffer 
 unfoldable pub slacks : Page → List ℕ
 slacks p = slacks_text ++ one_chart p (codes "time from a unit's last byte to its DTS over time") Time p.values.slacks.curves.items
 
--- the greatest time between clock references, and their greatest inaccuracy
+-- the greatest time between clock references, their greatest inaccuracy, and how far clocks drift
 unfoldable pub intervals : Page → List ℕ
 intervals p = intervals_text ++ one_chart p (codes "time between clock references over time") Time p.values.intervals.curves.items
 
@@ -141,8 +122,16 @@ unfoldable pub inaccuracies : Page → List ℕ
 inaccuracies p =
     inaccuracies_text ++ one_chart p (codes "inaccuracy of clock references over time") Nanoseconds p.values.inaccuracies.curves.items
 
+-- the drift of program clocks, on a scale that reaches as far below 0 as above it
+unfoldable pub drift_chart : Page → List ℕ → List PidCurve → List ℕ
+drift_chart p name curves =
+    chart name (frame Offset p.values.windows p.millis p.values.greatest_drift) p.labels p.values.rates.curves.items curves
+
+unfoldable pub drifts : Page → List ℕ
+drifts p = drifts_text ++ drift_chart p (codes "drift of program clocks over time") p.values.drifts.curves.items
+
 unfoldable pub times : Page → List ℕ
-times p = slacks p ++ (intervals p ++ inaccuracies p)
+times p = slacks p ++ (intervals p ++ (inaccuracies p ++ drifts p))
 
 unfoldable pub charts : Page → List ℕ
 charts p = rates p ++ (transports p ++ (mains p ++ times p))
@@ -152,7 +141,7 @@ unfoldable pub program_list : Page → List ℕ
 program_list p = tree_text ++ tree p.labels p.services.programs.entries
 
 unfoldable pub pictures : Page → List ℕ
-pictures p = strips p ++ (program_list p ++ (services p ++ charts p))
+pictures p = strips p ++ (pictures_text p.labels p.traces ++ (program_list p ++ (services p ++ charts p)))
 
 abbrev pub row_head : ℕ → List ℕ
 row_head pid = codes "<tr><td>" ++ decimal pid

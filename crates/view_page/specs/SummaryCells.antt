@@ -7,7 +7,7 @@ use Rattle.events.specs.declared.fault_kind.FaultKind.TheVariants as kinds
 use Rattle.events.specs.declared.summary.FaultTotals.{FaultTotals}
 use Rattle.events.specs.declared.summary.Verdict.{Verdict}
 use Rattle.events.specs.declared.summary.Verdict.TheVariants.{NoFault, Faults, Buffers, Units, Checks}
-use Rattle.events.specs.VerdictTexts.{sentence}
+use Rattle.event_lines.specs.VerdictTexts.{sentence}
 use Rattle.view_page.specs.declared.cells.Cell.{Cell}
 use Rattle.view_page.specs.declared.cells.Cell.TheVariants.{Number, Word, Source}
 use Rattle.view_page.specs.declared.cells.CellUnit.{CellUnit}

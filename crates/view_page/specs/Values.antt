@@ -1,5 +1,5 @@
 -- The curves of the page, by the events that have come and nothing else.
-use Rattle.std.specs.Prelude.{◌≡◌, ℕ, ◌+◌, ◌-◌, ◌/◌, ◌^◌, ◌==◌, min, max, if◌then◌else◌, List, [], Option, Some, None}
+use Rattle.std.specs.Prelude.{◌≡◌, ℕ, ◌+◌, ◌-◌, ◌*◌, ◌/◌, ◌^◌, ◌==◌, ◌&&◌, min, max, not, is_some, Bool, if◌then◌else◌, List, [], Option, Some, None}
 use Rattle.events.specs.declared.event.Event.{Event}
 use Rattle.events.specs.declared.event.Event.TheVariants.{Input, Stream, Window, Held, Units, Excess, MainExcess, MultiplexingExcess, ElementaryExcess}
 use Rattle.events.specs.declared.event.Event.TheVariants.{SystemExcess, SystemMainExcess, Late, ElementaryLate, Ahead, PcrRepetition, PcrDiscontinuity}
@@ -16,14 +16,15 @@ use Rattle.events.specs.Windows.{WindowView}
 use Rattle.unit_timing.specs.Buffers.{tb_size}
 use Rattle.page_charts.specs.Curves.{sample}
 use Rattle.events.specs.declared.pid_name.PidName.{PidName}
+use Rattle.page_charts.specs.Scale.{offset}
 use Rattle.page_charts.specs.PidCurves.{AreCurves, KeptCurve, kept_name, opened, with_sample}
 use Rattle.events.specs.PidNames.{of_pid}
 use Rattle.view_page.specs.declared.values.Values.{Values}
 use Rattle.view_page.specs.Cells.{short}
 
 -- the number of windows; bit rates by PID, the most bytes in the transport buffer of a stream, the most and the least in its main buffer,
--- and the least slack of its units in microseconds; the greatest interval of the clock references of a PID in microseconds, and their
--- greatest inaccuracy in nanoseconds
+-- and the least slack of its units in microseconds; the greatest interval of the clock references of a PID in microseconds, their greatest
+-- inaccuracy and the drift of its clock in nanoseconds, as an offset; and the greatest drift of all, ahead or behind
 pub record KeptValues : Type 0 where
   pub windows : ℕ
   pub rates : List KeptCurve
@@ -32,6 +33,8 @@ pub record KeptValues : Type 0 where
   pub slacks : List KeptCurve
   pub intervals : List KeptCurve
   pub inaccuracies : List KeptCurve
+  pub drifts : List KeptCurve
+  pub greatest_drift : ℕ
 
 pub record AreValues (values : Values) (kept : KeptValues) : Type 0 where
   pub windows : values.windows ≡ kept.windows
@@ -41,9 +44,11 @@ pub record AreValues (values : Values) (kept : KeptValues) : Type 0 where
   pub slacks : AreCurves values.slacks.curves.items kept.slacks
   pub intervals : AreCurves values.intervals.curves.items kept.intervals
   pub inaccuracies : AreCurves values.inaccuracies.curves.items kept.inaccuracies
+  pub drifts : AreCurves values.drifts.curves.items kept.drifts
+  pub greatest_drift : values.greatest_drift ≡ kept.greatest_drift
 
 abbrev pub no_values : KeptValues
-no_values = record { windows = 0; rates = []; transports = []; mains = []; slacks = []; intervals = []; inaccuracies = [] }
+no_values = record { windows = 0; rates = []; transports = []; mains = []; slacks = []; intervals = []; inaccuracies = []; drifts = []; greatest_drift = 0 }
 
 -- a PID is called by its coding where it is a stream with buffers
 unfoldable pub name_or : Option PidName → ℕ → PidName
@@ -68,10 +73,9 @@ with_stream v e = record v {
   slacks = opened e.pid e.coding 0 v.slacks;
 }
 
--- of a main buffer two values; none in a window in which no payload byte came: one that comes is in the buffer
+-- of a main buffer two values
 abbrev pub with_main : KeptValues → HeldFigures → List KeptCurve
-with_main v e = if e.main == 0 then v.mains
-    else with_sample e.pid (sample e.number e.main_least) (with_sample e.pid (sample e.number e.main) v.mains)
+with_main v e = with_sample e.pid (sample e.number e.main_least) (with_sample e.pid (sample e.number e.main) v.mains)
 
 -- `held`: what its buffers held in a window
 abbrev pub with_fullness : KeptValues → HeldFigures → KeptValues
@@ -88,19 +92,44 @@ with_held v e = if e.transport == 0 then v else with_fullness v e
 abbrev pub with_units : KeptValues → UnitFigures → KeptValues
 with_units v e = record v { slacks = with_sample e.pid (sample e.number (short e.slack / 27)) v.slacks }
 
--- `clock_window`: the greatest interval of a PID's clock references, rounded down to microseconds, beside 100 ms, and their greatest inaccuracy
--- beside 500 ns; a window in which no reference follows another one says nothing
+-- `clock_window`: the greatest interval of a PID's clock references, rounded down to microseconds, beside 100 ms, their greatest inaccuracy
+-- beside 500 ns, from the first one on that is known, and how far the clock is ahead or behind at the last of them, in nanoseconds; a window
+-- in which no reference follows another one says nothing
 abbrev pub with_interval : KeptValues → PidName → ClockFigures → KeptValues
 with_interval v name e = record v { intervals = with_sample e.pid (sample e.number (short e.interval / 27)) (opened e.pid name 100000 v.intervals) }
 
-abbrev pub with_inaccuracy : KeptValues → PidName → ClockFigures → KeptValues
-with_inaccuracy v name e = record v { inaccuracies = with_sample e.pid (sample e.number (short e.inaccuracy)) (opened e.pid name 500 v.inaccuracies) }
+abbrev pub is_unknown : KeptValues → ClockFigures → Bool
+is_unknown v e = e.inaccuracy == 0 && not (is_some (kept_name e.pid v.inaccuracies))
 
-abbrev pub with_both : KeptValues → ClockFigures → KeptValues
-with_both v e = with_inaccuracy (with_interval v (name_of v e.pid) e) (name_of v e.pid) e
+abbrev pub known_inaccuracy : KeptValues → PidName → ClockFigures → KeptValues
+known_inaccuracy v name e = record v { inaccuracies = with_sample e.pid (sample e.number (short e.inaccuracy)) (opened e.pid name 500 v.inaccuracies) }
+
+abbrev pub with_inaccuracy : KeptValues → PidName → ClockFigures → KeptValues
+with_inaccuracy v name e = if is_unknown v e then v else known_inaccuracy v name e
+
+abbrev pub nanoseconds_of : ℕ → ℕ
+nanoseconds_of ticks = short (short ticks * 1000 / 27)
+
+abbrev pub drift_of : ClockFigures → ℕ
+drift_of e = offset (nanoseconds_of e.ahead) (nanoseconds_of e.behind)
+
+abbrev pub with_greatest : KeptValues → ClockFigures → KeptValues
+with_greatest v e = record v { greatest_drift = max (max v.greatest_drift (nanoseconds_of e.ahead)) (nanoseconds_of e.behind) }
+
+abbrev pub with_offset : KeptValues → PidName → ClockFigures → KeptValues
+with_offset v name e = record v { drifts = with_sample e.pid (sample e.number (drift_of e)) (opened e.pid name 0 v.drifts) }
+
+abbrev pub with_drift : KeptValues → PidName → ClockFigures → KeptValues
+with_drift v name e = with_offset (with_greatest v e) name e
+
+abbrev pub with_places : KeptValues → PidName → ClockFigures → KeptValues
+with_places v name e = with_drift (with_inaccuracy v name e) name e
+
+abbrev pub with_figures : KeptValues → ClockFigures → KeptValues
+with_figures v e = with_places (with_interval v (name_of v e.pid) e) (name_of v e.pid) e
 
 abbrev pub with_clock : KeptValues → ClockFigures → KeptValues
-with_clock v e = if e.interval == 0 then v else with_both v e
+with_clock v e = if e.interval == 0 then v else with_figures v e
 
 unfoldable pub with_rule : KeptValues → RuleEvent → KeptValues
 with_rule v (rules.ClockWindow e) = with_clock v e
@@ -112,6 +141,7 @@ with_rule v (rules.NoCat e) = v
 with_rule v (rules.NotEmpty e) = v
 with_rule v (rules.Delayed e) = v
 with_rule v (rules.VariableRate e) = v
+with_rule v (rules.FaultTrace e) = v
 
 unfoldable pub with_event : KeptValues → Event → KeptValues
 with_event v (Window w) = with_window v w

@@ -4,8 +4,8 @@
 //!
 //! `row_cells`, `input_cells`, `mark_cells` and `summary_cells` have the cells of an event's row, `cells` writes them,
 //! `rows` keeps the rows of the page's tables, `values` the curves of PIDs, `services` those of programs, `page_labels`
-//! what PIDs carry, `tree` writes the PIDs of each program, `page_heads` has the texts that are always the same, and
-//! `html_text` writes the name of a service. Memory does not grow with the stream:
+//! what PIDs carry, `summary_text` writes the head of the page, `tree` the PIDs of each program, `page_heads` has the
+//! texts that are always the same, and `html_text` writes the name of a service. Memory does not grow with the stream:
 //! curves of 512 slots, for 32 PIDs each, the first 100 faults, the rows of the last events, and the programs of PIDs
 //! with the names of their services.
 #![tactic(auto)]
@@ -22,6 +22,7 @@ mod row_cells;
 mod rows;
 mod services;
 mod summary_cells;
+mod summary_text;
 mod tree;
 mod values;
 

@@ -9,11 +9,12 @@ use crate::rows::Rows;
 use crate::services::Services;
 use crate::values::Values;
 use events::{Event, ReportEnd, TimedEvent};
+use fault_pictures::TracePictures;
 use page_charts::PidLabels;
 use std::alloc::{AllocError, Global};
 
 /// A page of a stream whose windows have `millis` milliseconds and whose moments go by a given rate in bits a second,
-/// or by its clock references; with its events so far.
+/// otherwise by stamps or by its clock references; with its events so far.
 ///
 /// After an `AllocError` it describes no stream: drop it.
 #[derive(Drop)]
@@ -21,30 +22,35 @@ pub struct Page {
     alloc: Global,
     pub millis: u32,
     pub rate: Option<u64>,
+    pub stamps: bool,
     pub rows: Rows,
     pub values: Values,
     pub services: Services,
     pub labels: PidLabels,
+    pub traces: TracePictures,
     pub end: ReportEnd,
 }
 
 impl Page {
     /// Returns the state before the first event.
-    pub fn new(alloc: Global, millis: u32, rate: Option<u64>) -> Page
-        ensures { IsPage result (no_events millis rate) }
+    pub fn new(alloc: Global, millis: u32, rate: Option<u64>, stamps: bool) -> Page
+        ensures { IsPage result (no_events millis rate stamps) }
     {
         Page {
             alloc,
             millis,
             rate,
+            stamps,
             rows: Rows::new(alloc),
             values: Values::new(alloc),
             services: Services::new(alloc),
             labels: PidLabels::new(alloc),
+            traces: TracePictures::new(alloc),
             end: ReportEnd {
                 packets: 0,
                 refused: 0,
                 left: 0,
+                length: None,
             },
         }
     }
@@ -66,6 +72,7 @@ impl Page {
         self.rows.take(&self.labels, event)?;
         self.values.take(&event.event)?;
         self.services.take(&event.event)?;
+        self.traces.take(&self.labels, &event.event)?;
         take_label(self.alloc, &mut self.labels, &event.event)?;
         self.take_end(&event.event);
         Ok(())

@@ -54,6 +54,9 @@ const INTERVALS: &str =
 const INACCURACIES: &str =
     "<h2 id=inaccuracies>Inaccuracy of clock references</h2><p class=\"soft\">The greatest of a window, by PID, beside 500 ns.</p>\n";
 
+const DRIFTS: &str =
+    "<h2 id=drifts>Drift of program clocks</h2><p class=\"soft\">How far the program clock of a PID is ahead of the arrival since it began, or behind it, below 0; at the last reference of a window.</p>\n";
+
 const TRANSPORTS: &str =
     "<h2 id=transports>Transport buffers</h2><p class=\"soft\">The most bytes that were in the buffer, by window, beside its size. What lies over it is drawn thick, with a mark.</p><details class=\"more\"><summary>A picture of each</summary>\n";
 
@@ -150,6 +153,14 @@ pub(crate) fn inaccuracies_text() -> &'static str
     ensures { result.now ≡ spec.inaccuracies_text }
 {
     INACCURACIES
+}
+
+/// Returns the head of the part on the drift of program clocks.
+#[tactic(auto, unfolding(crate::specs::PageText::drifts_text))]
+pub(crate) fn drifts_text() -> &'static str
+    ensures { result.now ≡ spec.drifts_text }
+{
+    DRIFTS
 }
 
 /// Returns the head of the part on transport buffers.

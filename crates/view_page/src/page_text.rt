@@ -6,90 +6,21 @@ use crate::cells::write_carried;
 use crate::mark_cells::marks_text;
 use crate::page::Page;
 use crate::page_heads::{
-    apart_text, back_text, buffers_text, checks_text, clocks_text, faults_text, front_text,
-    inaccuracies_text, intervals_text, mains_text, pids_text, rates_text, services_text,
-    slacks_text, streams_text, strips_text, systems_text, tables_text, transports_text, tree_text,
+    apart_text, back_text, buffers_text, checks_text, clocks_text, drifts_text, faults_text,
+    front_text, inaccuracies_text, intervals_text, mains_text, pids_text, rates_text,
+    services_text, slacks_text, streams_text, strips_text, systems_text, tables_text,
+    transports_text, tree_text,
 };
 use crate::rows::{Rows, StreamRow};
 use crate::summary_cells::kinds_text;
+use crate::summary_text::write_summary;
 use crate::tree::write_tree;
-use events::ReportEnd;
 use page_charts::{
-    ChartUnit, Frame, PidCurve, PidLabels, greatest_value, write_chart, write_grouped, write_stack,
-    write_strips,
+    ChartUnit, Frame, PidCurve, PidLabels, greatest_value, write_chart, write_stack, write_strips,
 };
 use std::alloc::AllocError;
 use std::fmt::Write;
 use std::slice;
-
-// What was read.
-#[tactic(auto, unfolding(crate::specs::PageText::counts))]
-fn write_counts(text: &mut String, end: ReportEnd) -> Result<(), AllocError>
-    ensures { OnOk result (string_bytes text.new ≡ string_bytes text.old ++ spec.counts end) }
-{
-    text.push_str("<p>")?;
-    write_grouped(text, end.packets)?;
-    text.push_str(" packets, ")?;
-    write_grouped(text, end.refused)?;
-    text.push_str(" refused, ")?;
-    write_grouped(text, end.left)?;
-    text.push_str(" bytes after the last.</p>\n")
-}
-
-// By a given rate.
-#[tactic(auto, unfolding(crate::specs::PageText::rate_text))]
-fn write_rate(text: &mut String, rate: u64) -> Result<(), AllocError>
-    ensures { OnOk result (string_bytes text.new ≡ string_bytes text.old ++ spec.rate_text rate) }
-{
-    text.push_str("<p>Moments at ")?;
-    write_grouped(text, rate)?;
-    text.push_str(" bit/s")
-}
-
-// By what clock bytes arrive.
-#[tactic(auto, unfolding(crate::specs::PageText::clock_text))]
-fn write_clock(text: &mut String, rate: Option<u64>) -> Result<(), AllocError>
-    ensures { OnOk result (string_bytes text.new ≡ string_bytes text.old ++ spec.clock_text rate) }
-{
-    match rate {
-        None => text.push_str("<p>Moments by the clock references"),
-        Some(rate) => write_rate(text, rate),
-    }
-}
-
-// How many windows there are, and how many streams are viewed.
-#[tactic(auto, unfolding(crate::specs::PageText::extent))]
-fn write_extent(
-    text: &mut String,
-    windows: u64,
-    millis: u32,
-    streams: usize,
-) -> Result<(), AllocError>
-    ensures { OnOk result (string_bytes text.new ≡ string_bytes text.old ++ spec.extent windows millis streams) }
-{
-    text.push_str(". Windows: ")?;
-    write_grouped(text, windows)?;
-    write!(
-        text,
-        " of {millis} ms. Streams with buffers: {streams}.</p>\n"
-    )
-}
-
-// What was read, and what it comes to.
-#[tactic(auto, unfolding(crate::specs::PageText::summary))]
-fn write_summary(text: &mut String, page: &Page) -> Result<(), AllocError>
-    ensures { OnOk result (string_bytes text.new ≡ string_bytes text.old ++ spec.summary page.now) }
-{
-    write_counts(text, page.end)?;
-    write_clock(text, page.rate)?;
-    write_extent(
-        text,
-        page.values.windows,
-        page.millis,
-        page.rows.streams.len(),
-    )?;
-    text.push_str(page.rows.verdict.as_str())
-}
 
 // A picture of curves in one frame.
 #[tactic(auto, unfolding(crate::specs::PageText::one_chart))]
@@ -251,6 +182,38 @@ fn write_inaccuracies(text: &mut String, page: &Page) -> Result<(), AllocError>
     write_all_in_one(text, inaccuracies_text(), page, name, unit, curves)
 }
 
+// A picture of the drift of program clocks.
+#[tactic(auto, unfolding(crate::specs::PageText::drift_chart))]
+fn write_drift_chart(
+    text: &mut String,
+    page: &Page,
+    name: &str,
+    curves: &[PidCurve],
+) -> Result<(), AllocError>
+    ensures { OnOk result (string_bytes text.new
+        ≡ string_bytes text.old ++ spec.drift_chart page.now name.now curves.now) }
+{
+    let frame = Frame::new(
+        ChartUnit::Offset,
+        page.values.windows,
+        page.millis,
+        page.values.greatest_drift,
+    );
+    let order = &page.values.rates.curves;
+    write_chart(text, name, &frame, &page.labels, order, curves)
+}
+
+// The same, after a heading.
+#[tactic(auto, unfolding(crate::specs::PageText::drifts))]
+fn write_drifts(text: &mut String, page: &Page) -> Result<(), AllocError>
+    ensures { OnOk result (string_bytes text.new ≡ string_bytes text.old ++ spec.drifts page.now) }
+{
+    let curves = &page.values.drifts.curves;
+    let name = "drift of program clocks over time";
+    text.push_str(drifts_text())?;
+    write_drift_chart(text, page, name, curves)
+}
+
 // The times, of units and of clock references.
 #[tactic(auto, unfolding(crate::specs::PageText::times))]
 fn write_times(text: &mut String, page: &Page) -> Result<(), AllocError>
@@ -258,7 +221,8 @@ fn write_times(text: &mut String, page: &Page) -> Result<(), AllocError>
 {
     write_slacks(text, page)?;
     write_intervals(text, page)?;
-    write_inaccuracies(text, page)
+    write_inaccuracies(text, page)?;
+    write_drifts(text, page)
 }
 
 // The charts.
@@ -287,6 +251,7 @@ fn write_pictures(text: &mut String, page: &Page) -> Result<(), AllocError>
     ensures { OnOk result (string_bytes text.new ≡ string_bytes text.old ++ spec.pictures page.now) }
 {
     write_strip_table(text, page)?;
+    page.traces.write(text, &page.labels)?;
     write_program_list(text, page)?;
     write_services(text, page)?;
     write_charts(text, page)

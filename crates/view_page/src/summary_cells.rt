@@ -3,7 +3,8 @@ ghost use Rattle.std.specs.Prelude.{◌≡◌, ◌++◌, OnOk, string_bytes};
 ghost use Rattle.view_page.specs.SummaryCells as spec;
 
 use crate::cells::{Cell, CellUnit, CellWord, short};
-use events::{Fault, FaultKind, FaultTotals, Measured, Verdict, write_verdict_text};
+use event_lines::write_verdict_text;
+use events::{Fault, FaultKind, FaultTotals, Measured, Verdict};
 use std::alloc::AllocError;
 
 const KINDS: &str =

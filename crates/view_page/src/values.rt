@@ -7,7 +7,7 @@ use crate::cells::short;
 use events::{
     ClockFigures, Event, HeldFigures, PidName, RuleEvent, StreamBegin, UnitFigures, WindowFigures,
 };
-use page_charts::PidCurves;
+use page_charts::{PidCurves, offset};
 use std::alloc::{AllocError, Global};
 
 /// The size of a transport buffer in bytes (ISO/IEC 13818-1, 2.4.2.3).
@@ -21,7 +21,8 @@ const INACCURACY: u64 = 500;
 
 /// Curves by window: bit rates by PID, the most bytes in the transport buffer of a stream, the most and the least in
 /// its main buffer, and the least slack of its units in microseconds; the greatest interval of the clock references of
-/// a PID in microseconds, and their greatest inaccuracy in nanoseconds; and the number of windows.
+/// a PID in microseconds, their greatest inaccuracy and the drift of its clock in nanoseconds, as an [`offset`]; the
+/// greatest drift of all, ahead or behind; and the number of windows.
 #[derive(Drop)]
 pub struct Values {
     pub windows: u64,
@@ -31,6 +32,22 @@ pub struct Values {
     pub slacks: PidCurves,
     pub intervals: PidCurves,
     pub inaccuracies: PidCurves,
+    pub drifts: PidCurves,
+    pub greatest_drift: u64,
+}
+
+// Ticks in nanoseconds, rounded down.
+fn nanoseconds_of(ticks: u128) -> u64
+    ensures { result ≡ spec.nanoseconds_of ticks }
+{
+    short(u128::from(short(ticks)) * 1_000 / 27)
+}
+
+// The drift of a program clock, in nanoseconds.
+fn drift_of(clock: &ClockFigures) -> u64
+    ensures { result ≡ spec.drift_of clock.now }
+{
+    offset(nanoseconds_of(clock.ahead), nanoseconds_of(clock.behind))
 }
 
 impl Values {
@@ -46,6 +63,8 @@ impl Values {
             slacks: PidCurves::new(alloc),
             intervals: PidCurves::new(alloc),
             inaccuracies: PidCurves::new(alloc),
+            drifts: PidCurves::new(alloc),
+            greatest_drift: 0,
         }
     }
 
@@ -84,7 +103,7 @@ impl Values {
         self.slacks.open(pid, name, 0)
     }
 
-    // `held`: what its buffers held, if a byte came; of the main buffer, if a payload byte came.
+    // `held`: what its buffers held, if a byte came.
     fn take_held(&mut self, held: &HeldFigures) -> Result<(), AllocError>
         ensures { (kept : KeptValues) → AreValues self.old kept →
             OnOk result (AreValues self.new (spec.with_held kept held.now)) }
@@ -95,9 +114,6 @@ impl Values {
         let pid = held.pid;
         let number = held.number;
         self.transports.take(pid, number, short(held.transport))?;
-        if held.main == 0 {
-            return Ok(());
-        }
         self.mains.take(pid, number, held.main)?;
         self.mains.take(pid, number, held.main_least)
     }
@@ -111,14 +127,32 @@ impl Values {
             .take(units.pid, units.number, short(units.slack) / 27)
     }
 
+    // Whether no inaccuracy of a PID is known so far: it is 0 then.
+    fn is_unknown(&self, clock: &ClockFigures) -> bool
+        ensures { (kept : KeptValues) → AreValues self.now kept → result ≡ spec.is_unknown kept clock.now }
+    {
+        clock.inaccuracy == 0 && self.inaccuracies.name_of(clock.pid).is_none()
+    }
+
     // The inaccuracy of the clock references of a PID in a window.
-    fn take_inaccuracy(&mut self, name: PidName, clock: &ClockFigures) -> Result<(), AllocError>
+    fn take_known(&mut self, name: PidName, clock: &ClockFigures) -> Result<(), AllocError>
         ensures { (kept : KeptValues) → AreValues self.old kept →
-            OnOk result (AreValues self.new (spec.with_inaccuracy kept name clock.now)) }
+            OnOk result (AreValues self.new (spec.known_inaccuracy kept name clock.now)) }
     {
         self.inaccuracies.open(clock.pid, name, INACCURACY)?;
         self.inaccuracies
             .take(clock.pid, clock.number, short(clock.inaccuracy))
+    }
+
+    // The same, if one is known.
+    fn take_inaccuracy(&mut self, name: PidName, clock: &ClockFigures) -> Result<(), AllocError>
+        ensures { (kept : KeptValues) → AreValues self.old kept →
+            OnOk result (AreValues self.new (spec.with_inaccuracy kept name clock.now)) }
+    {
+        if self.is_unknown(clock) {
+            return Ok(());
+        }
+        self.take_known(name, clock)
     }
 
     // Their interval.
@@ -131,17 +165,54 @@ impl Values {
             .take(clock.pid, clock.number, short(clock.interval) / 27)
     }
 
-    // Both.
-    fn take_both(&mut self, clock: &ClockFigures) -> Result<(), AllocError>
+    // The greatest drift of all so far.
+    fn note_drift(&mut self, clock: &ClockFigures)
+        ensures { (kept : KeptValues) → AreValues self.old kept → AreValues self.new (spec.with_greatest kept clock.now) }
+    {
+        let ahead = nanoseconds_of(clock.ahead);
+        let behind = nanoseconds_of(clock.behind);
+        self.greatest_drift = self.greatest_drift.max(ahead).max(behind);
+    }
+
+    // The curve of the drift of the program clock.
+    fn take_offset(&mut self, name: PidName, clock: &ClockFigures) -> Result<(), AllocError>
         ensures { (kept : KeptValues) → AreValues self.old kept →
-            OnOk result (AreValues self.new (spec.with_both kept clock.now)) }
+            OnOk result (AreValues self.new (spec.with_offset kept name clock.now)) }
+    {
+        let drift = drift_of(clock);
+        self.drifts.open(clock.pid, name, 0)?;
+        self.drifts.take(clock.pid, clock.number, drift)
+    }
+
+    // The drift of the program clock.
+    fn take_drift(&mut self, name: PidName, clock: &ClockFigures) -> Result<(), AllocError>
+        ensures { (kept : KeptValues) → AreValues self.old kept →
+            OnOk result (AreValues self.new (spec.with_drift kept name clock.now)) }
+    {
+        self.note_drift(clock);
+        self.take_offset(name, clock)
+    }
+
+    // The inaccuracy and the drift.
+    fn take_places(&mut self, name: PidName, clock: &ClockFigures) -> Result<(), AllocError>
+        ensures { (kept : KeptValues) → AreValues self.old kept →
+            OnOk result (AreValues self.new (spec.with_places kept name clock.now)) }
+    {
+        self.take_inaccuracy(name, clock)?;
+        self.take_drift(name, clock)
+    }
+
+    // All three.
+    fn take_figures(&mut self, clock: &ClockFigures) -> Result<(), AllocError>
+        ensures { (kept : KeptValues) → AreValues self.old kept →
+            OnOk result (AreValues self.new (spec.with_figures kept clock.now)) }
     {
         let name = self.name_of(clock.pid);
         self.take_interval(name, clock)?;
-        self.take_inaccuracy(name, clock)
+        self.take_places(name, clock)
     }
 
-    // `clock_window`: both, if a reference follows another one.
+    // `clock_window`: all three, if a reference follows another one.
     fn take_clock(&mut self, clock: &ClockFigures) -> Result<(), AllocError>
         ensures { (kept : KeptValues) → AreValues self.old kept →
             OnOk result (AreValues self.new (spec.with_clock kept clock.now)) }
@@ -149,7 +220,7 @@ impl Values {
         if clock.interval == 0 {
             return Ok(());
         }
-        self.take_both(clock)
+        self.take_figures(clock)
     }
 
     // An event of a check: the clock references of a window.

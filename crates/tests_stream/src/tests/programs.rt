@@ -5,11 +5,11 @@ mod texts;
 mod vectors;
 
 use demux::{Finding, Kind, Part, What};
+use program_tables::{Association, MapPart, association_change, map_changes, named_programs};
 use psi_tables::Program;
 use std::alloc::{AllocError, Global};
 use stream_programs::{
-    Association, FoundPrograms, FoundStream, MapPart, ProgramPids, TableOmission, assigned_pids,
-    association_change, found_programs, free_pid, map_changes, named_programs,
+    FoundPrograms, FoundStream, ProgramPids, TableOmission, assigned_pids, found_programs, free_pid,
 };
 use ts_services::{last_service, original_network};
 use vectors::{EMPTY_MAP, FIRST_MAP, LAST_MAP, MORE, NEXT_PAT, OTHER_PAT, PAT, PMT, SDT};

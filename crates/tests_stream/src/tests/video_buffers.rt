@@ -1,9 +1,7 @@
 //! Buffers of codings, as the tables of the standards give them.
 
-use stream_coding::{
-    AvcSequence, Buffers, Coding, HevcSequence, J2kLimits, MpegSequence, buffers_of,
-    joined_buffers_of, multiplexing_of,
-};
+use es_buffers::{Buffers, buffers_of, joined_buffers_of, multiplexing_of};
+use stream_coding::{AvcSequence, Coding, HevcSequence, J2kLimits, MpegSequence};
 use unit_timing::multiplexing_buffer::MultiplexingBuffer;
 
 // Rx, the main buffer, Rbx and MBS of video, as the tables of the standards give them.

@@ -2,7 +2,7 @@ use Rattle.std.proofs.Common.{map, ◌≡◌, ◌++◌, ◌∙◌, ap, ap₂, Li
 use Rattle.std.specs.Prelude.{flat_map}
 use Rattle.demux.specs.Shown.{finding_view}
 use Rattle.job_inputs.specs.InputDrafts.{finished}
-use Rattle.stream_programs.specs.Association.{AssociationView}
+use Rattle.program_tables.specs.Association.{AssociationView}
 use Rattle.stream_programs.specs.Programs.{FoundProgramsView}
 use Rattle.given_values.specs.GivenNames.{ServiceNameView}
 use Rattle.job_programs.specs.JobOptions.{JobOptionsView}

@@ -1,6 +1,6 @@
 use Rattle.std.proofs.Common.{◌≡◌, ◌++◌, List, drop, flat_map}
 use Rattle.demux.specs.Views.{FindingView}
-use Rattle.stream_programs.specs.MapPlaces.{AreChanges}
+use Rattle.program_tables.specs.MapPlaces.{AreChanges}
 use Rattle.job_programs.specs.Warnings.{map_warnings}
 use Rattle.job_programs.proofs.warnings.push_each_map_warning.Given as goal
 

@@ -1,6 +1,6 @@
 use Rattle.std.proofs.Common.{◌≡◌, ◌∙◌, Some, None, sym, ap, rules}
-use Rattle.stream_coding.specs.declared.frames.UnitFrames.{UnitFrames}
-use Rattle.stream_coding.specs.Frames.{all_frames, unit_frames}
+use Rattle.sound_frames.specs.declared.frames.UnitFrames.{UnitFrames}
+use Rattle.sound_frames.specs.Frames.{all_frames, unit_frames}
 use Rattle.job_programs.proofs.FrameSums.{all_bytes, frames_more, frames_stop, frames_end}
 use Rattle.job_units.proofs.stream_measures.all_frames.Goals as goal
 

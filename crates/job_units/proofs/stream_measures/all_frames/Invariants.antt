@@ -1,5 +1,5 @@
 use Rattle.std.proofs.Common.{◌≡◌, length, map}
-use Rattle.stream_coding.specs.Frames.{no_frames, all_frames}
+use Rattle.sound_frames.specs.Frames.{no_frames, all_frames}
 use Rattle.job_units.proofs.stream_measures.all_frames.Given as goal
 
 abbrev pub invariant-loop-unit : goal.invariant-loop-unit

@@ -1,6 +1,6 @@
 use Rattle.laws_view.proofs.FirstWindows.{first_window_law}
-use Rattle.laws_view.proofs.HeldWindows.{timed_window_law}
-use Rattle.laws_view.proofs.RateWindows.{held_window_law}
+use Rattle.laws_view.proofs.HeldWindows.{timed_window_law, timed_without_law}
+use Rattle.laws_view.proofs.RateWindows.{held_window_law, rate_without_law}
 use Rattle.laws_view.proofs.WindowLows.{whole_window_law, window_least_law, window_low_law, window_without_law}
 use Rattle.laws_view.proofs.laws.window_lows.Goals as goal
 
@@ -19,8 +19,14 @@ returns-clause-without c = window_without_law
 pub returns-clause-timed : goal.returns-clause-timed
 returns-clause-timed c = timed_window_law
 
+pub returns-clause-timed_without : goal.returns-clause-timed_without
+returns-clause-timed_without c = timed_without_law
+
 pub returns-clause-first : goal.returns-clause-first
 returns-clause-first c = first_window_law
 
 pub returns-clause-report : goal.returns-clause-report
 returns-clause-report c = held_window_law
+
+pub returns-clause-report_without : goal.returns-clause-report_without
+returns-clause-report_without c = rate_without_law

@@ -12,8 +12,9 @@ fn push_long(demux: &mut Demux, start: bool, counter: u8) -> Result<(), DemuxErr
     push(demux, &packet)
 }
 
-// The first packet that brings it past 8,388,608 bytes cuts it short: 45,591 packets of 184 bytes.
-static TOO_LONG: [Row; 2] = [
+// The first packet that brings it past 8,388,608 bytes cuts it short: 45,591 packets of 184 bytes. Those that follow are
+// stray.
+static TOO_LONG: [Row; 11] = [
     (
         45_590,
         Some(257),
@@ -26,6 +27,15 @@ static TOO_LONG: [Row; 2] = [
             },
         )),
     ),
+    (45_591, Some(257), ("stray", [184, 0, 0]), None),
+    (45_592, Some(257), ("stray", [184, 0, 0]), None),
+    (45_593, Some(257), ("stray", [184, 0, 0]), None),
+    (45_594, Some(257), ("stray", [184, 0, 0]), None),
+    (45_595, Some(257), ("stray", [184, 0, 0]), None),
+    (45_596, Some(257), ("stray", [184, 0, 0]), None),
+    (45_597, Some(257), ("stray", [184, 0, 0]), None),
+    (45_598, Some(257), ("stray", [184, 0, 0]), None),
+    (45_599, Some(257), ("stray", [184, 0, 0]), None),
     (
         45_601,
         Some(257),

@@ -35,6 +35,7 @@ fn said<A: Allocator>(what: &What<'_, A>) -> Said {
         What::BadPes(error) => ("bad pes", [u64::from(error.code()), 0, 0]),
         What::BadPacket(error) => ("bad packet", [u64::from(error.code()), 0, 0]),
         What::Errored => ("errored", [0; 3]),
+        What::Stray(size) => ("stray", [*size as u64, 0, 0]),
     }
 }
 

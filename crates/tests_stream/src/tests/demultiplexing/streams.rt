@@ -154,7 +154,7 @@ const BREAK: Row = (2, Some(256), ("counter", [1, 0, 0]), None);
 /// A stream: its packets, the bytes cut off its end, and its findings.
 pub type Stream = (&'static [Packet], usize, &'static [Row]);
 
-pub static STREAMS: [Stream; 7] = [
+pub static STREAMS: [Stream; 8] = [
     // The worked packet, the same again, the same with another last byte, and 100 bytes of one more.
     (
         &[PES, PES, OTHER, PES],
@@ -289,6 +289,22 @@ pub static STREAMS: [Stream; 7] = [
                     },
                 )),
             ),
+        ],
+    ),
+    // Payload that goes on where nothing has begun, and after a loss.
+    (
+        &[MORE, PAT, SECOND],
+        0,
+        &[
+            (0, Some(257), ("stray", [184, 0, 0]), None),
+            (
+                1,
+                Some(0),
+                ("section", [16, 0, 0]),
+                Some((1, Kind::Table(0))),
+            ),
+            (2, Some(0), ("counter", [1, 2, 0]), None),
+            (2, Some(0), ("stray", [184, 0, 0]), None),
         ],
     ),
 ];

@@ -169,6 +169,7 @@ fn copied_what(alloc: Global, what: &What<'_>) -> Result<What<'static>, AllocErr
         What::BadPes(error) => What::BadPes(*error),
         What::BadPacket(error) => What::BadPacket(*error),
         What::Errored => What::Errored,
+        What::Stray(size) => What::Stray(*size),
     })
 }
 

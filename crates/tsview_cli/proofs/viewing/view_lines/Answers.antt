@@ -1,5 +1,5 @@
 use Rattle.std.proofs.Common.{◌≡◌, ◌∙◌, ◌++◌, ℕ, List, ap, string_bytes}
-use Rattle.events.specs.EventLines.{lines_of}
+use Rattle.event_lines.specs.EventLines.{lines_of}
 use Rattle.events.specs.declared.event.Event.{Event}
 use Rattle.tsview_cli.specs.CapturedStreams.{IsMore, after_parts, events_of}
 use Rattle.tsview_cli.specs.Viewing.{Shows}

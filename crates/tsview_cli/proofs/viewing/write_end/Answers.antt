@@ -1,6 +1,6 @@
 use Rattle.std.proofs.Common.{◌≡◌, ◌∙◌, ◌++◌, ℕ, List, ap, string_bytes}
 use Rattle.capture.specs.Captures.{capture_of}
-use Rattle.events.specs.EventLines.{lines_of}
+use Rattle.event_lines.specs.EventLines.{lines_of}
 use Rattle.tsview_cli.specs.CapturedStreams.{IsEnded, after_parts, events_of, last_events, left_in, parts_in}
 use Rattle.tsview_cli.proofs.viewing.write_end.Goals as goal
 

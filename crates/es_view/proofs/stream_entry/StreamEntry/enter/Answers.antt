@@ -1,7 +1,7 @@
 use Rattle.std.proofs.Common.{◌≡◌, ◌∙◌, ℕ, Bool, List, ◌++◌, Option, None, refl, ap, ap₂, subst}
 use Rattle.std.specs.Prelude.{unwrap_or}
 use Rattle.ts_packet.specs.Views.{packet_view}
-use Rattle.stream_coding.specs.FrameWalks.{WalkView, walk_after}
+use Rattle.sound_frames.specs.FrameWalks.{WalkView, walk_after}
 use Rattle.tstd_rows.specs.Entering.{after}
 use Rattle.tstd_rows.specs.EnteringVideo.{video_of, video_unit_of}
 use Rattle.tstd_rows.specs.HeldVideo.{HoldsVideoOf}

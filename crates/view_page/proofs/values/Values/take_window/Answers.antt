@@ -28,4 +28,6 @@ returns c = λ kept a.
       slacks = a.slacks;
       intervals = a.intervals;
       inaccuracies = a.inaccuracies;
+      drifts = a.drifts;
+      greatest_drift = a.greatest_drift;
     }) (c.take.ensures (opened c.window.inside.pid c.name_of-name.result 0 kept.rates) (c.in_ok-open.ensures kept.rates a.rates))

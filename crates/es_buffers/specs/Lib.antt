@@ -1,0 +1,3 @@
+pub mod Video
+pub mod Buffers
+pub mod Stays

@@ -1,0 +1,199 @@
+-- The line of each event (docs/VIEW.md): its word and its fields, in this order.
+use Rattle.std.specs.Prelude.{ℕ, Bool, List, [], ◌∷◌, ◌++◌, codes, flat_map, Option, Some, None}
+use Rattle.events.specs.declared.event.BufferExcess.{BufferExcess}
+use Rattle.events.specs.declared.event.ClockFault.{ClockFault}
+use Rattle.events.specs.declared.event.ClockTotals.{ClockTotals}
+use Rattle.events.specs.declared.event.Event.{Event}
+use Rattle.events.specs.declared.event.Event.TheVariants.{Input, Stream, Window, Held, Units, Excess, MainExcess, MultiplexingExcess, ElementaryExcess}
+use Rattle.events.specs.declared.event.Event.TheVariants.{SystemExcess, SystemMainExcess, Late, ElementaryLate, Ahead, PcrRepetition, PcrDiscontinuity}
+use Rattle.events.specs.declared.event.Event.TheVariants.{PcrAccuracy, TableRepetition, Unclocked, Refused, Continuity, CheckWord, Transport, Main}
+use Rattle.events.specs.declared.event.Event.TheVariants.{Multiplexing, Elementary, Marks, System, Clock, Table, Pid, Unreferenced, Missing, Check, End, Rule}
+use Rattle.events.specs.declared.event.Event.TheVariants.{Summary}
+use Rattle.events.specs.declared.event.FarAhead.{FarAhead}
+use Rattle.events.specs.declared.event.HeldFigures.{HeldFigures}
+use Rattle.events.specs.declared.event.LateUnit.{LateUnit}
+use Rattle.events.specs.declared.event.MainTotals.{MainTotals}
+use Rattle.events.specs.declared.event.PidTotals.{PidTotals}
+use Rattle.events.specs.declared.event.ProgramExcess.{ProgramExcess}
+use Rattle.events.specs.declared.event.ReportEnd.{ReportEnd}
+use Rattle.events.specs.declared.event.StreamBegin.{StreamBegin}
+use Rattle.events.specs.declared.event.SystemTotals.{SystemTotals}
+use Rattle.events.specs.declared.event.TableFault.{TableFault}
+use Rattle.events.specs.declared.event.TableTotals.{TableTotals}
+use Rattle.events.specs.declared.event.TransportTotals.{TransportTotals}
+use Rattle.events.specs.declared.event.UnclockedPackets.{UnclockedPackets}
+use Rattle.events.specs.declared.event.UnitFigures.{UnitFigures}
+use Rattle.events.specs.declared.timed_event.TimedEvent.{TimedEvent}
+use Rattle.event_lines.specs.FaultLines.{check_word_line, continuity_line, refused_line}
+use Rattle.events.specs.Faults.{fault_of}
+use Rattle.event_lines.specs.FieldViews.{FieldView}
+use Rattle.event_lines.specs.InputLines.{input_line}
+use Rattle.event_lines.specs.MarkLines.{marks_line}
+use Rattle.events.specs.PidNames.{line_word}
+use Rattle.event_lines.specs.ReportLines.{field_text, first_text, last_text, line_of, name_text, number_field, quoted, word_field}
+use Rattle.event_lines.specs.RuleLines.{rule_line}
+use Rattle.event_lines.specs.SummaryLines.{check_line, fault_time, summary_line}
+use Rattle.event_lines.specs.VideoLines.{elementary_late_line, elementary_line, multiplexing_line}
+use Rattle.events.specs.Windows.{WindowView}
+
+-- 1. What comes of a PID in a window
+
+-- `program N coding WORD`, or `coding WORD` of what is of no program
+unfoldable pub program_text : Bool → Option ℕ → List ℕ
+program_text json None = []
+program_text json (Some program) = field_text json (number_field (codes "program") program)
+
+-- `service "NAME"` of a program whose service has a name
+unfoldable pub service_text : Bool → Option (List ℕ) → List ℕ
+service_text json None = []
+service_text json (Some name) = name_text json (codes "service") ++ quoted name
+
+abbrev pub count_fields : WindowView → List FieldView
+count_fields w =
+    number_field (codes "number") w.number ∷ number_field (codes "pid") w.pid ∷ number_field (codes "packets") w.packets
+    ∷ number_field (codes "pcrs") w.pcrs ∷ number_field (codes "rate") w.rate ∷ []
+
+abbrev pub label_text : Bool → WindowView → List ℕ
+label_text json w = program_text json w.program ++ (field_text json (word_field (codes "coding") (line_word w.coding)) ++ service_text json w.service)
+
+abbrev pub window_line : Bool → WindowView → List ℕ
+window_line json w = first_text json (codes "window") ++ (flat_map (field_text json) (count_fields w) ++ label_text json w)
+
+-- 2. What else is found
+
+abbrev pub stream_line : Bool → StreamBegin → List ℕ
+stream_line json e = line_of json (codes "stream")
+    (number_field (codes "pid") e.pid ∷ number_field (codes "program") e.program ∷ number_field (codes "type") e.stream_type
+    ∷ word_field (codes "coding") (line_word e.coding) ∷ number_field (codes "rx") e.rx ∷ number_field (codes "main") e.main
+    ∷ number_field (codes "packet") e.packet ∷ [])
+
+abbrev pub excess_line : Bool → List ℕ → BufferExcess → List ℕ
+excess_line json word e = line_of json word
+    (number_field (codes "pid") e.pid ∷ number_field (codes "packet") e.packet ∷ number_field (codes "begin") e.begin
+    ∷ number_field (codes "end") e.end ∷ number_field (codes "peak") e.peak ∷ number_field (codes "size") e.size ∷ [])
+
+abbrev pub program_excess_line : Bool → List ℕ → ProgramExcess → List ℕ
+program_excess_line json word e = line_of json word
+    (number_field (codes "program") e.program ∷ number_field (codes "packet") e.packet ∷ number_field (codes "begin") e.begin
+    ∷ number_field (codes "end") e.end ∷ number_field (codes "peak") e.peak ∷ number_field (codes "size") e.size ∷ [])
+
+abbrev pub late_line : Bool → LateUnit → List ℕ
+late_line json e = line_of json (codes "late")
+    (number_field (codes "pid") e.pid ∷ number_field (codes "packet") e.packet ∷ number_field (codes "due") e.due
+    ∷ number_field (codes "left") e.left ∷ number_field (codes "by") e.by ∷ number_field (codes "bytes") e.bytes ∷ [])
+
+abbrev pub ahead_line : Bool → FarAhead → List ℕ
+ahead_line json e = line_of json (codes "ahead")
+    (number_field (codes "pid") e.pid ∷ number_field (codes "packet") e.packet ∷ number_field (codes "by") e.by
+    ∷ number_field (codes "limit") e.limit ∷ [])
+
+abbrev pub clock_fault_line : Bool → List ℕ → ClockFault → List ℕ
+clock_fault_line json word e = line_of json word
+    (number_field (codes "pid") e.pid ∷ number_field (codes "packet") e.packet ∷ number_field (codes "value") e.value
+    ∷ number_field (codes "limit") e.limit ∷ [])
+
+abbrev pub table_fault_line : Bool → TableFault → List ℕ
+table_fault_line json e = line_of json (codes "table_repetition")
+    (number_field (codes "pid") e.pid ∷ number_field (codes "table") e.table ∷ number_field (codes "packet") e.packet
+    ∷ number_field (codes "value") e.value ∷ number_field (codes "limit") e.limit ∷ [])
+
+abbrev pub unclocked_line : Bool → UnclockedPackets → List ℕ
+unclocked_line json e = line_of json (codes "unclocked")
+    (number_field (codes "packet") e.packet ∷ number_field (codes "packets") e.packets ∷ [])
+
+abbrev pub held_line : Bool → HeldFigures → List ℕ
+held_line json e = line_of json (codes "held")
+    (number_field (codes "number") e.number ∷ number_field (codes "pid") e.pid ∷ number_field (codes "transport") e.transport
+    ∷ number_field (codes "main") e.main ∷ number_field (codes "main_least") e.main_least ∷ [])
+
+abbrev pub units_line : Bool → UnitFigures → List ℕ
+units_line json e = line_of json (codes "units")
+    (number_field (codes "number") e.number ∷ number_field (codes "pid") e.pid ∷ number_field (codes "units") e.units
+    ∷ number_field (codes "late") e.late ∷ number_field (codes "slack") e.slack ∷ [])
+
+abbrev pub transport_line : Bool → TransportTotals → List ℕ
+transport_line json e = line_of json (codes "transport")
+    (number_field (codes "pid") e.pid ∷ number_field (codes "most") e.most ∷ number_field (codes "size") e.size
+    ∷ number_field (codes "excesses") e.excesses ∷ [])
+
+abbrev pub main_line : Bool → MainTotals → List ℕ
+main_line json e = line_of json (codes "main")
+    (number_field (codes "pid") e.pid ∷ number_field (codes "most") e.most ∷ number_field (codes "size") e.size
+    ∷ number_field (codes "excesses") e.excesses ∷ number_field (codes "units") e.units ∷ number_field (codes "late") e.late
+    ∷ number_field (codes "unread") e.unread ∷ [])
+
+abbrev pub system_line : Bool → SystemTotals → List ℕ
+system_line json e = line_of json (codes "system")
+    (number_field (codes "program") e.program ∷ number_field (codes "transport") e.transport
+    ∷ number_field (codes "transport_size") e.transport_size ∷ number_field (codes "transport_excesses") e.transport_excesses
+    ∷ number_field (codes "main") e.main ∷ number_field (codes "main_size") e.main_size ∷ number_field (codes "main_excesses") e.main_excesses ∷ [])
+
+abbrev pub clock_line : Bool → ClockTotals → List ℕ
+clock_line json e = line_of json (codes "clock")
+    (number_field (codes "pid") e.pid ∷ number_field (codes "references") e.references ∷ number_field (codes "announced") e.announced
+    ∷ number_field (codes "rate") e.rate ∷ number_field (codes "interval") e.interval ∷ number_field (codes "inaccuracy") e.inaccuracy ∷ [])
+
+abbrev pub table_line : Bool → TableTotals → List ℕ
+table_line json e = line_of json (codes "table")
+    (number_field (codes "pid") e.pid ∷ number_field (codes "table") e.table ∷ number_field (codes "sections") e.sections
+    ∷ number_field (codes "interval") e.interval ∷ number_field (codes "packet") e.packet ∷ number_field (codes "limit") e.limit ∷ [])
+
+abbrev pub pid_line : Bool → PidTotals → List ℕ
+pid_line json e = line_of json (codes "pid")
+    (number_field (codes "number") e.number ∷ number_field (codes "packets") e.packets ∷ number_field (codes "pcrs") e.pcrs ∷ [])
+
+abbrev pub end_line : Bool → ReportEnd → List ℕ
+end_line json e = line_of json (codes "end")
+    (number_field (codes "packets") e.packets ∷ number_field (codes "refused") e.refused ∷ number_field (codes "left") e.left ∷ [])
+
+-- of a PID alone
+abbrev pub reference_line : Bool → List ℕ → ℕ → List ℕ
+reference_line json word pid = line_of json word (number_field (codes "pid") pid ∷ [])
+
+-- 3. Any event, and events one after another
+
+unfoldable pub event_line : Bool → Event → List ℕ
+event_line json (Input e) = input_line json e
+event_line json (Stream e) = stream_line json e
+event_line json (Window w) = window_line json w
+event_line json (Held e) = held_line json e
+event_line json (Units e) = units_line json e
+event_line json (Excess e) = excess_line json (codes "excess") e
+event_line json (MainExcess e) = excess_line json (codes "main_excess") e
+event_line json (MultiplexingExcess e) = excess_line json (codes "multiplexing_excess") e
+event_line json (ElementaryExcess e) = excess_line json (codes "elementary_excess") e
+event_line json (SystemExcess e) = program_excess_line json (codes "system_excess") e
+event_line json (SystemMainExcess e) = program_excess_line json (codes "system_main_excess") e
+event_line json (Late e) = late_line json e
+event_line json (ElementaryLate e) = elementary_late_line json e
+event_line json (Ahead e) = ahead_line json e
+event_line json (PcrRepetition e) = clock_fault_line json (codes "pcr_repetition") e
+event_line json (PcrDiscontinuity e) = clock_fault_line json (codes "pcr_discontinuity") e
+event_line json (PcrAccuracy e) = clock_fault_line json (codes "pcr_accuracy") e
+event_line json (TableRepetition e) = table_fault_line json e
+event_line json (Unclocked e) = unclocked_line json e
+event_line json (Refused e) = refused_line json e
+event_line json (Continuity e) = continuity_line json e
+event_line json (CheckWord e) = check_word_line json e
+event_line json (Transport e) = transport_line json e
+event_line json (Main e) = main_line json e
+event_line json (Multiplexing e) = multiplexing_line json e
+event_line json (Elementary e) = elementary_line json e
+event_line json (Marks e) = marks_line json e
+event_line json (System e) = system_line json e
+event_line json (Clock e) = clock_line json e
+event_line json (Table e) = table_line json e
+event_line json (Pid e) = pid_line json e
+event_line json (Unreferenced pid) = reference_line json (codes "unreferenced") pid
+event_line json (Missing pid) = reference_line json (codes "missing") pid
+event_line json (Check e) = check_line json e
+event_line json (End e) = end_line json e
+event_line json (Rule e) = rule_line json e
+event_line json (Summary e) = summary_line json e
+
+-- and when it is, of a fault
+abbrev pub timed_line : Bool → TimedEvent → List ℕ
+timed_line json e = event_line json e.event ++ (fault_time json (fault_of e.event e.at) ++ last_text json)
+
+abbrev pub lines_of : Bool → List TimedEvent → List ℕ
+lines_of json events = flat_map (timed_line json) events

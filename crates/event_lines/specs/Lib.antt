@@ -1,0 +1,11 @@
+pub mod FieldViews
+pub mod ReportLines
+pub mod VerdictTexts
+pub mod FaultLines
+pub mod VideoLines
+pub mod InputLines
+pub mod TraceLines
+pub mod RuleLines
+pub mod SummaryLines
+pub mod MarkLines
+pub mod EventLines

@@ -1,0 +1,108 @@
+//! An event as a line, plain or as a JSON object.
+ghost use Rattle.std.specs.Prelude.{◌≡◌, ◌++◌, OnOk, string_bytes};
+ghost use Rattle.event_lines.specs.EventLines as spec;
+
+use crate::fault_lines::{write_check_word, write_continuity, write_refused};
+use crate::figure_lines::{
+    write_clock, write_end, write_held, write_main, write_pid, write_system, write_table,
+    write_transport, write_units,
+};
+use crate::input_lines::write_input;
+use crate::lines::{number, write_last, write_line};
+use crate::mark_lines::write_marks;
+use crate::packet_lines::{
+    write_ahead, write_clock_fault, write_excess, write_late, write_program_excess, write_stream,
+    write_table_fault, write_unclocked,
+};
+use crate::rule_lines::write_rule;
+use crate::summary_lines::{write_check, write_fault_time, write_summary};
+use crate::video_lines::{write_elementary, write_elementary_late, write_multiplexing};
+use crate::window_line::write_window;
+use events::{Event, TimedEvent, fault_of};
+use std::alloc::{AllocError, Global};
+
+fn write_reference(text: &mut String, json: bool, word: &str, pid: u16) -> Result<(), AllocError>
+    ensures { OnOk result (string_bytes text.new ≡ string_bytes text.old ++ spec.reference_line json word.now pid) }
+{
+    let fields = [number("pid", u128::from(pid))];
+    write_line(text, json, word, &fields)
+}
+
+#[tactic(auto, unfolding(crate::specs::EventLines::event_line))]
+fn write_event(
+    alloc: Global,
+    text: &mut String,
+    json: bool,
+    event: &Event,
+) -> Result<(), AllocError>
+    ensures { OnOk result (string_bytes text.new ≡ string_bytes text.old ++ spec.event_line json event.now) }
+{
+    match event {
+        Event::Input(e) => write_input(text, json, e),
+        Event::Stream(e) => write_stream(text, json, e),
+        Event::Window(window) => write_window(alloc, text, json, window),
+        Event::Held(e) => write_held(text, json, e),
+        Event::Units(e) => write_units(text, json, e),
+        Event::Excess(e) => write_excess(text, json, "excess", e),
+        Event::MainExcess(e) => write_excess(text, json, "main_excess", e),
+        Event::MultiplexingExcess(e) => write_excess(text, json, "multiplexing_excess", e),
+        Event::ElementaryExcess(e) => write_excess(text, json, "elementary_excess", e),
+        Event::SystemExcess(e) => write_program_excess(text, json, "system_excess", e),
+        Event::SystemMainExcess(e) => write_program_excess(text, json, "system_main_excess", e),
+        Event::Late(e) => write_late(text, json, e),
+        Event::ElementaryLate(e) => write_elementary_late(text, json, e),
+        Event::Ahead(e) => write_ahead(text, json, e),
+        Event::PcrRepetition(e) => write_clock_fault(text, json, "pcr_repetition", e),
+        Event::PcrDiscontinuity(e) => write_clock_fault(text, json, "pcr_discontinuity", e),
+        Event::PcrAccuracy(e) => write_clock_fault(text, json, "pcr_accuracy", e),
+        Event::TableRepetition(e) => write_table_fault(text, json, e),
+        Event::Unclocked(e) => write_unclocked(text, json, e),
+        Event::Refused(e) => write_refused(text, json, e),
+        Event::Continuity(e) => write_continuity(text, json, e),
+        Event::CheckWord(e) => write_check_word(text, json, e),
+        Event::Transport(e) => write_transport(text, json, e),
+        Event::Main(e) => write_main(text, json, e),
+        Event::Multiplexing(e) => write_multiplexing(text, json, e),
+        Event::Elementary(e) => write_elementary(text, json, e),
+        Event::Marks(e) => write_marks(text, json, e),
+        Event::System(e) => write_system(text, json, e),
+        Event::Clock(e) => write_clock(text, json, e),
+        Event::Table(e) => write_table(text, json, e),
+        Event::Pid(e) => write_pid(text, json, e),
+        Event::Unreferenced(pid) => write_reference(text, json, "unreferenced", *pid),
+        Event::Missing(pid) => write_reference(text, json, "missing", *pid),
+        Event::Check(e) => write_check(text, json, e),
+        Event::End(e) => write_end(text, json, e),
+        Event::Rule(e) => write_rule(text, json, e),
+        Event::Summary(e) => write_summary(text, json, e),
+    }
+}
+
+// Appends the line of an event: when a fault is comes last.
+fn write_timed(
+    alloc: Global,
+    text: &mut String,
+    json: bool,
+    e: &TimedEvent,
+) -> Result<(), AllocError>
+    ensures { OnOk result (string_bytes text.new ≡ string_bytes text.old ++ spec.timed_line json e.now) }
+{
+    write_event(alloc, text, json, &e.event)?;
+    write_fault_time(text, json, &fault_of(&e.event, e.at))?;
+    write_last(text, json)
+}
+
+/// Appends the lines of events, each a JSON object if `json`, else plain.
+pub fn write_events(
+    alloc: Global,
+    text: &mut String,
+    json: bool,
+    events: &[TimedEvent],
+) -> Result<(), AllocError>
+    ensures { OnOk result (string_bytes text.new ≡ string_bytes text.old ++ spec.lines_of json events.now) }
+{
+    for event in events {
+        write_timed(alloc, text, json, event)?;
+    }
+    Ok(())
+}

@@ -1,0 +1,223 @@
+//! The lines of what the faults of a stream come to, of the checks of ETSI TR 101 290, and of the verdict.
+ghost use Rattle.std.specs.Prelude.{◌≡◌, ◌++◌, OnOk, flat_map, string_bytes};
+ghost use Rattle.event_lines.specs.ReportLines.{field_text};
+ghost use Rattle.event_lines.specs.SummaryLines as spec;
+
+use crate::lines::{number, seconds, word, write_field, write_fields, write_first};
+use crate::verdict_text::write_verdict_text;
+use events::{
+    CheckTotals, Fault, FaultCount, FaultSource, FaultTotals, Measured, SummaryEvent, Untold,
+    Verdict,
+};
+use std::alloc::AllocError;
+
+// Appends a moment in seconds, if it is known.
+#[tactic(auto, unfolding(crate::specs::SummaryLines::moment_text))]
+fn write_moment(
+    text: &mut String,
+    json: bool,
+    name: &'static str,
+    moment: Option<u128>,
+) -> Result<(), AllocError>
+    ensures { OnOk result (string_bytes text.new ≡ string_bytes text.old ++ spec.moment_text json name.now moment) }
+{
+    match moment {
+        None => Ok(()),
+        Some(ticks) => write_field(text, json, &seconds(name, ticks)),
+    }
+}
+
+fn write_times(
+    text: &mut String,
+    json: bool,
+    from: Option<u128>,
+    to: Option<u128>,
+) -> Result<(), AllocError>
+    ensures { OnOk result (string_bytes text.new ≡ string_bytes text.old ++ spec.times_text json from to) }
+{
+    write_moment(text, json, "from", from)?;
+    write_moment(text, json, "to", to)
+}
+
+#[tactic(auto, unfolding(crate::specs::SummaryLines::span_text))]
+fn write_span(
+    text: &mut String,
+    json: bool,
+    from: Option<u128>,
+    to: Option<u128>,
+) -> Result<(), AllocError>
+    ensures { OnOk result (string_bytes text.new ≡ string_bytes text.old ++ spec.span_text json from to) }
+{
+    match (from, to) {
+        (Some(from), Some(to)) => {
+            if from == to {
+                write_moment(text, json, "at", Some(from))
+            } else {
+                write_times(text, json, Some(from), Some(to))
+            }
+        }
+        _ => Ok(()),
+    }
+}
+
+/// Appends when a fault is: a moment, or from when to when, in seconds.
+#[tactic(auto, unfolding(crate::specs::SummaryLines::fault_time))]
+pub(crate) fn write_fault_time(
+    text: &mut String,
+    json: bool,
+    fault: &Option<Fault>,
+) -> Result<(), AllocError>
+    ensures { OnOk result (string_bytes text.new ≡ string_bytes text.old ++ spec.fault_time json fault.now) }
+{
+    match fault {
+        None => Ok(()),
+        Some(fault) => write_span(text, json, fault.from, fault.to),
+    }
+}
+
+fn write_table(text: &mut String, json: bool, pid: u16, table: u8) -> Result<(), AllocError>
+    ensures { OnOk result (string_bytes text.new
+        ≡ string_bytes text.old ++ flat_map (field_text json) (spec.table_fields pid table)) }
+{
+    let fields = [
+        number("pid", u128::from(pid)),
+        number("table", u128::from(table)),
+    ];
+    write_fields(text, json, &fields)
+}
+
+#[tactic(auto, unfolding(crate::specs::SummaryLines::source_text))]
+fn write_source(text: &mut String, json: bool, source: FaultSource) -> Result<(), AllocError>
+    ensures { OnOk result (string_bytes text.new ≡ string_bytes text.old ++ spec.source_text json source) }
+{
+    match source {
+        FaultSource::Whole => Ok(()),
+        FaultSource::Stream(pid) => write_field(text, json, &number("pid", u128::from(pid))),
+        FaultSource::Program(program) => {
+            write_field(text, json, &number("program", u128::from(program)))
+        }
+        FaultSource::Table(pid, table) => write_table(text, json, pid, table),
+    }
+}
+
+fn write_count(
+    text: &mut String,
+    json: bool,
+    name: &'static str,
+    count: &FaultCount,
+) -> Result<(), AllocError>
+    ensures { OnOk result (string_bytes text.new
+        ≡ string_bytes text.old ++ flat_map (field_text json) (spec.count_fields name.now count.now)) }
+{
+    let fields = [
+        number(name, u128::from(count.faults)),
+        number("first", u128::from(count.first)),
+        number("last", u128::from(count.last)),
+    ];
+    write_fields(text, json, &fields)
+}
+
+fn write_limit(text: &mut String, json: bool, worst: &Measured) -> Result<(), AllocError>
+    ensures { OnOk result (string_bytes text.new
+        ≡ string_bytes text.old ++ flat_map (field_text json) (spec.limit_fields worst.now)) }
+{
+    let fields = [
+        number("worst", worst.value),
+        number("limit", u128::from(worst.limit)),
+    ];
+    write_fields(text, json, &fields)
+}
+
+#[tactic(auto, unfolding(crate::specs::SummaryLines::worst_text))]
+fn write_worst(text: &mut String, json: bool, worst: &Option<Measured>) -> Result<(), AllocError>
+    ensures { OnOk result (string_bytes text.new ≡ string_bytes text.old ++ spec.worst_text json worst.now) }
+{
+    match worst {
+        None => Ok(()),
+        Some(worst) => write_limit(text, json, worst),
+    }
+}
+
+// Appends `faults`.
+fn write_faults(text: &mut String, json: bool, e: &FaultTotals) -> Result<(), AllocError>
+    ensures { OnOk result (string_bytes text.new ≡ string_bytes text.old ++ spec.faults_line json e.now) }
+{
+    write_first(text, json, "faults")?;
+    write_field(text, json, &word("kind", e.kind.word()))?;
+    write_source(text, json, e.source)?;
+    write_count(text, json, "count", &e.count)?;
+    write_worst(text, json, &e.worst)?;
+    write_times(text, json, e.count.from, e.count.to)
+}
+
+#[tactic(auto, unfolding(crate::specs::SummaryLines::untold_word))]
+fn untold_word(reason: Untold) -> &'static str
+    ensures { result.now ≡ spec.untold_word reason }
+{
+    match reason {
+        Untold::NoClock => "no_clock",
+        Untold::VariableRate => "variable_rate",
+    }
+}
+
+fn write_check_name(text: &mut String, json: bool, e: &CheckTotals) -> Result<(), AllocError>
+    ensures { OnOk result (string_bytes text.new
+        ≡ string_bytes text.old ++ flat_map (field_text json) (spec.check_fields e.now)) }
+{
+    let fields = [
+        word("number", e.check.number()),
+        word("name", e.check.name()),
+    ];
+    write_fields(text, json, &fields)
+}
+
+fn write_counted(text: &mut String, json: bool, count: &FaultCount) -> Result<(), AllocError>
+    ensures { OnOk result (string_bytes text.new ≡ string_bytes text.old ++ spec.counted_text json count.now) }
+{
+    write_count(text, json, "faults", count)?;
+    write_times(text, json, count.from, count.to)
+}
+
+#[tactic(auto, unfolding(crate::specs::SummaryLines::result_text))]
+fn write_result(text: &mut String, json: bool, e: &CheckTotals) -> Result<(), AllocError>
+    ensures { OnOk result (string_bytes text.new ≡ string_bytes text.old ++ spec.result_text json e.now.count e.now.untold) }
+{
+    match e.untold {
+        None => write_counted(text, json, &e.count),
+        Some(reason) => write_field(text, json, &word("untold", untold_word(reason))),
+    }
+}
+
+/// Appends `check`.
+pub(crate) fn write_check(text: &mut String, json: bool, e: &CheckTotals) -> Result<(), AllocError>
+    ensures { OnOk result (string_bytes text.new ≡ string_bytes text.old ++ spec.check_line json e.now) }
+{
+    write_first(text, json, "check")?;
+    write_check_name(text, json, e)?;
+    write_result(text, json, e)
+}
+
+// Appends `verdict`.
+fn write_verdict(text: &mut String, json: bool, e: &Verdict) -> Result<(), AllocError>
+    ensures { OnOk result (string_bytes text.new ≡ string_bytes text.old ++ spec.verdict_line json e.now) }
+{
+    write_first(text, json, "verdict")?;
+    text.push_str(if json { ",\"text\":\"" } else { " " })?;
+    write_verdict_text(text, e)?;
+    text.push_str(if json { "\"" } else { "" })
+}
+
+/// Appends the line of what a stream comes to.
+#[tactic(auto, unfolding(crate::specs::SummaryLines::summary_line))]
+pub(crate) fn write_summary(
+    text: &mut String,
+    json: bool,
+    event: &SummaryEvent,
+) -> Result<(), AllocError>
+    ensures { OnOk result (string_bytes text.new ≡ string_bytes text.old ++ spec.summary_line json event.now) }
+{
+    match event {
+        SummaryEvent::Faults(e) => write_faults(text, json, e),
+        SummaryEvent::Verdict(e) => write_verdict(text, json, e),
+    }
+}

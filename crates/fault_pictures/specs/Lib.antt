@@ -1,0 +1,4 @@
+pub mod Points
+pub mod Pictures
+pub mod PictureTexts
+pub mod TracePictures

@@ -1,0 +1,13 @@
+//! Pictures of buffers around their greatest excesses, drawn while events arrive.
+//!
+//! - [`TracePictures`]: takes events (`TracePictures::take`), and writes the pictures at the end
+//!   (`TracePictures::write`), each with its numbers as a table.
+//!
+//! `points` draws a packet, `pictures` what is around all packets of a buffer.
+#![tactic(auto)]
+
+mod pictures;
+mod points;
+mod trace_pictures;
+
+pub use trace_pictures::TracePictures;

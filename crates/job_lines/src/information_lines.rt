@@ -1,0 +1,33 @@
+//! The lines of warnings about service information.
+
+ghost use Rattle.std.specs.Prelude.{◌≡◌, ◌++◌, OnOk, string_bytes};
+ghost use Rattle.job_lines.specs.InformationLines as spec;
+
+use service_information::InformationWarning;
+use std::alloc::AllocError;
+use std::fmt::Write;
+
+/// Appends the line of a warning.
+#[tactic(auto, unfolding(crate::specs::InformationLines::information_line))]
+pub(crate) fn write_information(
+    warning: InformationWarning,
+    text: &mut String,
+) -> Result<(), AllocError>
+    ensures { OnOk result (string_bytes text.new ≡ string_bytes text.old ++ spec.information_line warning) }
+{
+    match warning {
+        InformationWarning::EventSurplus { packet } => write!(
+            text,
+            "packet {packet} EIT says more than names, texts and times of events: left out\n"
+        ),
+        InformationWarning::EventTexts => text.push_str(
+            "text of an event is too long, or has characters that cannot be read\n",
+        ),
+        InformationWarning::TimeSurplus { packet } => {
+            write!(text, "packet {packet} TDT says no time: left out\n")
+        }
+        InformationWarning::BadSection { pid, packet } => {
+            write!(text, "packet {packet} pid {pid} bad-section\n")
+        }
+    }
+}

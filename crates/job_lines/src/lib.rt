@@ -1,0 +1,29 @@
+//! Lines of a job: what is left out, changed or refused.
+//!
+//! `Reporting` says which lines are reported: all, those that say of a loss, or refusals alone. There is a line for each
+//! thing that is left out or changed, and a line for a refusal; `specs/` has the text of each:
+//!
+//! - `slip_lines`: packets that are not in step or have another size.
+//! - `field_lines`: fields that are not written again.
+//! - `table_lines`: tables that no job is made of.
+//! - `warning_lines`: the warnings of a job; `information_lines`: of its service information.
+//! - `refusal_line`: a stream that is refused.
+//! - `input_lines`: an input, if there are several.
+#![tactic(auto)]
+
+mod field_lines;
+mod information_lines;
+mod input_lines;
+mod refusal_line;
+mod reporting;
+mod slip_lines;
+mod table_lines;
+mod warning_lines;
+
+pub use field_lines::{are_needed, told_fields, write_fields};
+pub use input_lines::{are_lost, write_input, write_notes};
+pub use refusal_line::write_refusal;
+pub use reporting::Reporting;
+pub use slip_lines::{write_packets, write_slips};
+pub use table_lines::{are_missed, told_tables, write_other_tables};
+pub use warning_lines::{is_damaged, told_warnings, write_warnings};

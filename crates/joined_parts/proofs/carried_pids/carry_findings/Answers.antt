@@ -1,0 +1,17 @@
+use Rattle.std.proofs.Common.{◌∙◌, ap, map, sym, arith}
+use Rattle.demux.specs.Shown.{finding_view}
+use Rattle.joined_parts.specs.Recodings.{carried}
+use Rattle.joined_parts.proofs.MovedFindings.{changed_more, changed_whole}
+use Rattle.joined_parts.proofs.carried_pids.carry_findings.Goals as goal
+
+pub loop-finding-preserved : goal.loop-finding-preserved
+loop-finding-preserved c =
+    changed_more finding_view (carried c.args.recodings.now) c.loop-finding.findings c.loop-finding.finding-index c.finding-item.result
+    c.carry_finding.new.finding (map (carried c.args.recodings.now) (map finding_view c.args.findings.now)) (omega arith) c.finding-item.is
+    (c.in_ok-carry_finding.ensures ∙ ap (λ (f : _). carried c.args.recodings.now (finding_view f)) (sym c.finding-item.is)) c.loop-finding.invariant
+
+pub returns : goal.returns
+returns c =
+    changed_whole finding_view (carried c.args.recodings.now) c.loop-finding.findings c.loop-finding.finding-index
+    (map (carried c.args.recodings.now) (map finding_view c.args.findings.now))
+    (omega (arith, c.loop-finding-test.false, c.loop-finding.auto.finding-index-end)) c.loop-finding.invariant

@@ -1,0 +1,319 @@
+-- Each section of what a multiplexer wrote is of a table that belongs on its PID.
+use Rattle.std.proofs.Common.{◌≡◌, ◌∙◌, ℕ, ◌+◌, ◌-◌, ◌*◌, ◌/◌, ◌^◌, ◌≤◌, ◌<◌, ◌==◌, Bool, true, false, cond, List, [], ◌∷◌, ◌++◌, length, take, drop, map, filter, nat_le}
+use Rattle.std.proofs.Common.{slice_get, inl, inr, Option, Some, None, refl, sym, ap, ap₂, subst, arith, All, ne_eqb}
+use Rattle.std.specs.Prelude.{slice_index}
+use Rattle.std.proofs.lemmas.Bool.{cases_Bool, cases_lt}
+use Rattle.std.proofs.lemmas.List.Elements.{All-head, All-tail, filter-append}
+use Rattle.own_slots.specs.Slots.{own_slots}
+use Rattle.own_slots.specs.Rounds.{starts}
+use Rattle.pes_packet.specs.AccessUnits.{AccessUnit}
+use Rattle.pes_packet.specs.Units.{units_of}
+use Rattle.ts_packet.specs.Reading.{packet_at}
+use Rattle.ts_packet.specs.PidList.{cut_packets}
+use Rattle.slot_contents.specs.Contents.{run_bytes}
+use Rattle.slot_contents.proofs.Runs.{run_length}
+use Rattle.description_parts.specs.Ranges.{IsInRange}
+use Rattle.description_parts.specs.Tables.{kind_pid, table_count, table_kind, table_kinds, table_pid}
+use Rattle.description_parts.specs.declared.table_kind.TableKind.{TableKind}
+use Rattle.description_parts.specs.declared.table_kind.TableKind.TheVariants.{Eit, Nit, Pat, Sdt, Tdt}
+use Rattle.std.proofs.lemmas.Option.{slice_get_within}
+use Rattle.table_rounds.specs.Tables.{Table as Rounds, round_places}
+use Rattle.demux.specs.Views.{FindingView, PidFinding, WhatView}
+use Rattle.demux.specs.Laws.{found_of, has_pid, with_pid_at}
+use Rattle.demux.specs.Stream.{StreamState, finished, found_in, taken}
+use Rattle.demux.specs.Stream as demux
+use Rattle.demux.specs.FoundSoFar.{found_in_all, taken_all}
+use Rattle.demux.specs.declared.finding.Kind.{Kind}
+use Rattle.demux.specs.declared.finding.Kind.TheVariants.{Pes, Table}
+use Rattle.laws_pid.specs.Rounds.{sections_of_rounds}
+use Rattle.laws_pid.specs.Sections.{section_found, section_packets}
+use Rattle.laws_pid.specs.Sent.{Ending, Sending, each_found, if_sent, next_of, sendings}
+use Rattle.mux_core.specs.Scheduled.{Scheduled}
+use Rattle.mux_core.specs.Headline.{UnitsKept}
+use Rattle.mux_core.specs.Histories.{content_at, table_of}
+use Rattle.mux_core.proofs.JobWriting.{output_bytes}
+use Rattle.mux_core.proofs.TablesRead.{there as kind_there}
+use Rattle.mux_core.proofs.Whole.{contents_fit}
+use Rattle.monitor.specs.Begins.{found_on}
+use Rattle.monitor.proofs.FoundWhole.{found_whole, of_each}
+use Rattle.laws_run.specs.GivenBack.{IsSentOn, table_findings}
+use Rattle.laws_run.specs.Placed.{section_slots}
+use Rattle.laws_run.proofs.DistinguishableSections.{rounds_all}
+use Rattle.laws_run.proofs.MonitoredJobs.{job_kept}
+use Rattle.laws_run.proofs.NothingElse.{sent_or_silent}
+use Rattle.laws_run.proofs.RunFindings.{given_back, is_run, silent_back}
+use Rattle.laws_run.proofs.ServicesRecur.{kind_on, stream_higher}
+use Rattle.laws_run.proofs.Soundness.{as_told}
+use Rattle.laws_run.proofs.TableBegins.{made_distinguishable}
+use Rattle.laws_run.proofs.TableIds.{HasId, table_id_of, text_id}
+use Rattle.laws_run.proofs.TablesWritten.{IsMade}
+use Rattle.tr101290.specs.Distances as distances
+use Rattle.tr101290.specs.Distances.{DistanceState}
+use Rattle.tr101290.specs.Homes.{belongs}
+use Rattle.tr101290.specs.Intervals.{error_at}
+use Rattle.tr101290.specs.Sections.{begin_of, extension_of, section_begin, section_by, whole_by, whole_section}
+use Rattle.tr101290.specs.declared.distances.WholeSection.{WholeSection}
+use Rattle.tr101290.specs.declared.intervals.SectionBegin.{SectionBegin}
+use Rattle.tr101290.specs.declared.intervals.TableError.{TableError}
+use Rattle.events.specs.declared.event.Event.{Event}
+use Rattle.events.specs.declared.event.Event.TheVariants as found
+use Rattle.events.specs.declared.rule_event.RuleEvent.TheVariants as rules
+use Rattle.es_view.specs.declared.view_options.ViewOptions.{ViewOptions}
+use Rattle.ts_watch.specs.Choices.{RequestView}
+use Rattle.ts_watch.specs.TableEvents.{TimesState, begin_events, check_word_event, check_word_events, distance_events, error_events, finding_events, findings_events}
+use Rattle.ts_watch.specs.TableEvents.{is_wrong, other_events, section_in, soon_events, whole_in, with_finding}
+use Rattle.ts_watch.proofs.HeaderTables.{events_alike}
+use Rattle.ts_report.specs.StreamTables.{TableState}
+use Rattle.ts_report.specs.Views.{ViewState, after_packet, after_read, start, table_events_at}
+use Rattle.laws_view.specs.HomeTables.{JobHomesLaw, RunHomesLaw, is_other_table}
+use Rattle.laws_view.specs.ViewedSections.{sections_in}
+use Rattle.laws_view.proofs.LateEvents.{itself}
+use Rattle.laws_view.proofs.MuxedFrames.{packet_sizes_are}
+use Rattle.laws_view.proofs.ViewedFindings.{Alike, FindsAlike, Next, next}
+use Rattle.laws_view.proofs.ViewedSections.{alike_first}
+
+-- 1. Sections at home have no such event
+
+-- the table of a section belongs on its PID
+unfoldable IsHome : Option SectionBegin → Type 0
+IsHome None = Unit {0}
+IsHome (Some s) = belongs s.pid s.table_id ≡ true
+
+unfoldable AllHome : List FindingView → Type 0
+AllHome [] = Unit {0}
+AllHome (f ∷ fs) = IsHome (section_begin f) × AllHome fs
+
+none_of : (xs ys : List Event) → filter is_other_table xs ≡ [] → filter is_other_table ys ≡ [] → filter is_other_table (xs ++ ys) ≡ []
+none_of xs ys e f = filter-append is_other_table xs ys ∙ ap₂ (λ (a b : List Event). a ++ b) e f
+
+no_late : (o : Option TableError) → filter is_other_table (error_events o) ≡ []
+unfolding error_events is_other_table
+no_late None = refl
+no_late (Some e) = refl
+
+no_begin : (s : TimesState) (o : Option SectionBegin) → filter is_other_table (begin_events s o) ≡ []
+unfolding begin_events
+no_begin s None = refl
+no_begin s (Some section) = no_late (error_at s.intervals section)
+
+no_soon : (o : Option TableError) → filter is_other_table (soon_events o) ≡ []
+unfolding soon_events is_other_table
+no_soon None = refl
+no_soon (Some e) = refl
+
+no_distance : (d : DistanceState) (o : Option WholeSection) → filter is_other_table (distance_events d o) ≡ []
+unfolding distance_events
+no_distance d None = refl
+no_distance d (Some w) = no_soon (distances.error_at d w)
+
+no_wrong : (f : FindingView) (b : Bool) → filter is_other_table (cond b (check_word_event f ∷ []) []) ≡ []
+unfolding is_other_table
+no_wrong f true = refl
+no_wrong f false = refl
+
+home_whole : (o : Option SectionBegin) (extension : Option ℕ) (end : ℕ) → IsHome o → other_events (whole_by o extension end) ≡ []
+unfolding IsHome whole_by other_events
+home_whole None extension end h = refl
+home_whole (Some s) None end h = refl
+home_whole (Some s) (Some extension) end h =
+    ap (λ (b : Bool). cond b [] (found.Rule (rules.OtherTable (record { pid = s.pid; table = s.table_id; packet = s.packet })) ∷ [])) h
+
+home_finding : (options : ViewOptions) (x : TimesState) (f : FindingView) → IsHome (section_begin f) → filter is_other_table (finding_events options x f) ≡ []
+home_finding options x f h =
+    none_of (check_word_events f) _ (no_wrong f (is_wrong f.what))
+    (none_of (other_events (whole_section f)) _
+    (ap (filter is_other_table) (home_whole (section_begin f) (extension_of f.what) f.packet h))
+    (none_of (distance_events x.distances (whole_in options f)) _ (no_distance x.distances (whole_in options f)) (no_begin x (section_in options f))))
+
+home_findings : (options : ViewOptions) (x : TimesState) (fs : List FindingView) → AllHome fs → filter is_other_table (findings_events options x fs) ≡ []
+unfolding findings_events AllHome
+home_findings options x [] h = refl
+home_findings options x (f ∷ fs) h =
+    none_of (finding_events options x f) (findings_events options (with_finding options x f) fs) (home_finding options x f h.0)
+    (home_findings options (with_finding options x f) fs h.1)
+
+home_if : (options : ViewOptions) (x : TimesState) (t : TableState) (fs : List FindingView) (o : StreamState) (bytes : List ℕ) → FindsAlike t fs o bytes →
+    AllHome (found_in o bytes) → filter is_other_table (findings_events options x fs) ≡ []
+unfolding findings_events
+home_if options x t fs o bytes (inl e) h = ap (λ (found : List FindingView). filter is_other_table (findings_events options x found)) e.0
+home_if options x t fs o bytes (inr e) h =
+    ap (filter is_other_table) (events_alike options x fs (found_in o bytes) e.0) ∙ home_findings options x (found_in o bytes) h
+
+home_first : (xs ys : List FindingView) → AllHome (xs ++ ys) → AllHome xs
+unfolding AllHome
+home_first [] ys h = tt
+home_first (x ∷ xs) ys h = (h.0, home_first xs ys h.1)
+
+home_last : (xs ys : List FindingView) → AllHome (xs ++ ys) → AllHome ys
+unfolding AllHome
+home_last [] ys h = h
+home_last (x ∷ xs) ys h = home_last xs ys h.1
+
+along : (s : ViewState) (o : StreamState) (packets : List (List ℕ)) → Alike s o → All (λ bytes. length bytes ≡ 188) packets →
+    AllHome (found_in_all o packets) → filter is_other_table (sections_in s packets) ≡ []
+unfolding sections_in found_in_all
+along s o [] h sizes home = refl
+along s o (bytes ∷ packets) h sizes home =
+    let v : ViewState = after_read s (packet_at bytes) in
+    let n : Next s o bytes = next s o bytes (All-head (λ b. length b ≡ 188) bytes packets sizes) h in
+    none_of (table_events_at v bytes) (sections_in (after_packet s bytes) packets)
+    (home_if v.seen.options v.seen.tables.times v.table _ o bytes n.found (home_first (found_in o bytes) (found_in_all (taken o bytes) packets) home))
+    (along (after_packet s bytes) (taken o bytes) packets n.alike (All-tail (λ b. length b ≡ 188) bytes packets sizes)
+    (home_last (found_in o bytes) (found_in_all (taken o bytes) packets) home))
+
+-- 2. PID by PID
+
+no_pid_home : (begun : Option (ℕ × Kind)) (what : WhatView) → IsHome (section_by None begun what)
+unfolding IsHome section_by
+no_pid_home begun what = tt
+
+own_head : (f : FindingView) (q : ℕ) (rest : List FindingView) → f.pid ≡ Some q → AllHome (found_of q (f ∷ rest)) → IsHome (section_begin f)
+unfolding AllHome
+own_head f q rest e h =
+    (subst (λ (b : Bool). AllHome (cond b (f ∷ found_of q rest) (found_of q rest))) (ap (has_pid q) e ∙ itself q) h).0
+
+own_tail : (f : FindingView) (q : ℕ) (rest : List FindingView) → AllHome (found_of q (f ∷ rest)) → AllHome (found_of q rest)
+unfolding AllHome
+own_tail f q rest h = by (has_pid q f.pid) h
+  where
+    by : (b : Bool) → AllHome (cond b (f ∷ found_of q rest) (found_of q rest)) → AllHome (found_of q rest)
+    by true k = k.1
+    by false k = k
+
+of_pids : (fs : List FindingView) → ((pid : ℕ) → AllHome (found_of pid fs)) → AllHome fs
+unfolding AllHome
+of_pids [] h = tt
+of_pids (f ∷ fs) h = (by f.pid refl, of_pids fs (λ pid. own_tail f pid fs (h pid)))
+  where
+    by : (o : Option ℕ) → f.pid ≡ o → IsHome (section_begin f)
+    by None e = subst (λ (o : Option ℕ). IsHome (section_by o f.begun f.what)) (sym e) (no_pid_home f.begun f.what)
+    by (Some q) e = own_head f q fs e (h q)
+
+-- 3. A PID in a run
+
+-- from PID 0x20 on each table belongs
+high_home : (pid table_id : ℕ) → 0x20 ≤ pid → belongs pid table_id ≡ true
+high_home pid table_id high =
+    let a : (pid == 0x00) ≡ false = ne_eqb pid 0x00 (λ e. omega (arith, high, e)) in
+    let b : (pid == 0x01) ≡ false = ne_eqb pid 0x01 (λ e. omega (arith, high, e)) in
+    let c : (pid == 0x10) ≡ false = ne_eqb pid 0x10 (λ e. omega (arith, high, e)) in
+    let d : (pid == 0x11) ≡ false = ne_eqb pid 0x11 (λ e. omega (arith, high, e)) in
+    let e : (pid == 0x12) ≡ false = ne_eqb pid 0x12 (λ e. omega (arith, high, e)) in
+    let f : (pid == 0x13) ≡ false = ne_eqb pid 0x13 (λ e. omega (arith, high, e)) in
+    let g : (pid == 0x14) ≡ false = ne_eqb pid 0x14 (λ e. omega (arith, high, e)) in
+    rw (a, b, c, d, e, f, g) refl
+
+high_begun : (pid : ℕ) (begun : Option (ℕ × Kind)) (what : WhatView) → 0x20 ≤ pid → IsHome (section_by (Some pid) begun what)
+unfolding section_by begin_of IsHome
+high_begun pid None what high = tt
+high_begun pid (Some (place, Pes stamped access)) what high = tt
+high_begun pid (Some (place, Table table_id)) what high = high_home pid table_id high
+
+all_high : (pid : ℕ) (xs : List PidFinding) → 0x20 ≤ pid → AllHome (map (with_pid_at pid) xs)
+unfolding AllHome
+all_high pid [] high = tt
+all_high pid (x ∷ xs) high = (high_begun pid x.found.begun x.found.what high, all_high pid xs high)
+
+-- sections of one table_id
+section_home : (pid id : ℕ) (e : Ending) (text : List ℕ) (i : ℕ) (is : List ℕ) → slice_index text 0 ≡ id → belongs pid id ≡ true →
+    IsHome (section_begin (with_pid_at pid (section_found e text i is)))
+unfolding section_found section_by begin_of IsHome
+section_home pid id e text i is same h =
+    let own : belongs pid (slice_index text 0) ≡ true = ap (belongs pid) same ∙ h in
+    elim (cases_Bool (nat_le (1 + length text) (184 * length (i ∷ is)))) [ inl y ↦ rw y own | inr k ↦ rw k own ]
+
+all_sent : (pid id n : ℕ) (texts : List (List ℕ)) (packets : List ℕ) → All (HasId id) texts → belongs pid id ≡ true →
+    AllHome (map (with_pid_at pid) (each_found section_found n (sendings section_packets texts packets)))
+unfolding each_found if_sent sendings AllHome
+all_sent pid id n [] packets ids h = tt
+all_sent pid id n (text ∷ texts) packets ids h =
+    by (all_sent pid id n texts (drop (section_packets text) packets) (All-tail (HasId id) text texts ids) h) (take (section_packets text) packets)
+  where
+    left : List (Sending (List ℕ))
+    left = sendings section_packets texts (drop (section_packets text) packets)
+
+    by : AllHome (map (with_pid_at pid) (each_found section_found n left)) → (js : List ℕ) →
+        AllHome (map (with_pid_at pid) (if_sent (section_found (next_of n left) text) js ++ each_found section_found n left))
+    by rest [] = rest
+    by rest (i ∷ is) = (section_home pid id (next_of n left) text i is (All-head (HasId id) text texts ids) h, rest)
+
+module _ (d : Scheduled) (units : ℕ → List AccessUnit) (slots : ℕ) (ranges : IsInRange d.description) (kept : UnitsKept d units) (few : slots < 2 ^ 64 - 1) where
+  abbrev bytes : List ℕ
+  bytes = run_bytes (content_at d units) 0 slots
+
+  few_packets : length bytes / 188 < 2 ^ 64 - 1
+  few_packets = let size : length bytes ≡ 188 * slots = run_length (content_at d units) 0 slots (contents_fit d units ranges kept) in omega (arith, size, few)
+
+  -- of a table that is not ready-made
+  of_table : (t : ℕ) (k : TableKind) → table_kind d.description t ≡ Some k → IsMade k → (table_pid d.description t == 8191) ≡ false →
+      belongs (table_pid d.description t) (table_id_of k) ≡ true →
+      AllHome (map (with_pid_at (table_pid d.description t)) (found_on (table_pid d.description t) bytes))
+  of_table t k is made no_null h =
+      let table : Rounds = table_of d t in
+      let lt : t < table_count d.description = slice_get_within (table_kinds d.description) t k is in
+      let ids : All (HasId (table_id_of k)) (sections_of_rounds table slots) =
+      rounds_all (HasId (table_id_of k)) table (own_slots (starts table.own (round_places table.lengths) 0) 0 slots)
+      (λ j moment within. text_id d.description t j moment k is made within) in
+      subst AllHome (sym (sym (as_told (table_pid d.description t) bytes no_null few_packets)
+      ∙ (given_back d units slots ranges kept few).tables t lt (made_distinguishable d.description t k is made)))
+      (all_sent (table_pid d.description t) (table_id_of k) slots (sections_of_rounds table slots) (section_slots table slots) ids h)
+
+  silent : (pid : ℕ) → map (with_pid_at pid) (found_on pid bytes) ≡ [] → AllHome (map (with_pid_at pid) (found_on pid bytes))
+  unfolding AllHome
+  silent pid e = subst AllHome (sym e) tt
+
+  abbrev Fine : ℕ → Type 0
+  Fine pid = AllHome (map (with_pid_at pid) (found_on pid bytes))
+
+  low_pid : (pid : ℕ) → 0 < pid → pid < 32 → Fine pid
+  low_pid pid some low = elim (sent_or_silent d.description pid) [
+    | inl sent ↦ by sent
+    | inr none ↦ silent pid (sym (as_told pid bytes no_null few_packets) ∙ silent_back d units slots pid (is_run d units slots ranges kept few) no_null none)
+  ]
+    where
+      no_null : (pid == 8191) ≡ false
+      no_null = ne_eqb pid 8191 (λ e. omega (arith, low, e))
+
+      on_kind : (t : ℕ) (k : TableKind) (home : ℕ) → IsMade k → home ≡ pid → belongs home (table_id_of k) ≡ true → table_kind d.description t ≡ Some k →
+          table_pid d.description t ≡ pid → AllHome (map (with_pid_at pid) (found_on pid bytes))
+      on_kind t k home made e h is on =
+          subst (λ (q : ℕ). AllHome (map (with_pid_at q) (found_on q bytes))) on
+          (of_table t k is made (ap (λ (q : ℕ). q == 8191) on ∙ no_null) (ap (λ (q : ℕ). belongs q (table_id_of k)) (on ∙ sym e) ∙ h))
+
+      by : IsSentOn d.description pid → AllHome (map (with_pid_at pid) (found_on pid bytes))
+      by (inl (k, s, is, same)) = absurd (stream_higher d.description pid k s ranges (some, low) is same)
+      by (inr (t, lt, same)) =
+          let k = kind_there (table_kinds d.description) t lt in
+          let kind = k.1 in
+          let on : table_pid d.description t ≡ kind_pid d.description k.0 = rw kind refl in
+          kind_on (λ x. table_kind d.description t ≡ Some x → table_pid d.description t ≡ pid → AllHome (map (with_pid_at pid) (found_on pid bytes)))
+          d.description pid k.0 ranges (some, low) (sym on ∙ same)
+          (λ e. on_kind t Nit 0x10 tt e refl) (λ e. on_kind t Sdt 0x11 tt e refl) (λ e. on_kind t Eit 0x12 tt e refl)
+          (λ e. on_kind t Tdt 0x14 tt e refl) k.1 same
+
+  each_pid : (pid : ℕ) → Fine pid
+  each_pid pid = elim (cases_lt pid 32) [
+    | inl low ↦ elim (cases_lt 0 pid) [
+      | inl some ↦ low_pid pid some low
+      | inr zero_pid ↦
+          let is : 0 ≡ pid = omega (arith, zero_pid) in
+          subst (λ (q : ℕ). AllHome (map (with_pid_at q) (found_on q bytes))) is (of_table 0 Pat refl tt refl refl)
+    ]
+    | inr high ↦ all_high pid (found_on pid bytes) high
+  ]
+
+  all_home : AllHome (found_whole bytes)
+  all_home = of_pids (found_whole bytes) (λ pid. subst AllHome (sym (of_each bytes few_packets pid)) (each_pid pid))
+
+pub run_homes_law : RunHomesLaw
+run_homes_law d units slots request ranges kept few =
+    let bytes : List ℕ = run_bytes (content_at d units) 0 slots in
+    along (start request) demux.start (cut_packets bytes) (alike_first request) (packet_sizes_are bytes)
+    (home_first (found_in_all demux.start (cut_packets bytes)) (finished (taken_all demux.start (cut_packets bytes))).found
+    (all_home d units slots ranges kept few))
+
+pub job_homes_law : JobHomesLaw
+job_homes_law d units slots request ranges none few =
+    ap (λ (bytes : List ℕ). filter is_other_table (sections_in (start request) (cut_packets bytes)))
+    (output_bytes (content_at d (λ k. units_of k units)) 0 slots)
+    ∙ run_homes_law d (λ k. units_of k units) slots request ranges (job_kept d units ranges none) (omega (arith, few))

@@ -1,0 +1,3 @@
+pub mod ItemNames
+pub mod ReasonLines
+pub mod ConditionLines

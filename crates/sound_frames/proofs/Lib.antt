@@ -1,0 +1,2 @@
+mod FrameWalks
+mod FrameParts

@@ -1,0 +1,3 @@
+pub mod FrameHeaders
+pub mod Frames
+pub mod FrameWalks

@@ -1,0 +1,85 @@
+//! Frames of sound in units, worked by hand.
+
+use sound_frames::{frame_kind, unit_frames};
+use stream_choice::{Needs, keeps_framing};
+use unit_timing::framing::Framing;
+
+// Two frames of layer III, 24 kHz and 8 kbit/s, of 24 bytes.
+const LAYER_THREE: &[u8] = &[
+    0xff, 0xf3, 0x14, 0xc0, 0, 0, 0, 0, 0, 0, 0, 0, 0, 0, 0, 0, 0, 0, 0, 0, 0, 0, 0, 0, 0xff, 0xf3,
+    0x14, 0xc0, 0, 0, 0, 0, 0, 0, 0, 0, 0, 0, 0, 0, 0, 0, 0, 0, 0, 0, 0, 0,
+];
+
+// Frames of ADTS of 7 bytes, 24 kHz; one of 44.1 kHz.
+const ADTS: &[u8] = &[
+    0xff, 0xf1, 0x58, 0x40, 0, 0xff, 0xfc, 0xff, 0xf1, 0x58, 0x40, 0, 0xff, 0xfc,
+];
+
+const ADTS_44: &[u8] = &[0xff, 0xf1, 0x50, 0x40, 0, 0xff, 0xfc];
+
+// Frames of ISO/IEC 14496-3 of 7 bytes, 24 kHz, the second with the configuration of the first.
+const LOAS: &[u8] = &[
+    0x56, 0xe0, 4, 0x20, 0, 0x13, 0, 0x56, 0xe0, 4, 0x80, 0, 0, 0,
+];
+
+// Frames of Enhanced AC-3 of 6 and 8 bytes, 48 kHz; a frame of a dependent substream.
+const ENHANCED: &[u8] = &[
+    0x0b, 0x77, 0, 2, 0x30, 0x80, 0x0b, 0x77, 0, 3, 0x30, 0x80, 0, 0, 0x0b, 0x77, 0, 2, 0x30, 0x80,
+];
+
+const DEPENDENT: &[u8] = &[0x0b, 0x77, 0x40, 2, 0x30, 0x80];
+
+// A stream_type, a unit, and the number of its frames, the longest time of a frame, and the greatest frame but the
+// first.
+type Row = (u8, &'static [u8], Option<(usize, u64, u32)>);
+
+static UNITS: [Row; 10] = [
+    (3, LAYER_THREE, Some((2, 2_160, 24))),
+    (4, &[0xff, 0xf3, 0x14, 0xc0], None),
+    (3, ADTS, None),
+    (0x0f, ADTS, Some((2, 3_840, 7))),
+    (0x0f, ADTS_44, Some((1, 2_090, 0))),
+    (0x11, LOAS, Some((2, 3_840, 7))),
+    (0x87, ENHANCED, Some((3, 2_880, 8))),
+    (0x81, DEPENDENT, None),
+    (0x81, &[], Some((0, 0, 0))),
+    (0x1b, ADTS, None),
+];
+
+fn are_frames(row: &Row) -> bool {
+    let (stream_type, unit, wanted) = *row;
+    let found = match frame_kind(stream_type, &[]) {
+        Some(kind) => unit_frames(kind, unit),
+        None => None,
+    };
+    match found {
+        Some(frames) => Some((frames.count, frames.time, frames.largest)) == wanted,
+        None => wanted.is_none(),
+    }
+}
+
+// Five frames of 576 bytes in a unit of 2,880, 16 packets to a unit: when one to four frames have left the main buffer,
+// 3,408, 3,384, 3,544 and 3,475 bytes wait.
+fn are_kept(main: u32, frame: u32) -> bool {
+    let needs = Needs {
+        interval: 10_800,
+        size: 2_880,
+        rx: 2_000_000,
+        main,
+    };
+    let framing = Framing {
+        frames: 5,
+        frame,
+        frame_size: 576,
+    };
+    keeps_framing(needs, framing, 11_796, 1_628_906_116)
+}
+
+#[test]
+fn frames(rt: HostRuntime) {
+    for row in &UNITS {
+        assert!(rt; are_frames(row));
+    }
+    assert!(rt; are_kept(3_544, 2_160));
+    assert!(rt; !are_kept(3_543, 2_160) && !are_kept(3_584, 2_701));
+}
