@@ -16,7 +16,8 @@ use Rattle.ts_packet.specs.PidList.{Entry}
 use Rattle.ts_packet.specs.Views.{PacketView}
 use Rattle.ts_packet.specs.Reading.{packet_at}
 use Rattle.ts_packet.specs.declared.packet.PacketError.{PacketError}
-use Rattle.demux.specs.Views.{WhatView, IsDuplicate, BreaksCounter, IsScrambled, IsTruncated, IsSection, IsBadSection, IsPes, IsBadPes, IsBadPacket, IsErrored, IsStray}
+use Rattle.demux.specs.Views.{WhatView, IsDuplicate, BreaksCounter, IsScrambled, IsTruncated, IsSection, IsBadSection, IsPes, IsBadPes, IsBadPacket, IsErrored}
+use Rattle.demux.specs.Views.{IsStray}
 use Rattle.demux.specs.Views.{Found, FindingView}
 use Rattle.demux.specs.OpenUnits.{UnitKind, decided, of_pes, of_section}
 use Rattle.demux.specs.declared.open_unit.UnitKind.TheVariants as unit_kinds

@@ -4,7 +4,8 @@ use Rattle.std.specs.List.{list_any}
 use Rattle.demux.specs.declared.finding.Part.{Part}
 use Rattle.demux.specs.declared.finding.Part.TheVariants.{Span, Joined}
 use Rattle.demux.specs.declared.finding.What.{What}
-use Rattle.demux.specs.declared.finding.What.TheVariants.{Duplicate, CounterBreak, Scrambled, Truncated, Section, BadSection, Pes, BadPes, BadPacket, Errored, Stray}
+use Rattle.demux.specs.declared.finding.What.TheVariants.{Duplicate, CounterBreak, Scrambled, Truncated, Section, BadSection, Pes, BadPes, BadPacket, Errored}
+use Rattle.demux.specs.declared.finding.What.TheVariants.{Stray}
 use Rattle.demux.specs.declared.finding.Finding.{Finding}
 use Rattle.demux.specs.declared.payload_bytes.PayloadBytes.{PayloadBytes}
 use Rattle.demux.specs.declared.payload_bytes.PayloadBytes.TheVariants.{Borrowed, Copied}
@@ -22,7 +23,8 @@ use Rattle.demux.specs.Roles.{Role, NoPayload, ScrambledPayload, PesStart, Secti
 use Rattle.demux.specs.OpenUnits.{OpenUnit, plain}
 use Rattle.demux.specs.Findings.{by_break}
 use Rattle.demux.specs.Roles.{role_divides}
-use Rattle.demux.specs.Views.{WhatView, IsDuplicate, BreaksCounter, IsScrambled, IsTruncated, IsSection, IsBadSection, IsPes, IsBadPes, IsBadPacket, IsErrored, IsStray}
+use Rattle.demux.specs.Views.{WhatView, IsDuplicate, BreaksCounter, IsScrambled, IsTruncated, IsSection, IsBadSection, IsPes, IsBadPes, IsBadPacket, IsErrored}
+use Rattle.demux.specs.Views.{IsStray}
 use Rattle.demux.specs.Views.{Found, FindingView}
 
 -- the bytes of a finding

@@ -9,7 +9,8 @@ use Rattle.program_tables.specs.Sections.{section_bytes, section_on}
 use Rattle.demux.specs.Bodies.{finding_without_body, without_body}
 use Rattle.demux.specs.KeptBodies.{all_but, finding_but, is_kept, is_of_kept}
 use Rattle.demux.specs.Laws.{has_pid}
-use Rattle.demux.specs.Views.{WhatView, IsDuplicate, BreaksCounter, IsScrambled, IsTruncated, IsSection, IsBadSection, IsPes, IsBadPes, IsBadPacket, IsErrored, IsStray}
+use Rattle.demux.specs.Views.{WhatView, IsDuplicate, BreaksCounter, IsScrambled, IsTruncated, IsSection, IsBadSection, IsPes, IsBadPes, IsBadPacket, IsErrored}
+use Rattle.demux.specs.Views.{IsStray}
 use Rattle.demux.specs.Views.{FindingView}
 use Rattle.demux.specs.declared.finding.Kind.{Kind}
 use Rattle.demux.specs.declared.finding.Kind.TheVariants as kinds

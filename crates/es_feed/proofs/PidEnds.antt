@@ -1,5 +1,6 @@
 -- What is fed of the end of a stream, PID by PID.
-use Rattle.std.proofs.Common.{◌≡◌, ◌∙◌, ◌<◌, ◌≤◌, ℕ, suc, ◌++◌, ◌==◌, true, false, List, [], length, map, drop, slice_get, Some, inl, inr, refl, sym, ap, arith, append_assoc}
+use Rattle.std.proofs.Common.{◌≡◌, ◌∙◌, ◌<◌, ◌≤◌, ℕ, suc, ◌++◌, ◌==◌, true, false, List, [], length, map, drop, slice_get, Some, inl, inr, refl, sym, ap, arith}
+use Rattle.std.proofs.Common.{append_assoc}
 use Rattle.std.proofs.lemmas.Bool.Decides.{nat_tests}
 use Rattle.std.proofs.lemmas.List.{append-nil, drop_all}
 use Rattle.std.proofs.lemmas.Option.{slice_get_cases}

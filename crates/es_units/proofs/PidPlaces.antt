@@ -94,7 +94,8 @@ rest_of : {X : Type 0} (view : X → FindingView) (pid from at : ℕ) (fs : List
 rest_of view pid from at fs comes =
     let rest = map view (drop from fs) in
     let n = before_first pid (pids_in rest) in
-    let pids : drop from (pids_in (map view fs)) ≡ pids_in rest = drop-map (λ (f : FindingView). f.pid) from (map view fs) ∙ ap pids_in (drop-map view from fs) in
+    let pids : drop from (pids_in (map view fs)) ≡ pids_in rest = drop-map (λ (f : FindingView). f.pid) from (map view fs)
+    ∙ ap pids_in (drop-map view from fs) in
     let is : at ≡ from + n = comes ∙ ap (place_from pid from) pids ∙ place_is pid from (pids_in rest) in
     ap (λ (k : ℕ). found_of pid (map view (drop k fs))) is
     ∙ ap (λ (l : List _). found_of pid (map view l)) (sym (drop-drop n from fs))

@@ -37,7 +37,8 @@ levels p = level 2200 0 ++ (level 200 p.peak ++ codes "<text class=\"end\" x=\"8
 
 unfoldable pub limit_head : ℕ → List ℕ
 limit_head y =
-    codes "<path class=\"limit\" d=\"M900 " ++ (decimal y ++ (codes "H9500\"/><text class=\"end\" x=\"9490\" y=\"" ++ (decimal y ++ codes "\" dy=\"-.4em\">size ")))
+    codes "<path class=\"limit\" d=\"M900 "
+    ++ (decimal y ++ (codes "H9500\"/><text class=\"end\" x=\"9490\" y=\"" ++ (decimal y ++ codes "\" dy=\"-.4em\">size ")))
 
 unfoldable pub limit : ℕ → ℕ → List ℕ
 limit y size = limit_head y ++ (grouped (drawn size) ++ codes "</text>\n")
@@ -55,7 +56,8 @@ unfoldable pub drawing : TracePoint → List ℕ → List ℕ → List ℕ
 drawing p line marks = picture_head p.pid (word_of p.buffer) ++ (levels p ++ (marks ++ curve p line))
 
 unfoldable pub numbers : List ℕ → List ℕ
-numbers rows = codes "<details><summary>Numbers</summary><div class=\"wide tall\"><table><tr><th scope=col>packet<th scope=col>left the transport buffer, ticks<th scope=col>least<th scope=col>most<th scope=col>unit\n"
+numbers rows =
+    codes "<details><summary>Numbers</summary><div class=\"wide tall\"><table><tr><th scope=col>packet<th scope=col>left the transport buffer, ticks<th scope=col>least<th scope=col>most<th scope=col>unit\n"
     ++ (rows ++ codes "</table></div></details>\n")
 
 unfoldable pub picture : LabelsState → TracePoint → List ℕ → List ℕ → List ℕ → List ℕ

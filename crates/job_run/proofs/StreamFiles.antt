@@ -100,7 +100,8 @@ of_bytes a bytes (Err o) none is = record {
 pub carried_is_input : (a : JobArgumentsView) (bytes : List ℕ) (notes said : PacketNotesView) (references : List FoundPcr) (size : ℕ)
     (at_times marked findings found : List FindingView) (w : JobOptionsView) (r : Result TakenView Outcome) →
     IsOfStream bytes notes references found size → findings ≡ found → other_packets bytes ≡ None → w ≡ a.options → marked ≡ as_asked w findings →
-    said ≡ notes_by w.joined references marked notes → at_times ≡ findings_by w.joined references marked → IsInputOf a said (size / 188) at_times r → IsInput a bytes r
+    said ≡ notes_by w.joined references marked notes → at_times ≡ findings_by w.joined references marked → IsInputOf a said (size / 188) at_times r →
+    IsInput a bytes r
 carried_is_input a bytes notes said references size at_times marked findings found w r of same none asked marks told times is =
     let asked_are : marked ≡ asked_findings a.options bytes =
     marks ∙ ap (λ (x : JobOptionsView). as_asked x findings) asked ∙ ap (λ (x : List FindingView). as_asked a.options x) (same ∙ of.found_is) in

@@ -4,7 +4,8 @@ use Rattle.std.proofs.lemmas.Bool.{cond_both}
 use Rattle.stream_coding.specs.declared.profiles.ProfileLevel.{ProfileLevel}
 use Rattle.stream_coding.specs.declared.profiles.ProfileLevel.TheVariants.{Unsaid, Mpeg, Avc, Hevc, Aac}
 use Rattle.job_text.specs.ProfileWords.{joined, tenth, level_words, mpeg_profile_name, mpeg_level_name, mpeg_words, avc_profile_name, avc_level_words}
-use Rattle.job_text.specs.ProfileWords.{range_profile_name, hevc_profile_name, tier_lead, aac_profile_name, channels_name, avc_words, hevc_words, aac_words, said_words}
+use Rattle.job_text.specs.ProfileWords.{range_profile_name, hevc_profile_name, tier_lead, aac_profile_name, channels_name, avc_words, hevc_words, aac_words}
+use Rattle.job_text.specs.ProfileWords.{said_words}
 use Rattle.job_text.proofs.ShownTexts.{Shown, shown_both, decimal_shown}
 
 joined_shown : (lead name : List ℕ) → Shown lead → Shown name → Shown (joined lead name)

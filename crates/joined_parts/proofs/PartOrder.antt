@@ -8,7 +8,8 @@ use Rattle.std.proofs.Math.Nat.{le_trans}
 use Rattle.fed_streams.specs.Ticks.{jump_pause}
 use Rattle.es_moments.specs.Stamps.{distance}
 use Rattle.es_moments.proofs.StampMoments.{shows}
-use Rattle.joined_parts.specs.Joins.{cut_if, is_between, joined_after, later, lead_of, least_of, nearest, reach_of, shift_after, shift_if, with_lead, with_reach}
+use Rattle.joined_parts.specs.Joins.{cut_if, is_between, joined_after, later, lead_of, least_of, nearest, reach_of, shift_after, shift_if, with_lead}
+use Rattle.joined_parts.specs.Joins.{with_reach}
 use Rattle.joined_parts.specs.Laws.{PartsComeInOrder}
 use Rattle.joined_parts.specs.declared.cuts.Cut.{Cut}
 use Rattle.joined_parts.specs.declared.joins.Join.{Join}

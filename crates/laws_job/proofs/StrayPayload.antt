@@ -7,7 +7,8 @@ use Rattle.demux.specs.Marks.{Marked}
 use Rattle.demux.specs.Roles.{Role, NoPayload, ScrambledPayload, PesStart, SectionStart, PointerPastEnd, Continuation, role, role_divides}
 use Rattle.demux.specs.OpenUnits.{OpenUnit, appended, decided, last_in, plain, section}
 use Rattle.demux.specs.declared.open_unit.UnitKind.TheVariants as unit_kinds
-use Rattle.demux.specs.Findings.{begins, by_break, by_role, cut_short, divider, divides, found_appended, found_at, joined, open_after, stray, stretch, undecided}
+use Rattle.demux.specs.Findings.{begins, by_break, by_role, cut_short, divider, divides, found_appended, found_at, joined, open_after, stray, stretch}
+use Rattle.demux.specs.Findings.{undecided}
 use Rattle.demux.specs.Findings.{unless_decided}
 use Rattle.laws_job.specs.StrayPayload.{FollowsEnd, FollowsLoss, GoesOn, IsFoundStray, LostPayloadLaw, StrayPayloadLaw, Waits}
 

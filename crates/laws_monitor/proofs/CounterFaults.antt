@@ -52,7 +52,8 @@ break_is (last ∷ before) entry =
     expected : ℕ
     expected = following last.packet.header.continuity_counter (is_some entry.packet.payload)
 
-    by : (r d c : Bool) → is_some {T = ℕ × ℕ} (cond r None (cond (d || c) None (Some (expected, entry.packet.header.continuity_counter)))) ≡ (not r && (not d && not c))
+    by : (r d c : Bool) →
+        is_some {T = ℕ × ℕ} (cond r None (cond (d || c) None (Some (expected, entry.packet.header.continuity_counter)))) ≡ (not r && (not d && not c))
     by true d c = refl
     by false true c = refl
     by false false true = refl

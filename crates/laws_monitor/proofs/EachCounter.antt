@@ -74,7 +74,8 @@ own_packets pid (x ∷ entries) = by (x.packet.header.pid == pid) refl x.packet.
 break_is : (pid : ℕ) (m : Marked) (o : Option (ℕ × ℕ)) (es : List ContinuityError) (ms : List Marked) →
     map counter_fault es ≡ map (fault rules.Counter (Some pid)) (broken_places ms) →
     map counter_fault (before_if (option_map (error_of pid m.entry.index) o) es)
-    ≡ map (fault rules.Counter (Some pid)) (map (λ n. n.entry.index) (cond (is_some o) (m ∷ filter (λ n. is_some n.broken) ms) (filter (λ n. is_some n.broken) ms)))
+    ≡ map (fault rules.Counter (Some pid))
+    (map (λ n. n.entry.index) (cond (is_some o) (m ∷ filter (λ n. is_some n.broken) ms) (filter (λ n. is_some n.broken) ms)))
 unfolding before_if
 break_is pid m None es ms h = h
 break_is pid m (Some b) es ms h = ap (λ (l : List StreamFault). fault rules.Counter (Some pid) m.entry.index ∷ l) h

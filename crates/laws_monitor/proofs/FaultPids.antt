@@ -1,5 +1,6 @@
 -- Each fault of a report has the PID of its rule.
-use Rattle.std.proofs.Common.{◌≡◌, ◌∙◌, ⊎_elim, ℕ, ◌/◌, ◌%◌, ◌==◌, Bool, true, false, cond, List, [], ◌∷◌, ◌++◌, length, map, Option, Some, None, Result, Ok, Err}
+use Rattle.std.proofs.Common.{◌≡◌, ◌∙◌, ⊎_elim, ℕ, ◌/◌, ◌%◌, ◌==◌, Bool, true, false, cond, List, [], ◌∷◌, ◌++◌, length, map, Option, Some, None, Result, Ok}
+use Rattle.std.proofs.Common.{Err}
 use Rattle.std.proofs.Common.{refl, sym, ap, arith}
 use Rattle.std.specs.List.{enumerate_from, flat_map}
 use Rattle.psi_tables.specs.declared.error.SectionError.TheVariants as section_errors
@@ -64,7 +65,8 @@ one_packet k (Ok packet) = by packet.header.transport_error_indicator
 
 of_packets : (packets : List (ℕ × List ℕ)) → AllFit (packet_faults packets)
 of_packets [] = none_there
-of_packets (p ∷ packets) = both_fit (failing None p.0 (packet_rule (packet_at p.1))) (packet_faults packets) (one_packet p.0 (packet_at p.1)) (of_packets packets)
+of_packets (p ∷ packets) =
+    both_fit (failing None p.0 (packet_rule (packet_at p.1))) (packet_faults packets) (one_packet p.0 (packet_at p.1)) (of_packets packets)
 
 of_end : (bytes : List ℕ) → AllFit (cut_faults bytes)
 unfolding has_its_pid
@@ -96,7 +98,8 @@ one_finding pid k (IsStray size) = none_there
 of_findings : (pid : ℕ) (found : List PidFinding) → AllFit (finding_faults pid found)
 of_findings pid [] = none_there
 of_findings pid (x ∷ found) =
-    both_fit (failing (Some pid) x.packet (finding_rule x.found.what)) (finding_faults pid found) (one_finding pid x.packet x.found.what) (of_findings pid found)
+    both_fit (failing (Some pid) x.packet (finding_rule x.found.what)) (finding_faults pid found) (one_finding pid x.packet x.found.what)
+    (of_findings pid found)
 
 each_of_rule : (rule : Rule) (places : ℕ → List ℕ) (pids : List ℕ) → ((pid : ℕ) → has_its_pid rule (Some pid) ≡ true) → AllFit (on_each rule places pids)
 each_of_rule rule places pids h = of_each (λ pid. map (fault rule (Some pid)) (places pid)) pids (λ pid. of_rule rule (Some pid) (places pid) (h pid))

@@ -110,7 +110,8 @@ one_program options choice packets p =
     join (systems.excess_events options choice packets (under_way p)) (event_if choice p) (system options choice packets (under_way p))
     (one_if (takes choice p.number) (system_event p) refl)
 
-programs_end : (options : ViewOptions) (choice : ChoiceView) (packets : ℕ) (programs : List ProgramState) → Quiet (system_events options choice packets programs)
+programs_end : (options : ViewOptions) (choice : ChoiceView) (packets : ℕ) (programs : List ProgramState) →
+    Quiet (system_events options choice packets programs)
 programs_end options choice packets programs = all_of (systems.events_of options choice packets) programs (one_program options choice packets)
 
 named_end : (entries : List (ℕ × PidCounts)) (o : Option (List ℕ)) → Quiet (events_by entries o)

@@ -149,7 +149,8 @@ unfolding elementary_late_events
 video_lates options place None = refl
 video_lates options place (Some u) = causes_of options place u (unit_cause u)
 
-pub of_both : (options : ViewOptions) (place : Place) (limits : VideoLimits) (multiplexing : List Excess) (elementary : Option Excess) (unit : Option VideoUnit) →
+pub of_both : (options : ViewOptions) (place : Place) (limits : VideoLimits) (multiplexing : List Excess) (elementary : Option Excess) (unit : Option VideoUnit)
+    →
     Quiet (events_of_both options place limits multiplexing elementary unit)
 unfolding fault_in
 of_both options place limits multiplexing elementary unit =

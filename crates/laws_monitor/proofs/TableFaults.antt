@@ -1,5 +1,6 @@
 -- Tables, time stamps and sections: which packets are reported.
-use Rattle.std.proofs.Common.{◌≡◌, ◌∙◌, inl, inr, ⊎_elim, ◌↔◌, ℕ, zero, suc, ◌-◌, ◌*◌, ◌/◌, ◌<◌, ◌==◌, Bool, true, false, cond, nat_eq, List, [], ◌∷◌, ◌++◌, length}
+use Rattle.std.proofs.Common.{◌≡◌, ◌∙◌, inl, inr, ⊎_elim, ◌↔◌, ℕ, zero, suc, ◌-◌, ◌*◌, ◌/◌, ◌<◌, ◌==◌, Bool, true, false, cond, nat_eq, List, [], ◌∷◌, ◌++◌}
+use Rattle.std.proofs.Common.{length}
 use Rattle.std.proofs.Common.{map, filter, Option, Some, None, refl, sym, ap, subst, arith}
 use Rattle.std.specs.Prelude.{◌&&◌, nat_lt}
 use Rattle.std.specs.List.{Contains}
@@ -134,7 +135,8 @@ pub tdt_law : TableFaultLaw tdt_limit 0x14 0x70
 unfolding stream_report rule_number
 tdt_law rate given n bytes =
     by_places rules.Tdt 0x14 rate 30000 n (table_begins 0x70 (found_on 0x14 bytes)) (in_order (faults_of rate given bytes))
-    (in_group (is_by 12) (fault rules.Tdt (Some 0x14) n) (faults_of rate given bytes) (map (fault rules.Tdt (Some 0x14)) (table_late rate 30000 0x14 0x70 bytes))
+    (in_group (is_by 12) (fault rules.Tdt (Some 0x14) n) (faults_of rate given bytes)
+    (map (fault rules.Tdt (Some 0x14)) (table_late rate 30000 0x14 0x70 bytes))
     refl (tdt_group rate given bytes))
 
 -- 4. Rules of each PID

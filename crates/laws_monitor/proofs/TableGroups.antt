@@ -63,24 +63,31 @@ module _ (p : StreamFault → Bool) (rate : ℕ) (bytes : List ℕ) where
   no_pat before pat = right_alone p (findings_part bytes) (pats rate bytes) before ∙ none_at p rules.Pat (Some 0x00) (pat_late rate bytes) (pat (Some 0x00))
 
   no_pmt : filter p (to_pat rate bytes) ≡ [] → Without p rules.Pmt → filter p (to_pmt rate bytes) ≡ []
-  no_pmt before pmt = right_alone p (to_pat rate bytes) (pmts rate bytes) before ∙ none_on_each p rules.Pmt (map_late rate bytes) (map (λ naming. naming.0) (namings (found_on 0 bytes))) pmt
+  no_pmt before pmt = right_alone p (to_pat rate bytes) (pmts rate bytes) before
+      ∙ none_on_each p rules.Pmt (map_late rate bytes) (map (λ naming. naming.0) (namings (found_on 0 bytes))) pmt
 
   no_nit : filter p (to_pmt rate bytes) ≡ [] → Without p rules.Nit → filter p (to_nit rate bytes) ≡ []
-  no_nit before nit = right_alone p (to_pmt rate bytes) (nits rate bytes) before ∙ none_at p rules.Nit (Some 0x10) (table_late rate 10000 0x10 0x40 bytes) (nit (Some 0x10))
+  no_nit before nit = right_alone p (to_pmt rate bytes) (nits rate bytes) before
+      ∙ none_at p rules.Nit (Some 0x10) (table_late rate 10000 0x10 0x40 bytes) (nit (Some 0x10))
 
   no_sdt : filter p (to_nit rate bytes) ≡ [] → Without p rules.Sdt → filter p (to_sdt rate bytes) ≡ []
-  no_sdt before sdt = right_alone p (to_nit rate bytes) (sdts rate bytes) before ∙ none_at p rules.Sdt (Some 0x11) (table_late rate 2000 0x11 0x42 bytes) (sdt (Some 0x11))
+  no_sdt before sdt = right_alone p (to_nit rate bytes) (sdts rate bytes) before
+      ∙ none_at p rules.Sdt (Some 0x11) (table_late rate 2000 0x11 0x42 bytes) (sdt (Some 0x11))
 
   no_eit : filter p (to_sdt rate bytes) ≡ [] → Without p rules.Eit → filter p (to_eit rate bytes) ≡ []
-  no_eit before eit = right_alone p (to_sdt rate bytes) (eits rate bytes) before ∙ none_at p rules.Eit (Some 0x12) (table_late rate 2000 0x12 0x4E bytes) (eit (Some 0x12))
+  no_eit before eit = right_alone p (to_sdt rate bytes) (eits rate bytes) before
+      ∙ none_at p rules.Eit (Some 0x12) (table_late rate 2000 0x12 0x4E bytes) (eit (Some 0x12))
 
   no_tdt : filter p (to_eit rate bytes) ≡ [] → Without p rules.Tdt → filter p (to_tdt rate bytes) ≡ []
-  no_tdt before tdt = right_alone p (to_eit rate bytes) (tdts rate bytes) before ∙ none_at p rules.Tdt (Some 0x14) (table_late rate 30000 0x14 0x70 bytes) (tdt (Some 0x14))
+  no_tdt before tdt = right_alone p (to_eit rate bytes) (tdts rate bytes) before
+      ∙ none_at p rules.Tdt (Some 0x14) (table_late rate 30000 0x14 0x70 bytes) (tdt (Some 0x14))
 
   -- 3. Groups after that of a rule
 
   but_pmt : Without p rules.Pmt → filter p (to_pat rate bytes ++ pmts rate bytes) ≡ filter p (to_pat rate bytes)
-  but_pmt pmt = left_alone p (to_pat rate bytes) (pmts rate bytes) (none_on_each p rules.Pmt (map_late rate bytes) (map (λ naming. naming.0) (namings (found_on 0 bytes))) pmt)
+  but_pmt pmt =
+      left_alone p (to_pat rate bytes) (pmts rate bytes)
+      (none_on_each p rules.Pmt (map_late rate bytes) (map (λ naming. naming.0) (namings (found_on 0 bytes))) pmt)
 
   but_nit : Without p rules.Nit → filter p (to_pmt rate bytes ++ nits rate bytes) ≡ filter p (to_pmt rate bytes)
   but_nit nit = left_alone p (to_pmt rate bytes) (nits rate bytes) (none_at p rules.Nit (Some 0x10) (table_late rate 10000 0x10 0x40 bytes) (nit (Some 0x10)))
@@ -109,13 +116,15 @@ by_findings p rate limit bytes s q e c r =
 pub crc_group : (rate limit : ℕ) (bytes : List ℕ) → filter (is_by 5) (faults_of rate limit bytes) ≡ filter (is_by 5) (findings_part bytes)
 unfolding rule_number
 crc_group rate limit bytes =
-    by_findings (is_by 5) rate limit bytes (λ o k. refl) (λ o k. refl) (λ o k. refl) (λ o k. refl) (λ o k. refl) ∙ findings_alone (is_by 5) rate bytes (λ o k. refl) (λ o k. refl) (λ o k. refl) (λ o k. refl) (λ o k. refl) (λ o k. refl) (λ o k. refl)
+    by_findings (is_by 5) rate limit bytes (λ o k. refl) (λ o k. refl) (λ o k. refl) (λ o k. refl) (λ o k. refl)
+    ∙ findings_alone (is_by 5) rate bytes (λ o k. refl) (λ o k. refl) (λ o k. refl) (λ o k. refl) (λ o k. refl) (λ o k. refl) (λ o k. refl)
 
 -- 6
 pub section_group : (rate limit : ℕ) (bytes : List ℕ) → filter (is_by 6) (faults_of rate limit bytes) ≡ filter (is_by 6) (findings_part bytes)
 unfolding rule_number
 section_group rate limit bytes =
-    by_findings (is_by 6) rate limit bytes (λ o k. refl) (λ o k. refl) (λ o k. refl) (λ o k. refl) (λ o k. refl) ∙ findings_alone (is_by 6) rate bytes (λ o k. refl) (λ o k. refl) (λ o k. refl) (λ o k. refl) (λ o k. refl) (λ o k. refl) (λ o k. refl)
+    by_findings (is_by 6) rate limit bytes (λ o k. refl) (λ o k. refl) (λ o k. refl) (λ o k. refl) (λ o k. refl)
+    ∙ findings_alone (is_by 6) rate bytes (λ o k. refl) (λ o k. refl) (λ o k. refl) (λ o k. refl) (λ o k. refl) (λ o k. refl) (λ o k. refl)
 
 -- 7
 pub pat_group : (rate limit : ℕ) (bytes : List ℕ) → filter (is_by 7) (faults_of rate limit bytes) ≡ filter (is_by 7) (pats rate bytes)
@@ -206,4 +215,5 @@ pts_group rate limit bytes =
     (no_nit (is_by 14) rate bytes
     (no_pmt (is_by 14) rate bytes
     (no_pat (is_by 14) rate bytes
-    (no_finding (is_by 14) rate bytes (λ o k. refl) (λ o k. refl) (λ o k. refl)) (λ o k. refl)) (λ o k. refl)) (λ o k. refl)) (λ o k. refl)) (λ o k. refl)) (λ o k. refl))
+    (no_finding (is_by 14) rate bytes (λ o k. refl) (λ o k. refl) (λ o k. refl)) (λ o k. refl)) (λ o k. refl)) (λ o k. refl)) (λ o k. refl)) (λ o k. refl))
+    (λ o k. refl))

@@ -73,7 +73,8 @@ unfolding places_after
 last_after None section = refl
 last_after (Some p) section = refl
 
-pub one_error : (rate limit : ℕ) (timing : TableTiming) (section : SectionBegin) (o : Option SectionPlaces) (l : Option ℕ) → 0 < rate → timing ≡ ConstantRate rate →
+pub one_error : (rate limit : ℕ) (timing : TableTiming) (section : SectionBegin) (o : Option SectionPlaces) (l : Option ℕ) → 0 < rate →
+    timing ≡ ConstantRate rate →
     l ≡ Some (limit * 27000) → section.place ≡ section.packet →
     map (λ (e : TableError). e.section.packet) (option_to_list (error_if timing section o l)) ≡ step (limit * rate) (last_place o) section.packet
 unfolding error_if time_between

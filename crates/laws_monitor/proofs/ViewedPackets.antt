@@ -43,7 +43,8 @@ use Rattle.ts_watch.specs.RuleEvents.{pts_events, scrambled_events, stamp_events
 use Rattle.ts_watch.specs.PidLabels.{label_of}
 use Rattle.ts_watch.specs.TableEvents.{TimesState, begin_events, check_word_event, check_word_events, distance_events, error_events as table_error_events}
 use Rattle.ts_watch.specs.TableEvents.{finding_events, findings_events, is_wrong, other_events, section_in, soon_events, whole_in, with_finding}
-use Rattle.ts_report.specs.Seen.{SeenState, cause_of, clock_errors, counter_events, counter_events_by, next_window, refused_events, report_on, timing_of, window_ends}
+use Rattle.ts_report.specs.Seen.{SeenState, cause_of, clock_errors, counter_events, counter_events_by, next_window, refused_events, report_on, timing_of}
+use Rattle.ts_report.specs.Seen.{window_ends}
 use Rattle.ts_watch.specs.ClockWindows as clock_windows
 use Rattle.ts_watch.specs.WindowEvents.{window_events}
 use Rattle.ts_report.specs.StreamTables.{table_units}

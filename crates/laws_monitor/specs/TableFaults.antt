@@ -47,7 +47,8 @@ PatFaultLaw = (rate given packet : ℕ) (bytes : List ℕ) → IsReported rate g
 pub record IsLateMap (rate limit pid : ℕ) (bytes : List ℕ) (packet : ℕ) : Type 0 where
   pub since : ℕ
   pub named : named_since pid bytes ≡ Some since
-  pub too_late : IsTooLate rate limit (since ∷ filter (λ place. nat_lt since place) (table_begins 0x02 (found_on pid bytes)) ++ (length bytes / 188) ∷ []) packet
+  pub too_late : IsTooLate rate limit (since ∷ filter (λ place. nat_lt since place) (table_begins 0x02 (found_on pid bytes)) ++ (length bytes / 188) ∷ [])
+      packet
 
 abbrev pub MapFaultLaw : Type 0
 MapFaultLaw = (rate given pid packet : ℕ) (bytes : List ℕ) →

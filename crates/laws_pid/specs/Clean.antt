@@ -6,7 +6,8 @@ use Rattle.pes_packet.specs.StreamIds.{fits_packet}
 use Rattle.psi_tables.specs.Views.{SectionView}
 use Rattle.psi_tables.specs.Reading.{section_at}
 use Rattle.slot_contents.specs.Contents.{Content, run_bytes}
-use Rattle.demux.specs.Views.{WhatView, IsDuplicate, BreaksCounter, IsScrambled, IsTruncated, IsSection, IsBadSection, IsPes, IsBadPes, IsBadPacket, IsErrored, IsStray}
+use Rattle.demux.specs.Views.{WhatView, IsDuplicate, BreaksCounter, IsScrambled, IsTruncated, IsSection, IsBadSection, IsPes, IsBadPes, IsBadPacket, IsErrored}
+use Rattle.demux.specs.Views.{IsStray}
 use Rattle.demux.specs.Views.{FindingView}
 use Rattle.laws_pid.specs.Units.{unit_pieces}
 use Rattle.laws_pid.specs.Sections.{section_pieces}

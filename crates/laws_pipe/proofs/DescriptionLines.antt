@@ -14,7 +14,8 @@ use Rattle.demux.specs.Views.{FindingView}
 use Rattle.job_text.specs.DescriptionParts.{EventPartView, HeadingView, NetworkPartView, ProgramPartView, StreamPartView, TablePartView}
 use Rattle.job_text.specs.Fields.{burst_numbers, drain_numbers, first_numbers, frame_numbers, group_numbers, last_numbers, leak_numbers, limit_numbers}
 use Rattle.job_text.specs.Fields.{pace_numbers, place_numbers, program_numbers, size_numbers, table_numbers, time_numbers}
-use Rattle.job_text.specs.KeyLines.{digits_of, header, hex_line, items_of, items_text, key_line, list_line, noted_line, number_line, number_lines, table_header, value_text}
+use Rattle.job_text.specs.KeyLines.{digits_of, header, hex_line, items_of, items_text, key_line, list_line, noted_line, number_line, number_lines, table_header}
+use Rattle.job_text.specs.KeyLines.{value_text}
 use Rattle.job_text.specs.Notes.{is_shown, note_of, type_note}
 use Rattle.job_text.proofs.NoteLines.{notes_are_shown}
 use Rattle.job_text.specs.Texts.{event_back, event_names, event_numbers, event_text, heading_text, network_if_any, program_front, program_service, program_text}

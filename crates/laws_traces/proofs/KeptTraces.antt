@@ -1,6 +1,7 @@
 -- What is kept around the greatest excess of a buffer.
 use Rattle.std.proofs.Common.{ltb-true, ltb-false, eqb-true}
-use Rattle.std.proofs.Common.{◌≡◌, ◌≢◌, ◌∙◌, sym, ℕ, suc, ◌+◌, ◌-◌, ◌==◌, ◌&&◌, ◌<◌, ◌≤◌, ◌⊎◌, inl, inr, nat_lt, Bool, true, false, cond, List, [], ◌∷◌, ◌++◌, length, take, drop, refl, ap, subst, arith}
+use Rattle.std.proofs.Common.{◌≡◌, ◌≢◌, ◌∙◌, sym, ℕ, suc, ◌+◌, ◌-◌, ◌==◌, ◌&&◌, ◌<◌, ◌≤◌, ◌⊎◌, inl, inr, nat_lt, Bool, true, false, cond, List, [], ◌∷◌, ◌++◌}
+use Rattle.std.proofs.Common.{length, take, drop, refl, ap, subst, arith}
 use Rattle.std.proofs.lemmas.Bool.{eqb-false}
 use Rattle.std.proofs.Common.{append_assoc, length-append, length-drop}
 use Rattle.std.specs.Prelude.{All, Contains, reverse}
@@ -143,7 +144,12 @@ fits_next most size rows r t ring true b2 b3 e1 e2 e3 f =
 fits_next most size rows r t ring false true b3 e1 e2 e3 f = absurd (omega (arith, ltb-true 1 t.later e2, f.left))
 fits_next most size rows r t ring false false true e1 e2 e3 f = absurd (omega (arith, eqb-true t.later 1 e3, f.left))
 fits_next most size rows r t ring false false false e1 e2 e3 f =
-    inr (record { fits = All-cons (λ x. most x ≤ size) r rows (fit (not_both (nat_lt size (most r)) (nat_lt t.greatest (most r)) e1)) f.fits; value = f.value; left = f.left })
+    inr (record {
+      fits = All-cons (λ x. most x ≤ size) r rows (fit (not_both (nat_lt size (most r)) (nat_lt t.greatest (most r)) e1)) f.fits;
+      value =
+          f.value;
+      left = f.left;
+    })
   where
     fit : (nat_lt size (most r) ≡ false) ⊎ (nat_lt t.greatest (most r) ≡ false) → most r ≤ size
     fit (inl h) = ltb-false size (most r) h
@@ -151,7 +157,8 @@ fits_next most size rows r t ring false false false e1 e2 e3 f =
 
 -- 3. All rows
 
-state : (most : TraceRow → ℕ) (size : ℕ) (rows : List TraceRow) → Around most size rows (kept_after most size rows) ⊎ Fits most size rows (kept_after most size rows)
+state : (most : TraceRow → ℕ) (size : ℕ) (rows : List TraceRow) →
+    Around most size rows (kept_after most size rows) ⊎ Fits most size rows (kept_after most size rows)
 unfolding kept_after
 state most size [] = inr (record { fits = All-nil (λ x. most x ≤ size); value = refl; left = refl })
 state most size (r ∷ before) = by (state most size before)
@@ -160,7 +167,8 @@ state most size (r ∷ before) = by (state most size before)
     t = kept_after most size before
 
     by : Around most size before t ⊎ Fits most size before t →
-        Around most size (r ∷ before) (trace_after t (ring_after (r ∷ before)) size (most r)) ⊎ Fits most size (r ∷ before) (trace_after t (ring_after (r ∷ before)) size (most r))
+        Around most size (r ∷ before) (trace_after t (ring_after (r ∷ before)) size (most r)) ⊎ Fits most size (r ∷ before)
+        (trace_after t (ring_after (r ∷ before)) size (most r))
     by (inl a) = inl (around_next most size before r t (ring_after (r ∷ before)) refl _ _ _ refl refl refl a)
     by (inr f) = fits_next most size before r t (ring_after (r ∷ before)) _ _ _ refl refl refl f
 
@@ -202,7 +210,8 @@ among_kept later greatest before rows are =
     (Contains-append_right (reverse rest) (greatest ∷ reverse some) greatest (0, omega arith, refl))
 
 pub kept_rows : (most : TraceRow → ℕ) (size : ℕ) (rows : List TraceRow) →
-    IsKept most size rows (trace_rows (kept_after most size rows) (ring_after rows)) ⊎ IsNone most size rows (trace_rows (kept_after most size rows) (ring_after rows))
+    IsKept most size rows (trace_rows (kept_after most size rows) (ring_after rows)) ⊎ IsNone most size rows
+    (trace_rows (kept_after most size rows) (ring_after rows))
 kept_rows most size rows = by (state most size rows)
   where
     t : Trace

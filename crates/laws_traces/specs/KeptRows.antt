@@ -40,7 +40,8 @@ pub record IsNone (most : TraceRow → ℕ) (size : ℕ) (rows kept : List Trace
 
 abbrev pub TraceLaw : Type 0
 TraceLaw = (most : TraceRow → ℕ) (size : ℕ) (rows : List TraceRow) →
-    IsKept most size rows (trace_rows (kept_after most size rows) (ring_after rows)) ⊎ IsNone most size rows (trace_rows (kept_after most size rows) (ring_after rows))
+    IsKept most size rows (trace_rows (kept_after most size rows) (ring_after rows)) ⊎ IsNone most size rows
+    (trace_rows (kept_after most size rows) (ring_after rows))
 
 -- the state of a stream after these rows, whose transport buffer and main buffer have these sizes
 unfoldable pub all_after : ℕ → ℕ → List TraceRow → Traces

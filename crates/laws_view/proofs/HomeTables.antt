@@ -1,5 +1,6 @@
 -- Each section of what a multiplexer wrote is of a table that belongs on its PID.
-use Rattle.std.proofs.Common.{◌≡◌, ◌∙◌, ℕ, ◌+◌, ◌-◌, ◌*◌, ◌/◌, ◌^◌, ◌≤◌, ◌<◌, ◌==◌, Bool, true, false, cond, List, [], ◌∷◌, ◌++◌, length, take, drop, map, filter, nat_le}
+use Rattle.std.proofs.Common.{◌≡◌, ◌∙◌, ℕ, ◌+◌, ◌-◌, ◌*◌, ◌/◌, ◌^◌, ◌≤◌, ◌<◌, ◌==◌, Bool, true, false, cond, List, [], ◌∷◌, ◌++◌, length, take, drop, map}
+use Rattle.std.proofs.Common.{filter, nat_le}
 use Rattle.std.proofs.Common.{slice_get, inl, inr, Option, Some, None, refl, sym, ap, ap₂, subst, arith, All, ne_eqb}
 use Rattle.std.specs.Prelude.{slice_index}
 use Rattle.std.proofs.lemmas.Bool.{cases_Bool, cases_lt}
@@ -60,7 +61,8 @@ use Rattle.events.specs.declared.event.Event.TheVariants as found
 use Rattle.events.specs.declared.rule_event.RuleEvent.TheVariants as rules
 use Rattle.es_view.specs.declared.view_options.ViewOptions.{ViewOptions}
 use Rattle.ts_watch.specs.Choices.{RequestView}
-use Rattle.ts_watch.specs.TableEvents.{TimesState, begin_events, check_word_event, check_word_events, distance_events, error_events, finding_events, findings_events}
+use Rattle.ts_watch.specs.TableEvents.{TimesState, begin_events, check_word_event, check_word_events, distance_events, error_events, finding_events}
+use Rattle.ts_watch.specs.TableEvents.{findings_events}
 use Rattle.ts_watch.specs.TableEvents.{is_wrong, other_events, section_in, soon_events, whole_in, with_finding}
 use Rattle.ts_watch.proofs.HeaderTables.{events_alike}
 use Rattle.ts_report.specs.StreamTables.{TableState}
@@ -237,73 +239,74 @@ all_sent pid id n (text ∷ texts) packets ids h =
     by rest [] = rest
     by rest (i ∷ is) = (section_home pid id (next_of n left) text i is (All-head (HasId id) text texts ids) h, rest)
 
-module _ (d : Scheduled) (units : ℕ → List AccessUnit) (slots : ℕ) (ranges : IsInRange d.description) (kept : UnitsKept d units) (few : slots < 2 ^ 64 - 1) where
-  abbrev bytes : List ℕ
-  bytes = run_bytes (content_at d units) 0 slots
+module _ (d : Scheduled) (units : ℕ → List AccessUnit) (slots : ℕ) (ranges : IsInRange d.description) (kept : UnitsKept d units) (few : slots < 2 ^ 64 - 1)
+  where
+    abbrev bytes : List ℕ
+    bytes = run_bytes (content_at d units) 0 slots
 
-  few_packets : length bytes / 188 < 2 ^ 64 - 1
-  few_packets = let size : length bytes ≡ 188 * slots = run_length (content_at d units) 0 slots (contents_fit d units ranges kept) in omega (arith, size, few)
+    few_packets : length bytes / 188 < 2 ^ 64 - 1
+    few_packets = let size : length bytes ≡ 188 * slots = run_length (content_at d units) 0 slots (contents_fit d units ranges kept) in omega (arith, size, few)
 
-  -- of a table that is not ready-made
-  of_table : (t : ℕ) (k : TableKind) → table_kind d.description t ≡ Some k → IsMade k → (table_pid d.description t == 8191) ≡ false →
-      belongs (table_pid d.description t) (table_id_of k) ≡ true →
-      AllHome (map (with_pid_at (table_pid d.description t)) (found_on (table_pid d.description t) bytes))
-  of_table t k is made no_null h =
-      let table : Rounds = table_of d t in
-      let lt : t < table_count d.description = slice_get_within (table_kinds d.description) t k is in
-      let ids : All (HasId (table_id_of k)) (sections_of_rounds table slots) =
-      rounds_all (HasId (table_id_of k)) table (own_slots (starts table.own (round_places table.lengths) 0) 0 slots)
-      (λ j moment within. text_id d.description t j moment k is made within) in
-      subst AllHome (sym (sym (as_told (table_pid d.description t) bytes no_null few_packets)
-      ∙ (given_back d units slots ranges kept few).tables t lt (made_distinguishable d.description t k is made)))
-      (all_sent (table_pid d.description t) (table_id_of k) slots (sections_of_rounds table slots) (section_slots table slots) ids h)
+    -- of a table that is not ready-made
+    of_table : (t : ℕ) (k : TableKind) → table_kind d.description t ≡ Some k → IsMade k → (table_pid d.description t == 8191) ≡ false →
+        belongs (table_pid d.description t) (table_id_of k) ≡ true →
+        AllHome (map (with_pid_at (table_pid d.description t)) (found_on (table_pid d.description t) bytes))
+    of_table t k is made no_null h =
+        let table : Rounds = table_of d t in
+        let lt : t < table_count d.description = slice_get_within (table_kinds d.description) t k is in
+        let ids : All (HasId (table_id_of k)) (sections_of_rounds table slots) =
+        rounds_all (HasId (table_id_of k)) table (own_slots (starts table.own (round_places table.lengths) 0) 0 slots)
+        (λ j moment within. text_id d.description t j moment k is made within) in
+        subst AllHome (sym (sym (as_told (table_pid d.description t) bytes no_null few_packets)
+        ∙ (given_back d units slots ranges kept few).tables t lt (made_distinguishable d.description t k is made)))
+        (all_sent (table_pid d.description t) (table_id_of k) slots (sections_of_rounds table slots) (section_slots table slots) ids h)
 
-  silent : (pid : ℕ) → map (with_pid_at pid) (found_on pid bytes) ≡ [] → AllHome (map (with_pid_at pid) (found_on pid bytes))
-  unfolding AllHome
-  silent pid e = subst AllHome (sym e) tt
+    silent : (pid : ℕ) → map (with_pid_at pid) (found_on pid bytes) ≡ [] → AllHome (map (with_pid_at pid) (found_on pid bytes))
+    unfolding AllHome
+    silent pid e = subst AllHome (sym e) tt
 
-  abbrev Fine : ℕ → Type 0
-  Fine pid = AllHome (map (with_pid_at pid) (found_on pid bytes))
+    abbrev Fine : ℕ → Type 0
+    Fine pid = AllHome (map (with_pid_at pid) (found_on pid bytes))
 
-  low_pid : (pid : ℕ) → 0 < pid → pid < 32 → Fine pid
-  low_pid pid some low = elim (sent_or_silent d.description pid) [
-    | inl sent ↦ by sent
-    | inr none ↦ silent pid (sym (as_told pid bytes no_null few_packets) ∙ silent_back d units slots pid (is_run d units slots ranges kept few) no_null none)
-  ]
-    where
-      no_null : (pid == 8191) ≡ false
-      no_null = ne_eqb pid 8191 (λ e. omega (arith, low, e))
-
-      on_kind : (t : ℕ) (k : TableKind) (home : ℕ) → IsMade k → home ≡ pid → belongs home (table_id_of k) ≡ true → table_kind d.description t ≡ Some k →
-          table_pid d.description t ≡ pid → AllHome (map (with_pid_at pid) (found_on pid bytes))
-      on_kind t k home made e h is on =
-          subst (λ (q : ℕ). AllHome (map (with_pid_at q) (found_on q bytes))) on
-          (of_table t k is made (ap (λ (q : ℕ). q == 8191) on ∙ no_null) (ap (λ (q : ℕ). belongs q (table_id_of k)) (on ∙ sym e) ∙ h))
-
-      by : IsSentOn d.description pid → AllHome (map (with_pid_at pid) (found_on pid bytes))
-      by (inl (k, s, is, same)) = absurd (stream_higher d.description pid k s ranges (some, low) is same)
-      by (inr (t, lt, same)) =
-          let k = kind_there (table_kinds d.description) t lt in
-          let kind = k.1 in
-          let on : table_pid d.description t ≡ kind_pid d.description k.0 = rw kind refl in
-          kind_on (λ x. table_kind d.description t ≡ Some x → table_pid d.description t ≡ pid → AllHome (map (with_pid_at pid) (found_on pid bytes)))
-          d.description pid k.0 ranges (some, low) (sym on ∙ same)
-          (λ e. on_kind t Nit 0x10 tt e refl) (λ e. on_kind t Sdt 0x11 tt e refl) (λ e. on_kind t Eit 0x12 tt e refl)
-          (λ e. on_kind t Tdt 0x14 tt e refl) k.1 same
-
-  each_pid : (pid : ℕ) → Fine pid
-  each_pid pid = elim (cases_lt pid 32) [
-    | inl low ↦ elim (cases_lt 0 pid) [
-      | inl some ↦ low_pid pid some low
-      | inr zero_pid ↦
-          let is : 0 ≡ pid = omega (arith, zero_pid) in
-          subst (λ (q : ℕ). AllHome (map (with_pid_at q) (found_on q bytes))) is (of_table 0 Pat refl tt refl refl)
+    low_pid : (pid : ℕ) → 0 < pid → pid < 32 → Fine pid
+    low_pid pid some low = elim (sent_or_silent d.description pid) [
+      | inl sent ↦ by sent
+      | inr none ↦ silent pid (sym (as_told pid bytes no_null few_packets) ∙ silent_back d units slots pid (is_run d units slots ranges kept few) no_null none)
     ]
-    | inr high ↦ all_high pid (found_on pid bytes) high
-  ]
+      where
+        no_null : (pid == 8191) ≡ false
+        no_null = ne_eqb pid 8191 (λ e. omega (arith, low, e))
 
-  all_home : AllHome (found_whole bytes)
-  all_home = of_pids (found_whole bytes) (λ pid. subst AllHome (sym (of_each bytes few_packets pid)) (each_pid pid))
+        on_kind : (t : ℕ) (k : TableKind) (home : ℕ) → IsMade k → home ≡ pid → belongs home (table_id_of k) ≡ true → table_kind d.description t ≡ Some k →
+            table_pid d.description t ≡ pid → AllHome (map (with_pid_at pid) (found_on pid bytes))
+        on_kind t k home made e h is on =
+            subst (λ (q : ℕ). AllHome (map (with_pid_at q) (found_on q bytes))) on
+            (of_table t k is made (ap (λ (q : ℕ). q == 8191) on ∙ no_null) (ap (λ (q : ℕ). belongs q (table_id_of k)) (on ∙ sym e) ∙ h))
+
+        by : IsSentOn d.description pid → AllHome (map (with_pid_at pid) (found_on pid bytes))
+        by (inl (k, s, is, same)) = absurd (stream_higher d.description pid k s ranges (some, low) is same)
+        by (inr (t, lt, same)) =
+            let k = kind_there (table_kinds d.description) t lt in
+            let kind = k.1 in
+            let on : table_pid d.description t ≡ kind_pid d.description k.0 = rw kind refl in
+            kind_on (λ x. table_kind d.description t ≡ Some x → table_pid d.description t ≡ pid → AllHome (map (with_pid_at pid) (found_on pid bytes)))
+            d.description pid k.0 ranges (some, low) (sym on ∙ same)
+            (λ e. on_kind t Nit 0x10 tt e refl) (λ e. on_kind t Sdt 0x11 tt e refl) (λ e. on_kind t Eit 0x12 tt e refl)
+            (λ e. on_kind t Tdt 0x14 tt e refl) k.1 same
+
+    each_pid : (pid : ℕ) → Fine pid
+    each_pid pid = elim (cases_lt pid 32) [
+      | inl low ↦ elim (cases_lt 0 pid) [
+        | inl some ↦ low_pid pid some low
+        | inr zero_pid ↦
+            let is : 0 ≡ pid = omega (arith, zero_pid) in
+            subst (λ (q : ℕ). AllHome (map (with_pid_at q) (found_on q bytes))) is (of_table 0 Pat refl tt refl refl)
+      ]
+      | inr high ↦ all_high pid (found_on pid bytes) high
+    ]
+
+    all_home : AllHome (found_whole bytes)
+    all_home = of_pids (found_whole bytes) (λ pid. subst AllHome (sym (of_each bytes few_packets pid)) (each_pid pid))
 
 pub run_homes_law : RunHomesLaw
 run_homes_law d units slots request ranges kept few =

@@ -1,5 +1,6 @@
 -- The events `table_repetition` of a table on a PID, finding by finding: the errors of its sections.
-use Rattle.std.proofs.Common.{◌≡◌, ◌∙◌, ℕ, ◌+◌, ◌-◌, ◌*◌, ◌<◌, ◌==◌, ◌&&◌, Bool, true, false, cond, nat_eq, List, [], ◌∷◌, ◌++◌, map, filter, Option, Some, None}
+use Rattle.std.proofs.Common.{◌≡◌, ◌∙◌, ℕ, ◌+◌, ◌-◌, ◌*◌, ◌<◌, ◌==◌, ◌&&◌, Bool, true, false, cond, nat_eq, List, [], ◌∷◌, ◌++◌, map, filter, Option, Some}
+use Rattle.std.proofs.Common.{None}
 use Rattle.std.proofs.Common.{refl, sym, ap, ap₂, subst, arith, eq-eqb, ne_eqb}
 use Rattle.std.specs.Prelude.{nat_lt, option_and_then}
 use Rattle.std.specs.List.{cons_option, filter_map}
@@ -16,7 +17,8 @@ use Rattle.demux.specs.declared.finding.Kind.TheVariants.{Table, Pes}
 use Rattle.tr101290.specs.Distances as distances
 use Rattle.tr101290.specs.Distances.{DistanceState}
 use Rattle.tr101290.specs.Homes.{belongs}
-use Rattle.tr101290.specs.Intervals.{IntervalState, before_in, error_at, error_if, key_of, key_with, part_before, part_key, part_places_at, parts_after, places_after}
+use Rattle.tr101290.specs.Intervals.{IntervalState, before_in, error_at, error_if, key_of, key_with, part_before, part_key, part_places_at, parts_after}
+use Rattle.tr101290.specs.Intervals.{places_after}
 use Rattle.tr101290.specs.Intervals.{places_at, section_key, taken, time_between}
 use Rattle.tr101290.specs.Limits.{limit_of}
 use Rattle.tr101290.specs.Parts.{has_parts}
@@ -32,8 +34,10 @@ use Rattle.events.specs.declared.event.Event.{Event}
 use Rattle.events.specs.declared.event.Event.TheVariants as found
 use Rattle.events.specs.declared.rule_event.RuleEvent.TheVariants as rules
 use Rattle.es_view.specs.declared.view_options.ViewOptions.{ViewOptions}
-use Rattle.ts_watch.specs.TableEvents.{TimesState, begin_events, check_word_event, check_word_events, distance_events, error_event, error_events, finding_events}
-use Rattle.ts_watch.specs.TableEvents.{findings_events, is_wrong, other_events, placed, section_in, soon_events, whole_in, with_begin, with_check_word, with_finding}
+use Rattle.ts_watch.specs.TableEvents.{TimesState, begin_events, check_word_event, check_word_events, distance_events, error_event, error_events}
+use Rattle.ts_watch.specs.TableEvents.{finding_events}
+use Rattle.ts_watch.specs.TableEvents.{findings_events, is_wrong, other_events, placed, section_in, soon_events, whole_in, with_begin, with_check_word}
+use Rattle.ts_watch.specs.TableEvents.{with_finding}
 use Rattle.ts_watch.specs.TableEvents.{with_findings, with_whole}
 use Rattle.laws_view.specs.ViewedTables.{is_late, late_of}
 
@@ -201,7 +205,8 @@ module _ (pid table_id : ℕ) where
 
   -- 3. The error of a section
 
-  by_part : (i j : IntervalState) (s : SectionBegin) (o : Option ℕ) → Agree i j → IsOf s → table_id < 256 → IsSmallPart o → part_before i s o ≡ part_before j s o
+  by_part : (i j : IntervalState) (s : SectionBegin) (o : Option ℕ) → Agree i j → IsOf s → table_id < 256 → IsSmallPart o →
+      part_before i s o ≡ part_before j s o
   unfolding part_before IsSmallPart
   by_part i j s None h is lt small = refl
   by_part i j s (Some p) h is lt small =

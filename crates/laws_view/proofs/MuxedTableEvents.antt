@@ -41,7 +41,8 @@ use Rattle.ts_watch.specs.TableEvents.{error_event}
 use Rattle.ts_report.specs.Seen.{table_timing}
 use Rattle.ts_report.specs.Views.{start}
 use Rattle.laws_view.specs.ViewedSections.{sections_in}
-use Rattle.laws_view.specs.ViewedTables.{AreBytes, JobTableEventsLaw, NoLateEvents, RunTableEventsLaw, ViewedTablesLaw, is_late, is_late_on, is_of, is_on, late_of}
+use Rattle.laws_view.specs.ViewedTables.{AreBytes, JobTableEventsLaw, NoLateEvents, RunTableEventsLaw, ViewedTablesLaw, is_late, is_late_on, is_of, is_on}
+use Rattle.laws_view.specs.ViewedTables.{late_of}
 use Rattle.laws_view.proofs.LateEvents.{Agree, itself, off_begin, off_section, own, sections_at}
 use Rattle.laws_view.proofs.MuxedFrames.{packet_sizes_are}
 use Rattle.laws_view.proofs.OtherTables.{all_in_time}
@@ -96,7 +97,8 @@ module _ (pid table_id : ℕ) where
   own_of [] = refl
   own_of (f ∷ fs) = by (own_of fs) (has_pid pid f.pid) refl
     where
-      by : own pid table_id (sections_at fs) ≡ of_table (filter_map section_begin (found_of pid fs)) → (t : Bool) → has_pid pid f.pid ≡ t → own pid table_id (cons_option (section_begin f) (sections_at fs))
+      by : own pid table_id (sections_at fs) ≡ of_table (filter_map section_begin (found_of pid fs)) → (t : Bool) → has_pid pid f.pid ≡ t →
+          own pid table_id (cons_option (section_begin f) (sections_at fs))
           ≡ of_table (filter_map section_begin (cond t (f ∷ found_of pid fs) (found_of pid fs)))
       by rest true e = on_section (section_begin f) (sections_at fs) (filter_map section_begin (found_of pid fs)) (on_begin f.pid f.begun f.what e) rest
       by rest false e = off_section pid table_id (section_begin f) (sections_at fs) (off_begin pid table_id f.pid f.begun f.what e) ∙ rest

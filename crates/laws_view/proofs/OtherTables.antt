@@ -1,5 +1,6 @@
 -- On a PID without a ready-made table no section of any table is late in what a multiplexer wrote.
-use Rattle.std.proofs.Common.{◌≡◌, ◌∙◌, ℕ, ◌+◌, ◌-◌, ◌*◌, ◌/◌, ◌^◌, ◌<◌, ◌==◌, nat_le, Bool, true, false, cond, List, [], ◌∷◌, ◌++◌, length, take, drop, map, filter}
+use Rattle.std.proofs.Common.{◌≡◌, ◌∙◌, ℕ, ◌+◌, ◌-◌, ◌*◌, ◌/◌, ◌^◌, ◌<◌, ◌==◌, nat_le, Bool, true, false, cond, List, [], ◌∷◌, ◌++◌, length, take, drop, map}
+use Rattle.std.proofs.Common.{filter}
 use Rattle.std.proofs.Common.{slice_get, inl, inr, Option, Some, None, refl, sym, ap, subst, arith, All, eqb-true}
 use Rattle.std.specs.Prelude.{slice_index}
 use Rattle.std.specs.List.{cons_option, filter_map}
@@ -76,7 +77,8 @@ unfolding each_found if_sent
 units_none id base0 pid n [] = refl
 units_none id base0 pid n (x ∷ sent) = by (units_none id base0 pid n sent) x.packets
   where
-    by : filter_map section_begin (map (with_pid_at pid) (each_found (unit_found id base0) n sent)) ≡ [] → (packets : List ℕ) → filter_map section_begin (map (with_pid_at pid)
+    by : filter_map section_begin (map (with_pid_at pid) (each_found (unit_found id base0) n sent)) ≡ [] → (packets : List ℕ) →
+        filter_map section_begin (map (with_pid_at pid)
         (if_sent (unit_found id base0 (next_of n sent) x.item) packets ++ each_found (unit_found id base0) n sent)) ≡ []
     by rest [] = rest
     by rest (i ∷ is) =
@@ -171,7 +173,8 @@ module _ (d : Scheduled) (units : ℕ → List AccessUnit) (slots : ℕ) (ranges
   same_id t Tdt is made on = subst (λ (pid : ℕ). table_errors rate pid 0x70 bytes ≡ []) on (run_tables_law d units slots ranges promised kept few).time
   same_id t (Private i) is made on = absurd made
 
-  made_kind : (t : ℕ) (k : TableKind) (pid : ℕ) → table_kind d.description t ≡ Some k → table_pid d.description t ≡ pid → IsNotReadyMade d.description pid → IsMade k
+  made_kind : (t : ℕ) (k : TableKind) (pid : ℕ) → table_kind d.description t ≡ Some k → table_pid d.description t ≡ pid → IsNotReadyMade d.description pid →
+      IsMade k
   made_kind t Pat pid is on none = tt
   made_kind t (Pmt p) pid is on none = tt
   made_kind t Nit pid is on none = tt
@@ -180,7 +183,8 @@ module _ (d : Scheduled) (units : ℕ → List AccessUnit) (slots : ℕ) (ranges
   made_kind t Tdt pid is on none = tt
   made_kind t (Private i) pid is on none = none t i is on
 
-  of_table : (t table_id : ℕ) → t < table_count d.description → (table_pid d.description t == 8191) ≡ false → IsNotReadyMade d.description (table_pid d.description t) →
+  of_table : (t table_id : ℕ) → t < table_count d.description → (table_pid d.description t == 8191) ≡ false →
+      IsNotReadyMade d.description (table_pid d.description t) →
       table_errors rate (table_pid d.description t) table_id bytes ≡ []
   of_table t table_id lt no_null none =
       let k = kind_there (table_kinds d.description) t lt in
@@ -206,7 +210,8 @@ module _ (d : Scheduled) (units : ℕ → List AccessUnit) (slots : ℕ) (ranges
   of_pid pid table_id no_null none = elim (sent_or_silent d.description pid) [
     | inl sent ↦ by sent
     | inr silent ↦
-        by_told pid table_id [] (sym (as_told pid bytes no_null few_packets) ∙ silent_back d units slots pid (is_run d units slots ranges kept few) no_null silent)
+        by_told pid table_id []
+        (sym (as_told pid bytes no_null few_packets) ∙ silent_back d units slots pid (is_run d units slots ranges kept few) no_null silent)
         refl
   ]
     where

@@ -1,5 +1,6 @@
 -- Sections of a table with parts have no errors, if those of each part begin in time.
-use Rattle.std.proofs.Common.{◌≡◌, ◌∙◌, ℕ, zero, suc, ◌+◌, ◌-◌, ◌*◌, ◌/◌, ◌≤◌, ◌<◌, ◌==◌, nat_le, nat_eq, Bool, true, false, cond, List, [], ◌∷◌, ◌++◌, length, take, drop}
+use Rattle.std.proofs.Common.{◌≡◌, ◌∙◌, ℕ, zero, suc, ◌+◌, ◌-◌, ◌*◌, ◌/◌, ◌≤◌, ◌<◌, ◌==◌, nat_le, nat_eq, Bool, true, false, cond, List, [], ◌∷◌, ◌++◌, length}
+use Rattle.std.proofs.Common.{take, drop}
 use Rattle.std.proofs.Common.{map, filter, Option, Some, None, refl, sym, ap, ap₂, subst, arith, All, ne_eqb}
 use Rattle.std.specs.Prelude.{slice_index, option_map}
 use Rattle.std.specs.List.{cons_option, filter_map}
@@ -13,7 +14,8 @@ use Rattle.demux.specs.Laws.{with_pid_at}
 use Rattle.laws_pid.specs.Sent.{Ending, each_found, if_sent, next_of, sendings}
 use Rattle.laws_pid.specs.Sections.{section_found, section_packets}
 use Rattle.monitor.proofs.LatePlaces.{after, step}
-use Rattle.tr101290.specs.Intervals.{IntervalState, before_in, error_at, error_if, key_of, key_with, part_before, part_key, part_places_at, parts_after, places_after}
+use Rattle.tr101290.specs.Intervals.{IntervalState, before_in, error_at, error_if, key_of, key_with, part_before, part_key, part_places_at, parts_after}
+use Rattle.tr101290.specs.Intervals.{places_after}
 use Rattle.tr101290.specs.Intervals.{places_at, section_key, taken}
 use Rattle.tr101290.specs.Limits.{limit_of, milliseconds}
 use Rattle.tr101290.specs.Parts.{has_parts, part_in, part_of}

@@ -91,7 +91,8 @@ module _ (table_id : ℕ) where
       more = cut Continues (drop 184 bytes) is ++ rest
 
       by : (b : Bool) → map (λ (p : Payload). p.index)
-          (cond (true && b) (record { index = i; start = Begins; bytes = take 184 bytes } ∷ filter (λ p. is_with part p) more) (filter (λ p. is_with part p) more))
+          (cond (true && b) (record { index = i; start = Begins; bytes = take 184 bytes } ∷ filter (λ p. is_with part p) more)
+          (filter (λ p. is_with part p) more))
           ≡ cond b (i ∷ starts_part part more) (starts_part part more)
       by true = refl
       by false = refl
@@ -108,14 +109,16 @@ module _ (table_id : ℕ) where
   none_started part [] = refl
   none_started part (text ∷ texts) = refl
 
-  no_payloads : (texts : List (List ℕ)) (packets : List ℕ) → packets ≡ [] → sent_payloads section_start filled_section (sendings section_packets texts packets) ≡ []
+  no_payloads : (texts : List (List ℕ)) (packets : List ℕ) → packets ≡ [] →
+      sent_payloads section_start filled_section (sendings section_packets texts packets) ≡ []
   unfolding sent_payloads sendings cut
   no_payloads [] packets e = refl
   no_payloads (text ∷ texts) packets e =
       let c : ℕ = section_packets text in
       let nothing : take c packets ≡ [] = ap (take c) e ∙ take_none c in
       let rest : drop c packets ≡ [] = ap (drop c) e ∙ drop_none c in
-      ap (λ (js : List ℕ). cut Begins (filled_section text) js ++ sent_payloads section_start filled_section (sendings section_packets texts (drop c packets))) nothing
+      ap (λ (js : List ℕ). cut Begins (filled_section text) js ++ sent_payloads section_start filled_section (sendings section_packets texts (drop c packets)))
+      nothing
       ∙ no_payloads texts (drop c packets) rest
 
   sent_starts : (part : ℕ) (texts : List (List ℕ)) (packets : List ℕ) → All IsPlain texts →
@@ -132,7 +135,8 @@ module _ (table_id : ℕ) where
       later : ℕ → List Payload
       later k = sent_payloads section_start filled_section (sendings section_packets texts (drop k (i ∷ is)))
 
-      by : starts_part part (later c) ≡ starts_with table_id part texts (drop c (i ∷ is)) → (k : ℕ) → c ≡ suc k → starts_part part (cut Begins (filled_section text) (take c (i ∷ is)) ++ later c)
+      by : starts_part part (later c) ≡ starts_with table_id part texts (drop c (i ∷ is)) → (k : ℕ) → c ≡ suc k →
+          starts_part part (cut Begins (filled_section text) (take c (i ∷ is)) ++ later c)
           ≡ cond (part_in table_id text == part) (i ∷ starts_with table_id part texts (drop c (i ∷ is))) (starts_with table_id part texts (drop c (i ∷ is)))
       by rest k e =
           ap (λ (x : ℕ). starts_part part (cut Begins (filled_section text) (take x (i ∷ is)) ++ later c)) e

@@ -1,5 +1,6 @@
 -- Sections of a program map begin in time, and those of present and of following events each by themselves.
-use Rattle.std.proofs.Common.{◌≡◌, ◌∙◌, ℕ, suc, ◌+◌, ◌-◌, ◌*◌, ◌/◌, ◌%◌, ◌^◌, ◌<◌, ◌≤◌, ◌==◌, ◌&&◌, Bool, true, false, List, [], ◌∷◌, ◌++◌, length, take, replicate}
+use Rattle.std.proofs.Common.{◌≡◌, ◌∙◌, ℕ, suc, ◌+◌, ◌-◌, ◌*◌, ◌/◌, ◌%◌, ◌^◌, ◌<◌, ◌≤◌, ◌==◌, ◌&&◌, Bool, true, false, List, [], ◌∷◌, ◌++◌, length, take}
+use Rattle.std.proofs.Common.{replicate}
 use Rattle.std.proofs.Common.{map, slice_get, Option, Some, None, refl, sym, ap, ap₂, subst, arith, All, append-nil}
 use Rattle.std.specs.Prelude.{is_some, ⊤}
 use Rattle.std.specs.Option.{option_to_list}
@@ -16,7 +17,8 @@ use Rattle.psi_tables.specs.ProgramMap.{pmt_header, pmt_section}
 use Rattle.dvb_tables.specs.EventInformation.{eit_section}
 use Rattle.description_parts.specs.Described.{Described, DescribedProgram}
 use Rattle.description_parts.specs.Ranges.{IsInRange}
-use Rattle.description_parts.specs.Tables.{kind_lengths, kind_limit, pmt_length, scheduled_programs, section_count, section_lengths, table_count, table_kind, table_kinds}
+use Rattle.description_parts.specs.Tables.{kind_lengths, kind_limit, pmt_length, scheduled_programs, section_count, section_lengths, table_count, table_kind}
+use Rattle.description_parts.specs.Tables.{table_kinds}
 use Rattle.description_parts.specs.Tables.{table_limit, table_pid}
 use Rattle.description_parts.specs.declared.table_kind.TableKind.{TableKind}
 use Rattle.description_parts.specs.declared.table_kind.TableKind.TheVariants.{Eit, Nit, Pat, Pmt, Private, Sdt, Tdt}
@@ -127,7 +129,8 @@ made (Private i) parts = absurd parts
 
 -- 2. A table in a run
 
-pub parts_in_time : (d : Scheduled) (units : ℕ → List AccessUnit) (n limit t : ℕ) (k : TableKind) → IsInRange d.description → Promised d.description d.schedule →
+pub parts_in_time : (d : Scheduled) (units : ℕ → List AccessUnit) (n limit t : ℕ) (k : TableKind) → IsInRange d.description →
+    Promised d.description d.schedule →
     UnitsKept d units → n < 2 ^ 64 - 1 → table_kind d.description t ≡ Some k → HasParts k → kind_limit d.description k ≤ limit →
     milliseconds (table_pid d.description t) (table_id_of k) ≡ Some limit → has_parts (table_pid d.description t) (table_id_of k) ≡ true →
     errors_from (no_section (ConstantRate d.description.rate))

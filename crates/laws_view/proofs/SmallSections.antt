@@ -1,5 +1,6 @@
 -- Of bytes, what is found has table_ids of a byte, and parts of two.
-use Rattle.std.proofs.Common.{◌≡◌, ℕ, zero, suc, ◌+◌, ◌-◌, ◌*◌, ◌/◌, ◌<◌, ◌==◌, Bool, true, false, cond, List, [], ◌∷◌, ◌++◌, length, map, take, drop, Option, Some, None}
+use Rattle.std.proofs.Common.{◌≡◌, ℕ, zero, suc, ◌+◌, ◌-◌, ◌*◌, ◌/◌, ◌<◌, ◌==◌, Bool, true, false, cond, List, [], ◌∷◌, ◌++◌, length, map, take, drop, Option}
+use Rattle.std.proofs.Common.{Some, None}
 use Rattle.std.proofs.Common.{Result, Ok, Err, refl, sym, subst, ◌∙◌, arith, All}
 use Rattle.std.specs.Prelude.{◌%◌, nat_lt, option_map, slice_index}
 use Rattle.std.specs.Simd.{first_chunks}
@@ -19,13 +20,15 @@ use Rattle.psi_tables.specs.declared.error.SectionError.{SectionError}
 use Rattle.psi_tables.specs.declared.error.SectionError.TheVariants as refusals
 use Rattle.psi_tables.specs.Reading.{section_at}
 use Rattle.psi_tables.specs.Views.{SectionView}
-use Rattle.demux.specs.Findings.{by_break, by_role, cut_short, decided_by, decided_within, end_of, ended, found_appended, found_at, found_if, found_or_cut, found_within}
+use Rattle.demux.specs.Findings.{by_break, by_role, cut_short, decided_by, decided_within, end_of, ended, found_appended, found_at, found_if, found_or_cut}
+use Rattle.demux.specs.Findings.{found_within}
 use Rattle.demux.specs.Findings.{last_bytes, last_bytes_by, undecided, unless_decided}
 use Rattle.demux.specs.FoundSoFar.{found_in_all}
 use Rattle.demux.specs.Machine.{PidState, found_by, next_open, step, step_marked, unbroken}
 use Rattle.demux.specs.Marks.{LastView, Marked, is_repeat, mark}
 use Rattle.demux.specs.OpenUnits.{OpenUnit, about, about_within, appended, begun_kind, decided, last_in, of_section, section, sections_in, taken_by}
-use Rattle.demux.specs.Roles.{Continuation, NoPayload, PesStart, PointerPastEnd, Role, ScrambledPayload, SectionStart, may_begin_pes, role, role_by, role_by_pointer, role_of}
+use Rattle.demux.specs.Roles.{Continuation, NoPayload, PesStart, PointerPastEnd, Role, ScrambledPayload, SectionStart, may_begin_pes, role, role_by}
+use Rattle.demux.specs.Roles.{role_by_pointer, role_of}
 use Rattle.demux.specs.Roles.{role_of_start}
 use Rattle.demux.specs.Shown.{with_pid}
 use Rattle.demux.specs.Stream.{States, StreamState, entry_of, findings_by, found_in, start, state_of, states_by, taken, with_state}
@@ -108,7 +111,8 @@ by_kind pid packet unit_kinds.Pes access bytes what h calm = tt
 about_small : (unit : OpenUnit) (what : WhatView) → Bytes unit.bytes → (unit.kind ≡ unit_kinds.Section → IsCalm what) → IsSmallFound (about unit what)
 about_small unit what h calm pid = by_kind pid unit.packet unit.kind unit.access unit.bytes what h calm
 
-found_if_small : (unit : OpenUnit) (kind : UnitKind) → unit.kind ≡ kind → (bytes : List ℕ) → Bytes unit.bytes → Bytes bytes → AllFound (found_if unit (decided kind bytes))
+found_if_small : (unit : OpenUnit) (kind : UnitKind) → unit.kind ≡ kind → (bytes : List ℕ) → Bytes unit.bytes → Bytes bytes →
+    AllFound (found_if unit (decided kind bytes))
 unfolding found_if IsCalmIf
 found_if_small unit unit_kinds.Section e bytes h k = by (decided unit_kinds.Section bytes) (decided_calm bytes k)
   where
@@ -259,7 +263,8 @@ role_small packet ScrambledPayload o h k = (plain_small IsScrambled, cut_small o
 role_small packet (PesStart access payload) o h k =
     both (ended false o) _ (ended_small false o k)
     (within_small (record { packet = packet; kind = unit_kinds.Pes; access = access; bytes = payload }) unit_kinds.Pes refl h)
-role_small packet (SectionStart before bytes) o h k = both (last_bytes before o) (sections_in packet 0 bytes) (last_small before o h.0 k) (sections_small packet 0 bytes h.1)
+role_small packet (SectionStart before bytes) o h k =
+    both (last_bytes before o) (sections_in packet 0 bytes) (last_small before o h.0 k) (sections_small packet 0 bytes h.1)
 role_small packet PointerPastEnd o h k = (plain_small (IsBadSection refusals.Body), cut_small o k)
 role_small packet (Continuation payload) None h k = by (length payload == 0)
   where
@@ -273,7 +278,8 @@ role_small packet (Continuation payload) (Some unit) h k =
 break_small : (packet : ℕ) (broken : Option (ℕ × ℕ)) (r : Role) (o : Option OpenUnit) → IsByteRole r → IsByteUnit o → AllFound (by_break packet broken r o)
 unfolding by_break IsByteUnit
 break_small packet None r o h k = role_small packet r o h k
-break_small packet (Some b) r o h k = (plain_small (BreaksCounter b.0 b.1), both (cut_short o) (by_role packet r None) (cut_small o k) (role_small packet r None h tt))
+break_small packet (Some b) r o h k =
+    (plain_small (BreaksCounter b.0 b.1), both (cut_short o) (by_role packet r None) (cut_small o k) (role_small packet r None h tt))
 
 at_small : (m : Marked) (o : Option OpenUnit) → IsByteRole (role m) → IsByteUnit o → AllFound (found_at m o)
 unfolding found_at

@@ -61,7 +61,8 @@ pub packet_keeps : (s : ViewState) (packet : PacketView) (pid : ℕ) → has_str
 packet_keeps s packet pid h =
     begun_keeps s.seen.options (clocked s packet) packet pid (beginning s.seen.named s.table packet)
     (ap (λ (places : List (ℕ × ℕ)). is_some (lookup (nat_eq pid) places))
-    (sym (taken_keeps s.seen.options s.seen.packets (seeing.next_window (clocked s packet).seen) (clocked s packet).seen.clocks (with_begun (clocked s packet) packet)
+    (sym (taken_keeps s.seen.options s.seen.packets (seeing.next_window (clocked s packet).seen) (clocked s packet).seen.clocks
+    (with_begun (clocked s packet) packet)
     packet _)) ∙ h)
 
 -- 2. What is kept
@@ -97,7 +98,8 @@ one_pid q index v o entry e =
     ∙ ap (λ (s : PidState). map found_without_body (found_by s entry)) e ∙ (bodies_decide_nothing o entry).0)
     ∙ sym (with_pid_left q index (found_by o entry))
 
-step_alike : (v o : PidState) (entry : Entry) → state_without_body v ≡ state_without_body o → state_without_body (step v entry) ≡ state_without_body (step o entry)
+step_alike : (v o : PidState) (entry : Entry) → state_without_body v ≡ state_without_body o →
+    state_without_body (step v entry) ≡ state_without_body (step o entry)
 step_alike v o entry e =
     sym (bodies_decide_nothing v entry).1 ∙ ap (λ (s : PidState). state_without_body (step s entry)) e ∙ (bodies_decide_nothing o entry).1
 

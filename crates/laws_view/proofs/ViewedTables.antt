@@ -81,7 +81,8 @@ unfolding AllOff
 off_list pid q index [] e = tt
 off_list pid q index (f ∷ found) e = (e, off_list pid q index found e)
 
-off_found : (pid index : ℕ) (bytes : List ℕ) (states : States) (r : Result PacketView PacketError) → IsElsewhere pid r → AllOff pid (findings_by index bytes states r)
+off_found : (pid index : ℕ) (bytes : List ℕ) (states : States) (r : Result PacketView PacketError) → IsElsewhere pid r →
+    AllOff pid (findings_by index bytes states r)
 unfolding findings_by IsElsewhere AllOff
 off_found pid index bytes states (Err error) e = (refl, tt)
 off_found pid index bytes states (Ok packet) e = by packet.header.transport_error_indicator (packet.header.pid == 8191)
@@ -165,7 +166,8 @@ module _ (pid table_id : ℕ) where
     pub none : has_stream (after_all s packets).table pid ≡ false → rest ≡ []
 
   -- at a packet
-  here : (rate : ℕ) (s : ViewState) (o : StreamState) (j : IntervalState) (bytes : List ℕ) (packets : List (List ℕ)) (sizes : All (λ b. length b ≡ 188) (bytes ∷ packets))
+  here : (rate : ℕ) (s : ViewState) (o : StreamState) (j : IntervalState) (bytes : List ℕ) (packets : List (List ℕ))
+      (sizes : All (λ b. length b ≡ 188) (bytes ∷ packets))
       (h : Alike s o) (at : s.seen.options.arrival ≡ AtRate rate) (agree : has_stream s.table pid ≡ false → Agree pid table_id s.seen.tables.times.intervals j)
       (small : AllSmall (found_in o bytes)) →
       ((i : IntervalState) → (has_stream (after_packet s bytes).table pid ≡ false → Agree pid table_id (after_packet s bytes).seen.tables.times.intervals i) →

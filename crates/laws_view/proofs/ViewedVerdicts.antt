@@ -1,5 +1,6 @@
 -- What is counted of errors in a view of what a multiplexer wrote: nothing.
-use Rattle.std.proofs.Common.{◌≡◌, ◌∙◌, ℕ, ◌+◌, ◌-◌, ◌*◌, ◌/◌, ◌%◌, ◌^◌, ◌≤◌, ◌<◌, ◌==◌, ◌&&◌, Bool, true, false, cond, List, [], ◌∷◌, ◌++◌, length, map, filter}
+use Rattle.std.proofs.Common.{◌≡◌, ◌∙◌, ℕ, ◌+◌, ◌-◌, ◌*◌, ◌/◌, ◌%◌, ◌^◌, ◌≤◌, ◌<◌, ◌==◌, ◌&&◌, Bool, true, false, cond, List, [], ◌∷◌, ◌++◌, length, map}
+use Rattle.std.proofs.Common.{filter}
 use Rattle.std.proofs.Common.{Option, Some, None, Result, Ok, Err, refl, sym, ap, ap₂, subst, arith, append-nil}
 use Rattle.std.specs.Prelude.{◌||◌, is_some, min}
 use Rattle.std.specs.List.{enumerate_from}
@@ -51,10 +52,12 @@ use Rattle.ts_watch.specs.declared.clock_events.ClockRule.TheVariants.{Discontin
 use Rattle.ts_watch.specs.RuleEvents.{accuracy_count, accuracy_events, holds_none}
 use Rattle.ts_watch.specs.SystemEvents.{all_fit}
 use Rattle.ts_watch.specs.TableEvents as section_events
-use Rattle.ts_watch.specs.TableEvents.{TablesState, TimesState, begin_events, check_word_event, check_word_events, distance_events, finding_events, findings_events}
+use Rattle.ts_watch.specs.TableEvents.{TablesState, TimesState, begin_events, check_word_event, check_word_events, distance_events, finding_events}
+use Rattle.ts_watch.specs.TableEvents.{findings_events}
 use Rattle.ts_watch.specs.TableEvents.{is_wrong, more_errors, other_events, section_in, whole_in, with_begin, with_check_word, with_finding, with_findings}
 use Rattle.ts_watch.specs.TableEvents.{with_whole}
-use Rattle.ts_report.specs.Seen.{SeenState, counted_entry, counter_events, counter_events_by, inaccurate_on, report_on, timing_of, with_counter, with_counter_read}
+use Rattle.ts_report.specs.Seen.{SeenState, counted_entry, counter_events, counter_events_by, inaccurate_on, report_on, timing_of, with_counter}
+use Rattle.ts_report.specs.Seen.{with_counter_read}
 use Rattle.ts_report.specs.StreamTables as streams
 use Rattle.ts_report.specs.Views.{ViewState, after_all, after_packet, after_read, counter_events_at, start, table_events_at, with_packet, with_tables}
 use Rattle.ts_report.specs.Views.{without}
@@ -151,7 +154,8 @@ unfolding counter_events_by
 none_broken None e = refl
 none_broken (Some x) e = absurd (let no : ⊥ = cc in no)
 
-counter_counts : (s : SeenState) (bytes : List ℕ) (r : Result PacketView PacketError) → counter_events s bytes r ≡ [] → Counts s → Counts (with_counter_read s bytes r)
+counter_counts : (s : SeenState) (bytes : List ℕ) (r : Result PacketView PacketError) → counter_events s bytes r ≡ [] → Counts s →
+    Counts (with_counter_read s bytes r)
 unfolding counter_events with_counter_read
 counter_counts s bytes (Err error) none h = h
 counter_counts s bytes (Ok packet) none h = by packet.header.transport_error_indicator none
@@ -219,7 +223,8 @@ findings_counts options x (f ∷ fs) e h =
 
 unfoldable AreFine : ViewState → List (List ℕ) → Type 0
 AreFine s [] = Unit {0}
-AreFine s (bytes ∷ packets) = ((packet : PacketView) → sound_packet (packet_at bytes) ≡ Some packet → IsFine s.seen packet) × AreFine (after_packet s bytes) packets
+AreFine s (bytes ∷ packets) = ((packet : PacketView) → sound_packet (packet_at bytes) ≡ Some packet → IsFine s.seen packet) × AreFine (after_packet s bytes)
+    packets
 
 unfoldable AreSound : List (List ℕ) → Type 0
 AreSound [] = Unit {0}
@@ -238,7 +243,8 @@ one_quiet rate s bytes h sound fine counters sections =
     let v : ViewState = after_read s (packet_at bytes) in
     let read : Counts v.seen = read_counts rate s (packet_at bytes) h.arrival sound fine h.counts in
     let kept : Counts (with_tables v bytes).seen = record { errors = read.errors; refused = read.refused } in
-    let after : Counts (with_counter_read (with_tables v bytes).seen bytes (packet_at bytes)) = counter_counts (with_tables v bytes).seen bytes (packet_at bytes) counters kept in
+    let after : Counts (with_counter_read (with_tables v bytes).seen bytes (packet_at bytes)) =
+    counter_counts (with_tables v bytes).seen bytes (packet_at bytes) counters kept in
     let before : v.seen.tables.times.errors ≡ 0 = ap (λ (t : TablesState). t.times.errors) (read_tables s (packet_at bytes)) ∙ h.tables in
     let found : (with_tables v bytes).seen.tables.times.errors ≡ 0 = findings_counts v.seen.options v.seen.tables.times _ sections before in
     record {
@@ -307,7 +313,9 @@ none_of_all (e ∷ events) late words =
     by o true k w rest = absurd (let no : ⊥ = cc in no)
     by None false k w rest = rest
     by (Some fault) false k w rest = absurd (
-        let one : (e ∷ filter (is_late_on fault.pid) events) ≡ [] = ap (λ (t : Bool). cond t (e ∷ filter (is_late_on fault.pid) events) (filter (is_late_on fault.pid) events)) (sym (itself fault.pid)) ∙ k fault.pid in
+        let one : (e ∷ filter (is_late_on fault.pid) events) ≡ [] =
+        ap (λ (t : Bool). cond t (e ∷ filter (is_late_on fault.pid) events) (filter (is_late_on fault.pid) events)) (sym (itself fault.pid))
+        ∙ k fault.pid in
         let no : ⊥ = cc in no)
 
 none_held : (judge : JudgeState) → judge.held ≡ [] → (varies judge || (length judge.held == 0)) ≡ true

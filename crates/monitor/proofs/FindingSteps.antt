@@ -4,7 +4,8 @@ use Rattle.std.proofs.lemmas.List.{append-nil}
 use Rattle.psi_tables.specs.declared.error.SectionError.TheVariants as section_errors
 use Rattle.demux.specs.declared.finding.Kind.{Kind}
 use Rattle.demux.specs.declared.finding.Kind.TheVariants.{Table, Pes}
-use Rattle.demux.specs.Views.{WhatView, IsDuplicate, BreaksCounter, IsScrambled, IsTruncated, IsSection, IsBadSection, IsPes, IsBadPes, IsBadPacket, IsErrored, IsStray}
+use Rattle.demux.specs.Views.{WhatView, IsDuplicate, BreaksCounter, IsScrambled, IsTruncated, IsSection, IsBadSection, IsPes, IsBadPes, IsBadPacket, IsErrored}
+use Rattle.demux.specs.Views.{IsStray}
 use Rattle.demux.specs.Views.{FindingView}
 use Rattle.monitor.specs.declared.fault.StreamFault.{StreamFault}
 use Rattle.monitor.specs.declared.counts.FindingCounts.{FindingCounts}

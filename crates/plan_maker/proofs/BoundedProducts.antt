@@ -25,7 +25,8 @@ module _ (xs : List ℕ) (i : ℕ) (d : ℕ) (p : ℕ) (whole : ℕ) where
       let x : ℕ = get_or xs i d in
       let q : ℕ = whole_product (drop (i + 1) xs) in
       let list : whole_product (drop i xs) ≡ x * q = at_drop_more whole_product xs i d lt in
-      ap (λ (n : ℕ). min (n * q) most_wide) is ∙ stopped most_wide (p * x) q ∙ ap (λ (n : ℕ). min n most_wide) (mul_assoc p x q ∙ sym (ap (λ (n : ℕ). p * n) list)) ∙ inv
+      ap (λ (n : ℕ). min (n * q) most_wide) is ∙ stopped most_wide (p * x) q
+      ∙ ap (λ (n : ℕ). min n most_wide) (mul_assoc p x q ∙ sym (ap (λ (n : ℕ). p * n) list)) ∙ inv
 
   pub all_factors : p ≤ most_wide → length xs ≤ i → min (p * whole_product (drop i xs)) most_wide ≡ whole → p ≡ whole
   unfolding whole_product

@@ -16,7 +16,8 @@ pub over_views : (period : ℕ) (ds : List Demand) → list_any (λ d. nat_lt pe
 over_views period [] = refl
 over_views period (d ∷ ds) = ap (λ (b : Bool). nat_lt period d.count || b) (over_views period ds)
 
-pub view_pushed : (ds : List Demand) (d : Demand) (shown : DemandView) → demand_view d ≡ shown → map demand_view (ds ++ d ∷ []) ≡ map demand_view ds ++ shown ∷ []
+pub view_pushed : (ds : List Demand) (d : Demand) (shown : DemandView) → demand_view d ≡ shown → map demand_view (ds ++ d ∷ []) ≡ map demand_view ds
+    ++ shown ∷ []
 view_pushed ds d shown is = map-append demand_view ds (d ∷ []) ∙ ap (λ (v : DemandView). map demand_view ds ++ v ∷ []) is
 
 module _ (d : Described) (period i : ℕ) (shown : DemandView) (rate kind : ℕ) where

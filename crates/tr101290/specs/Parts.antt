@@ -2,7 +2,8 @@
 -- information table (ETSI TR 101 290, 5.2.3, 3.6.a and 3.6.b; ETSI EN 300 468, 5.2.4), and the map of each program, where programs share a PID for
 -- their maps (TR 101 290, 5.2.1, 1.5.a; ISO/IEC 13818-1, 2.4.4.8).
 use Rattle.std.specs.Prelude.{ℕ, ◌+◌, ◌*◌, ◌==◌, ◌&&◌, ◌||◌, Bool, if◌then◌else◌, List, slice_index, Option, Some, None}
-use Rattle.demux.specs.Views.{WhatView, IsDuplicate, BreaksCounter, IsScrambled, IsTruncated, IsSection, IsBadSection, IsPes, IsBadPes, IsBadPacket, IsErrored, IsStray}
+use Rattle.demux.specs.Views.{WhatView, IsDuplicate, BreaksCounter, IsScrambled, IsTruncated, IsSection, IsBadSection, IsPes, IsBadPes, IsBadPacket, IsErrored}
+use Rattle.demux.specs.Views.{IsStray}
 
 abbrev pub is_map : ℕ → Bool
 is_map table_id = table_id == 0x02

@@ -76,7 +76,8 @@ none_of_it w pid last (r ∷ rs) order less =
     ap (λ (t : Bool). cond (t && (r.pid == pid)) (r.report ∷ reports_in w pid rs) (reports_in w pid rs)) (not_before r.window w before)
     ∙ none_of_it w pid r.window rs order.1 before
 
-one_more : (t : Bool) (report : PcrReport) (rs : List PcrReport) → cond t (counted (all_counted rs) report) (all_counted rs) ≡ all_counted (cond t (report ∷ rs) rs)
+one_more : (t : Bool) (report : PcrReport) (rs : List PcrReport) →
+    cond t (counted (all_counted rs) report) (all_counted rs) ≡ all_counted (cond t (report ∷ rs) rs)
 unfolding all_counted
 one_more true report rs = refl
 one_more false report rs = refl

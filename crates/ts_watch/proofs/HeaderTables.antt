@@ -4,7 +4,8 @@ use Rattle.std.specs.Prelude.{min, if◌then◌else◌, option_and_then, unwrap_
 use Rattle.psi_tables.specs.declared.error.SectionError.TheVariants as refusals
 use Rattle.demux.specs.declared.finding.Kind.{Kind}
 use Rattle.demux.specs.declared.finding.Kind.TheVariants.{Table, Pes}
-use Rattle.demux.specs.Views.{WhatView, IsDuplicate, BreaksCounter, IsScrambled, IsTruncated, IsSection, IsBadSection, IsPes, IsBadPes, IsBadPacket, IsErrored, IsStray}
+use Rattle.demux.specs.Views.{WhatView, IsDuplicate, BreaksCounter, IsScrambled, IsTruncated, IsSection, IsBadSection, IsPes, IsBadPes, IsBadPacket, IsErrored}
+use Rattle.demux.specs.Views.{IsStray}
 use Rattle.demux.specs.Views.{FindingView}
 use Rattle.demux.specs.Bodies.{all_without_body, finding_without_body, without_body}
 use Rattle.events.specs.declared.event.Event.{Event}

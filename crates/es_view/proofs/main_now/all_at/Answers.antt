@@ -18,7 +18,12 @@ overflow_add-bytes c =
 pub loop-unit-preserved : goal.loop-unit-preserved
 loop-unit-preserved c =
     let none : BufferedUnit = record { until = 0; bytes = 0 } in
-    omega (arith, c.loop-unit.invariant, c.bytes_at-bytes.ensures, buffered_next c.args.moment c.args.units.now c.loop-unit.unit-index none c.loop-unit-test.true)
+    omega (
+      arith,
+      c.loop-unit.invariant,
+      c.bytes_at-bytes.ensures,
+      buffered_next c.args.moment c.args.units.now c.loop-unit.unit-index none c.loop-unit-test.true,
+    )
 
 pub returns : goal.returns
 returns c = omega (arith, c.loop-unit.invariant, buffered_end c.args.moment c.args.units.now c.loop-unit.unit-index c.loop-unit-test.false)

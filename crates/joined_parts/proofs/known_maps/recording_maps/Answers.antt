@@ -9,7 +9,8 @@ loop-finding-preserved c =
     let x = c.finding-item.result in
     let made : c.take.new.self ≡ with_finding c.loop-finding.maps (finding_view x) = search rules in
     c.loop-finding.invariant
-    ∙ maps_next finding_view c.loop-finding.maps c.take.new.self c.args.findings.now c.loop-finding.finding-index x c.loop-finding-test.true c.finding-item.is made
+    ∙ maps_next finding_view c.loop-finding.maps c.take.new.self c.args.findings.now c.loop-finding.finding-index x c.loop-finding-test.true c.finding-item.is
+    made
 
 pub returns : goal.returns
 returns c =

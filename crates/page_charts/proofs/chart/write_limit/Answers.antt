@@ -15,7 +15,8 @@ returns c =
     let overs : string_bytes c.write_overs.new.text ≡ string_bytes c.push_str.new.self ++ numbered (over f entry.limit entry.curve.span) 0 entry.curve.slots =
     search rules in
     let line : OnOk c.write_limit_line.result
-    (string_bytes c.write_limit_line.new.text ≡ string_bytes c.write_overs.new.text ++ spec.limit_line f.unit entry.limit (height_of (top_value f) entry.limit)) =
+    (string_bytes c.write_limit_line.new.text ≡ string_bytes c.write_overs.new.text ++ spec.limit_line f.unit entry.limit (height_of (top_value f) entry.limit))
+    =
     search rules in
     three c.write_limit_line.result (string_bytes c.args.text.now) (string_bytes c.push_str.new.self) (string_bytes c.write_overs.new.text)
     (string_bytes c.write_limit_line.new.text)

@@ -13,7 +13,8 @@ returns c =
     let f = c.args.frame.now in
     let curve = c.args.entry.now.curve in
     let class = c.args.number % 16 in
-    let head : string_bytes c.write_area_head.new.text ≡ string_bytes c.args.text.now ++ spec.area_head class (across (slots_of f curve.span) 0) = search rules in
+    let head : string_bytes c.write_area_head.new.text ≡ string_bytes c.args.text.now ++ spec.area_head class (across (slots_of f curve.span) 0) =
+    search rules in
     let points : string_bytes c.write_points.new.text ≡ string_bytes c.write_area_head.new.text ++ numbered (point f curve.span) 0 curve.slots = search rules in
     three c.push_str.result (string_bytes c.args.text.now) (string_bytes c.write_area_head.new.text) (string_bytes c.write_points.new.text)
     (string_bytes c.push_str.new.self)

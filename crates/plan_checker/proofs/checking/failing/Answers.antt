@@ -28,7 +28,8 @@ windows-smaller g c =
     let pushed : c.extend_from_slice.new.self.items ≡ c.windows.found.items ++ c.failing_from-more.result.items = search rules in
     let full : length c.failing_from-more.result.items ≡ 1024 = search rules in
     rw pushed
-    (fewer_left all c.windows.found.items c.failing_from-more.result.items c.windows.invariant 1024 (rw counted at c.failing_from-more.ensures) full (omega arith))
+    (fewer_left all c.windows.found.items c.failing_from-more.result.items c.windows.invariant 1024 (rw counted at c.failing_from-more.ensures) full
+    (omega arith))
 
 pub windows-preserved : goal.windows-preserved
 windows-preserved g c =

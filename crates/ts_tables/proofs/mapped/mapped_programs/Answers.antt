@@ -5,7 +5,8 @@ use Rattle.ts_tables.proofs.mapped.mapped_programs.Goals as goal
 
 pub mapped_from-requires : goal.mapped_from-requires
 mapped_from-requires c =
-    let are = named_are c.args.tables.now (map (finding_view {A = Global}) c.args.findings.now) c.programs.result.now c.args.place c.programs.ensures c.requires in
+    let are = named_are c.args.tables.now (map (finding_view {A = Global}) c.args.findings.now) c.programs.result.now c.args.place c.programs.ensures
+    c.requires in
     record { known = are.known; within = are.within; before = are.before }
 
 pub returns : goal.returns

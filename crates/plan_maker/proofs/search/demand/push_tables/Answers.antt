@@ -18,7 +18,8 @@ loop-t-preserved g c =
     let kind : c.tables-kind.result ≡ length (table_kinds d) = search rules in
     let here : demand_view c.demand_of.result ≡ table_demand d p t =
     table_demand_is d p t _ c.bits_per_second-rate.result c.tables-kind.result c.table_limit-limit.result c.round_packets-packets.result c.within.result
-    c.demand_of.ensures c.within.ensures c.table_limit-limit.ensures c.round_packets-packets.ensures (c.bits_per_second-rate.ensures.value ∙ c.rate.ensures) kind in
+    c.demand_of.ensures c.within.ensures c.table_limit-limit.ensures c.round_packets-packets.ensures (c.bits_per_second-rate.ensures.value ∙ c.rate.ensures)
+    kind in
     rw c.in_ok-push.ensures.items
     (view_pushed c.loop-t.demands.items c.demand_of.result _ here
     ∙ numbers_pushed (table_demand d p) (table_kinds d) _ (map demand_view c.loop-t.demands.items) t below c.loop-t.invariant)

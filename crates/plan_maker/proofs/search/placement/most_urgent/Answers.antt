@@ -19,7 +19,8 @@ loop-i-preserved c =
     let due : c.due_at-due.result ≡ f i = c.due_at-due.ensures ∙ due_is c.args.tasks.now c.args.at i _ c.loop-i-test.true in
     record {
       least = c.lesser-least.ensures ∙ ap₂ min c.loop-i.invariant.least due ∙ sym (least_more most_long i f);
-      urgent = c.earlier-urgent.ensures ∙ first_least_more i f c.due_at-due.result c.loop-i.least c.loop-i.urgent due c.loop-i.invariant.least c.loop-i.invariant.urgent;
+      urgent = c.earlier-urgent.ensures ∙ first_least_more i f c.due_at-due.result c.loop-i.least c.loop-i.urgent due c.loop-i.invariant.least
+          c.loop-i.invariant.urgent;
     }
 
 pub returns : goal.returns

@@ -22,7 +22,15 @@ returns c = λ s is.
       traces = pictures.after_event s.labels s.traces event;
       end = s.end;
     } in
-    let page : IsPage (record c.args.self.now { rows = c.take.new.self; values = c.take-2.new.self; services = c.take-3.new.self; traces = c.take-4.new.self; labels = c.take_label.new.labels }) between = record {
+    let page : IsPage
+    (record c.args.self.now {
+      rows = c.take.new.self;
+      values = c.take-2.new.self;
+      services = c.take-3.new.self;
+      traces = c.take-4.new.self;
+      labels =
+          c.take_label.new.labels;
+    }) between = record {
       millis = is.millis;
       rate = is.rate;
       stamps = is.stamps;
