@@ -1,4 +1,4 @@
--- A stream, packet by packet: its view, the events that each packet settles with their moments, and what they come to.
+-- A stream, packet by packet: its view, the events that each packet settles with their moments, and their totals.
 use Rattle.std.specs.Prelude.{◌≡◌, ℕ, ◌+◌, ◌-◌, ◌*◌, ◌&&◌, nat_le, Bool, true, if◌then◌else◌, List, [], ◌∷◌, ◌++◌, map, Option, Some, None}
 use Rattle.events.specs.declared.event.Event.{Event}
 use Rattle.events.specs.declared.event.Event.TheVariants.{Input, Window, Held, Units, Rule}
@@ -21,8 +21,8 @@ use Rattle.fault_summary.specs.Summaries.{SummaryState, nothing}
 use Rattle.fault_summary.specs.Summaries as summaries
 use Rattle.analysis.specs.declared.analyser.Analyser.{Analyser}
 
--- the view, what its events come to, the part of the stream whose faults and windows are asked for, the length of a window in ms, and the
--- clock of the stamps by which the stream arrives, where they are asked for
+-- the view, the totals of its events, the part of the stream whose faults and windows are asked for, the length of a window in ms, and the clock of the
+-- stamps by which the stream arrives, if they are asked for
 pub record AnalysisState : Type 0 where
   pub view : ClockedState
   pub summary : SummaryState
@@ -59,7 +59,7 @@ at_of v (Some fault) = moment_in v fault.packet
 abbrev pub event_at : ClockedState → Event → Option ℕ
 event_at v event = at_of v (fault_of event None)
 
--- what lasts from one moment to another, in ticks, reaches into the part that is asked for, whose moments are in ms
+-- an interval between two moments, in ticks, reaches into the part that is asked for, whose moments are in ms
 unfoldable pub ends_after : Option ℕ → ℕ → Bool
 ends_after None end = true
 ends_after (Some ms) end = nat_le (27000 * ms) end
@@ -93,16 +93,16 @@ window_of (Units u) = Some u.number
 window_of (Rule e) = rule_window e
 window_of _ = None
 
--- a window of so many ms is there from its first tick to its last one
+-- a window of `window` ms reaches from its first tick to its last one
 unfoldable pub window_in : ViewSpan → ℕ → Option ℕ → Bool
 window_in span window None = true
 window_in span window (Some number) = overlaps span (27000 * window * number) (27000 * window * (number + 1) - 1)
 
--- an event is kept whose window, and whose fault, reaches into that part: all others are
+-- an event is kept if its window, and its fault, reach into that part: all other windows and faults are left out
 abbrev pub is_kept : AnalysisState → Event → Bool
 is_kept s event = window_in s.span s.window (window_of event) && fault_in s.span (fault_of event (event_at s.view event))
 
--- it is written with its moment, and counted
+-- an event is written with its moment, and counted
 abbrev pub timed : AnalysisState → Event → List TimedEvent
 timed s event = if is_kept s event then record { event = event; at = event_at s.view event } ∷ [] else []
 
@@ -167,7 +167,7 @@ after_stamped s head bytes = stamped_in s.stamps s head bytes
 abbrev pub stamped_events : AnalysisState → ℕ → List ℕ → List TimedEvent
 stamped_events s head bytes = stamped_events_in s.stamps s head bytes
 
--- 4. At the end: that no packet has the stamps that are asked for, the last events, and then what all events come to
+-- 4. At the end: an event if no packet has the stamps that are asked for, the last events, and then the totals of all events
 
 unfoldable pub missing_events : Option StampState → List Event
 missing_events None = []
@@ -194,7 +194,7 @@ all_untimed events = map (λ event. record { event = event; at = None }) events
 abbrev pub conclusion : AnalysisState → Bool → List TimedEvent
 conclusion s good = all_untimed (summaries.end_events s.summary good (is_clocked s.view))
 
--- so many units of a stream wait that no more is viewed
+-- too many units of a stream wait: no more is viewed
 abbrev pub is_crowded : Analyser → Bool
 is_crowded analyser = crowding.is_crowded analyser.view
 

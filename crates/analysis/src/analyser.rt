@@ -12,7 +12,7 @@ use fault_summary::Summary;
 use std::alloc::{AllocError, Global};
 use ts_report::{ClockedView, ViewRequest, ViewSpan};
 
-/// A stream so far, without its packets, and what its events come to.
+/// A stream so far, without its packets, and the summary of its events.
 ///
 /// After an `AllocError` it describes no stream: drop it.
 #[derive(Drop)]
@@ -20,17 +20,17 @@ pub struct Analyser {
     alloc: Global,
     pub view: ClockedView,
     pub summary: Summary,
-    /// The part of the stream whose faults and windows are asked for, and the length of a window in ms.
+    /// The part of the stream whose faults and windows the user requests, and the length of a window in ms.
     pub span: ViewSpan,
     pub window: u32,
-    /// The clock of the stamps by which the stream arrives, if they are asked for.
+    /// The clock of the stamps that time the arrival of the stream, if the caller asks for arrival by stamps.
     pub stamps: Option<StampClock>,
 }
 
 /// A millisecond in ticks of 27 MHz.
 const TICKS: u128 = 27_000;
 
-// Whether what ends then does so at the first moment that is asked for, or after it.
+// Returns whether the moment `end` is at or after the first moment requested.
 #[tactic(auto, unfolding(crate::specs::Analysis::ends_after))]
 fn ends_after(from: Option<u64>, end: u128) -> bool
     ensures { result ≡ spec.ends_after from end }
@@ -41,7 +41,7 @@ fn ends_after(from: Option<u64>, end: u128) -> bool
     }
 }
 
-// Whether what begins then does so at the last moment that is asked for, or before it.
+// Returns whether the moment `begin` is at or before the last moment requested.
 #[tactic(auto, unfolding(crate::specs::Analysis::begins_before))]
 fn begins_before(to: Option<u64>, begin: u128) -> bool
     ensures { result ≡ spec.begins_before to begin }
@@ -58,7 +58,7 @@ fn overlaps(span: ViewSpan, begin: u128, end: u128) -> bool
     ends_after(span.from, end) && begins_before(span.to, begin)
 }
 
-// Whether a fault reaches into the part that is asked for.
+// Returns whether a fault reaches into the part requested.
 #[tactic(auto, unfolding(crate::specs::Analysis::fault_in, crate::specs::Analysis::lasts_in))]
 fn fault_in(span: ViewSpan, fault: &Option<Fault>) -> bool
     ensures { result ≡ spec.fault_in span fault.now }
@@ -72,7 +72,7 @@ fn fault_in(span: ViewSpan, fault: &Option<Fault>) -> bool
     }
 }
 
-// The number of the window that an event of a check is about.
+// Returns the number of the window that an event of a check is about.
 #[tactic(auto, unfolding(crate::specs::Analysis::rule_window))]
 fn rule_window(event: &RuleEvent) -> Option<u64>
     ensures { result ≡ spec.rule_window event.now }
@@ -83,7 +83,7 @@ fn rule_window(event: &RuleEvent) -> Option<u64>
     }
 }
 
-// The number of the window that an event is about.
+// Returns the number of the window that an event is about.
 #[tactic(auto, unfolding(crate::specs::Analysis::window_of))]
 fn window_of(event: &Event) -> Option<u64>
     ensures { result ≡ spec.window_of event.now }
@@ -97,7 +97,7 @@ fn window_of(event: &Event) -> Option<u64>
     }
 }
 
-// Whether a window reaches into the part that is asked for.
+// Returns whether a window reaches into the part requested.
 #[tactic(auto, unfolding(crate::specs::Analysis::window_in))]
 fn window_in(span: ViewSpan, window: u32, number: Option<u64>) -> bool
     ensures { result ≡ spec.window_in span window number }
@@ -112,7 +112,7 @@ fn window_in(span: ViewSpan, window: u32, number: Option<u64>) -> bool
     }
 }
 
-// The moment of the packet of a fault.
+// Returns the moment of the packet of a fault.
 #[tactic(auto, unfolding(crate::specs::Analysis::at_of))]
 fn at_of(view: &ClockedView, fault: &Option<Fault>) -> Option<u128>
     ensures { (v : ClockedState) → IsClocked view.now v → result ≡ spec.at_of v fault.now }
@@ -140,7 +140,7 @@ fn push_jump(step: &StampStep, events: &mut Vec<Event>) -> Result<(), AllocError
     }
 }
 
-// Appends that no packet has the stamps that are asked for.
+// Appends that no packet has the stamps requested.
 #[tactic(auto, unfolding(crate::specs::Analysis::missing_events))]
 fn push_missing(stamps: &Option<StampClock>, events: &mut Vec<Event>) -> Result<(), AllocError>
     ensures { OnOk result (events.new.items ≡ events.old.items ++ spec.missing_events stamps.now) }
@@ -156,7 +156,7 @@ fn push_missing(stamps: &Option<StampClock>, events: &mut Vec<Event>) -> Result<
     }
 }
 
-// The clock of stamps before the first packet, if they are asked for.
+// Returns the clock of stamps before the first packet, if stamps are requested.
 fn first_stamps(asked: bool) -> Option<StampClock>
     ensures { result ≡ spec.first_stamps asked }
 {
@@ -183,15 +183,14 @@ impl Analyser {
         }
     }
 
-    // Whether an event is about the part of the stream that is asked for; `fault`: what it says that is wrong.
+    // Returns whether an event is about the part requested; `fault`: its fault, if it has one.
     fn is_kept(&self, event: &Event, fault: &Option<Fault>) -> bool
         ensures { result ≡ (spec.window_in self.now.span self.now.window (spec.window_of event.now) && spec.fault_in self.now.span fault.now) }
     {
         window_in(self.span, self.window, window_of(event)) && fault_in(self.span, fault)
     }
 
-    /// Takes an event of the part that is asked for, and appends it with the moment of its packet; leaves out any
-    /// other.
+    /// Takes an event. Appends it with the moment of its packet if it is of the part requested, and otherwise drops it.
     pub fn take_event(
         &mut self,
         event: Event,
@@ -267,8 +266,8 @@ impl Analyser {
         self.take_events(found, events)
     }
 
-    /// Takes the next packet, before which four bytes come, as a number: by the stamp in them, if stamps are asked for.
-    /// Appends the events that the packet settles.
+    /// Takes the next packet and the number `head`, the four bytes before it: their stamp times the packet, if stamps
+    /// are requested. Appends the events that the packet settles.
     #[tactic(auto, unfolding(crate::specs::Analysis::stamped_in, crate::specs::Analysis::stamped_events_in))]
     pub fn take_stamped(
         &mut self,

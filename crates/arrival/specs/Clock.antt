@@ -1,6 +1,6 @@
--- The clock of a program, by its references: where it goes on, on which line, and where it begins anew.
+-- The clock of a program, by its references: where it continues, on which line, and where it restarts.
 --
--- Lists of references have the last one first.
+-- Lists of references begin with the last reference.
 use Rattle.std.specs.Prelude.{ℕ, ◌+◌, ◌-◌, ◌*◌, ◌%◌, ◌^◌, ◌<◌, ◌≤◌, nat_le, nat_lt, ◌&&◌, not, Bool, List, [], ◌∷◌, Option, Some, None, if◌then◌else◌}
 use Rattle.arrival.specs.declared.clock.PcrSample.{PcrSample}
 use Rattle.arrival.specs.declared.clock.TimedSample.{TimedSample}
@@ -8,7 +8,7 @@ use Rattle.arrival.specs.declared.clock.ClockStep.{ClockStep}
 use Rattle.arrival.specs.declared.clock.ClockStep.TheVariants.{First, GoesOn, Announced, Jump}
 use Rattle.arrival.specs.declared.line.Line.{Line}
 
--- the ticks of 27 MHz after which a clock reference comes round: its base has 33 bits and counts every 300th tick (ISO/IEC 13818-1, 2.4.2.2)
+-- the ticks of 27 MHz after which a clock reference wraps: its base has 33 bits and counts every 300th tick (ISO/IEC 13818-1, 2.4.2.2)
 abbrev pub pcr_period : ℕ
 pcr_period = 300 * 2 ^ 33
 
@@ -16,7 +16,7 @@ pcr_period = 300 * 2 ^ 33
 abbrev pub greatest_interval : ℕ
 greatest_interval = 2700000
 
--- references that are further apart lie on no line: ten times that, one second
+-- references more than one second apart, ten times the greatest interval, lie on no line
 abbrev pub longest_interval : ℕ
 longest_interval = 27000000
 
@@ -25,7 +25,7 @@ pub record IsInRange (sample : PcrSample) : Type 0 where
   pub ticks : sample.ticks < 2 ^ 42
   pub byte : sample.byte ≤ 2 ^ 40
 
--- the moment of a reference at that byte: after one period, and no later than an interval for each packet before
+-- bounds of the moment of a reference at that byte: at least one period, and at most an interval for each packet before it
 pub record IsMoment (byte moment : ℕ) : Type 0 where
   pub begun : pcr_period ≤ moment
   pub soon : moment ≤ 2 ^ 44 + 143618 * byte
@@ -39,12 +39,12 @@ pub record IsClockLine (line : Line) : Type 0 where
   pub slow : 0 < line.ticks
   pub short : line.ticks ≤ longest_interval
 
--- the ticks from one value to the next; values come round
+-- the ticks from one value to the next; values wrap
 abbrev pub elapsed : ℕ → ℕ → ℕ
 elapsed before value = (value + 2 * pcr_period - before) % pcr_period
 
--- the clock goes on from one reference to the next: no discontinuity_indicator says otherwise, it stands in a later
--- packet, and the clock has gone forward by no more than an interval
+-- the clock continues from one reference to the next: there is no discontinuity_indicator, the next reference is in a later packet, and the clock has
+-- advanced by at most an interval
 abbrev pub goes_on : PcrSample → PcrSample → Bool
 goes_on before sample = not sample.discontinuity && nat_le (before.byte + 188) sample.byte
     && nat_lt 0 (elapsed before.ticks sample.ticks) && nat_le (elapsed before.ticks sample.ticks) longest_interval
@@ -58,34 +58,34 @@ line_from before sample = record {
   ticks = elapsed before.sample.ticks sample.ticks;
 }
 
--- what a reference is to the one before it
+-- how the clock moves from the reference before to this reference
 unfoldable pub step_from : TimedSample → PcrSample → ClockStep
 step_from before sample =
     if goes_on before.sample sample then GoesOn (line_from before sample)
     else if sample.discontinuity then Announced
     else Jump (elapsed before.sample.ticks sample.ticks)
 
--- the moment of a reference: where the clock goes on that of the line's end, else one period and its value. So a moment
--- and its reference differ by whole periods
+-- the moment of a reference: if the clock continues, the moment at the end of the line, otherwise one period plus its value. So a moment and its reference
+-- differ by whole periods
 unfoldable pub moment_by : ClockStep → PcrSample → ℕ
 moment_by First sample = pcr_period + sample.ticks
 moment_by (GoesOn line) sample = line.moment + line.ticks
 moment_by Announced sample = pcr_period + sample.ticks
 moment_by (Jump ticks) sample = pcr_period + sample.ticks
 
--- a fact of the line on which the clock goes on
+-- the property P of the line on which the clock continues, if it does
 unfoldable pub IfGoesOn : ClockStep → (Line → Type 0) → Type 0
 IfGoesOn First P = Unit {0}
 IfGoesOn (GoesOn line) P = P line
 IfGoesOn Announced P = Unit {0}
 IfGoesOn (Jump ticks) P = Unit {0}
 
--- what a reference is to the last one before it, if there is one
+-- how the clock moves from the last reference before, if any, to this reference
 unfoldable pub step_after : Option TimedSample → PcrSample → ClockStep
 step_after None sample = First
 step_after (Some before) sample = step_from before sample
 
--- a reference with its moment, after that last one
+-- a reference with its moment, after the reference `last`
 abbrev pub timed_after : Option TimedSample → PcrSample → TimedSample
 timed_after last sample = record { sample = sample; moment = moment_by (step_after last sample) sample }
 
@@ -94,14 +94,14 @@ unfoldable pub last_of : List PcrSample → Option TimedSample
 last_of [] = None
 last_of (sample ∷ earlier) = Some (timed_after (last_of earlier) sample)
 
--- the line on which the clock goes on
+-- the line on which the clock continues
 unfoldable pub line_in : ClockStep → Option Line
 line_in First = None
 line_in (GoesOn line) = Some line
 line_in Announced = None
 line_in (Jump ticks) = None
 
--- what is kept of the references: the last one, and the line that ends there
+-- the kept state of the references: the last reference, and the line that ends there
 pub record ClockState : Type 0 where
   pub last : Option TimedSample
   pub line : Option Line

@@ -20,7 +20,7 @@ ConstantMoments = (rate i : ℕ) → arrival_at 1 (constant_line rate) i ≡ byt
 abbrev pub ConstantRow : Type 0
 ConstantRow = (drain i n : ℕ) → times_in_row (i * drain) drain 1 n ≡ bytes_from drain i n
 
--- and these are the arrivals on its line, in greater units
+-- these are the arrivals on the line of a constant rate, in larger units
 abbrev pub ConstantScale : Type 0
 ConstantScale = (rate drain i n : ℕ) → 0 < rate →
     arrivals_on (rate * drain) (constant_line rate) i n ≡ map (λ t. byte_ticks_at_1bps * t) (bytes_from drain i n)
@@ -29,20 +29,20 @@ ConstantScale = (rate drain i n : ℕ) → 0 < rate →
 abbrev pub LineBegins : Type 0
 LineBegins = (scale : ℕ) (line : Line) → 0 < line.bytes → arrival_at scale line line.byte ≡ scale * line.moment
 
--- and through its second one
+-- a line goes through its second reference
 abbrev pub LineEnds : Type 0
 LineEnds = (scale : ℕ) (line : Line) → 0 < line.bytes → arrival_at scale line (line.byte + line.bytes) ≡ scale * (line.moment + line.ticks)
 
--- so at the reference where a line follows another both give the same time
+-- at the reference where a line follows another, both lines give the same time
 abbrev pub LinesMeet : Type 0
 LinesMeet = (scale : ℕ) (line next : Line) → 0 < line.bytes → 0 < next.bytes → next.byte ≡ line.byte + line.bytes → next.moment ≡ line.moment + line.ticks →
     arrival_at scale line next.byte ≡ arrival_at scale next next.byte
 
--- no byte arrives before an earlier one
+-- no byte arrives before an earlier byte
 abbrev pub LineRises : Type 0
 LineRises = (scale : ℕ) (line : Line) (i j : ℕ) → 0 < line.bytes → i ≤ j → arrival_at scale line i ≤ arrival_at scale line j
 
--- an arrival is no later than the exact one, and less than a unit before it
+-- an arrival is rounded down: it is at most the exact time, and less than a unit before it
 abbrev pub Rounded : Type 0
 Rounded = (scale : ℕ) (line : Line) (i : ℕ) → 0 < line.bytes →
     (arrival_at scale line i * line.bytes ≤ scale * parts_at line i) × (scale * parts_at line i < (arrival_at scale line i + 1) * line.bytes)
@@ -51,27 +51,27 @@ Rounded = (scale : ℕ) (line : Line) (i : ℕ) → 0 < line.bytes →
 abbrev pub MomentLaw : Type 0
 MomentLaw = (samples : List PcrSample) → All IsInRange samples → IfSome (last_of samples) (λ last. last.moment % pcr_period ≡ last.sample.ticks % pcr_period)
 
--- a clock's line gives a moment to each byte that lies up to 2^24 before it
+-- the line of a clock gives a moment to each byte up to 2^24 bytes before the line begins
 abbrev pub ReachLaw : Type 0
 ReachLaw = (line : Line) (i : ℕ) → IsClockLine line → line.byte ≤ i + 2 ^ 24 → Reaches line i
 
--- a byte that lies between two references keeps the line that the second gave it, whatever comes later: `later` has those
--- after it, the last one first
+-- a byte between two references keeps the line that the second reference gave it, whatever arrives later: `later` has the references after the second (the
+-- last of them first)
 abbrev pub HeldLaw : Type 0
 HeldLaw = (later earlier : List PcrSample) (before sample : PcrSample) (i : ℕ) →
     AreLater sample.byte later → LiesAfter earlier before i → i < first_after (before ∷ earlier) sample →
     line_of (later ++ sample ∷ before ∷ earlier) i ≡ option_or (line_to (before ∷ earlier) sample) (state_of (before ∷ earlier)).line
 
--- and the clock's state is that of its references
+-- the state of the clock has the last of its references
 abbrev pub StateLaw : Type 0
 StateLaw = (samples : List PcrSample) → (state_of samples).last ≡ last_of samples
 
--- from one stamp to the next the clock's ticks go on by those between both stamps
+-- from one stamp to the next the clock advances by the ticks between both stamps
 abbrev pub StampLaw : Type 0
 StampLaw = (before : StampValue) (stamp : ℕ) → before.ticks < pcr_period →
     elapsed before.ticks (value_after (Some before) stamp).ticks ≡ ticks_between before.stamp stamp
 
--- so a sample with another stamp is on a line with the one before, unless it is a jump
+-- a sample with another stamp is on a line with the sample before, unless the stamp jumps
 abbrev pub StampJumpLaw : Type 0
 StampJumpLaw = (before : StampValue) (stamp index : ℕ) → before.ticks < pcr_period → 0 < ticks_between before.stamp stamp →
     jump_by (ticks_since (Some before) stamp) ≡ None →

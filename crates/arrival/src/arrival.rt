@@ -18,7 +18,7 @@ pub struct ClockLines {
 /// How bytes arrive.
 #[derive(Clone, Copy)]
 pub enum Arrival {
-    /// By a clock of which no line is known yet.
+    /// By a clock whose first line is not known yet.
     Unknown,
     /// At a constant rate, from the first byte on.
     AtRate(Rate),
@@ -79,8 +79,8 @@ impl Arrival {
         }
     }
 
-    /// Returns how many bytes of the packet from byte `byte` on lie on the first of two lines, where the second begins
-    /// within it.
+    /// Returns how many bytes of the packet from byte `byte` on lie on the first of two lines, if the second line
+    /// begins within the packet.
     #[tactic(auto, unfolding(crate::specs::Arrivals::lead_of))]
     pub fn lead(&self, byte: u64) -> u64
         requires { byte ≤ 2 ^ 41 }

@@ -31,7 +31,7 @@ impl Model for ArrivalClock {
     ghost inverse = { λ c. record { clock = c.clock; moment = c.moment; line = c.line } };
 }
 
-// The moment of a reference with which the clock begins anew.
+// Returns the moment of a reference at which the clock begins again.
 #[tactic(auto, unfolding(crate::specs::ArrivalClocks::moment_anew))]
 fn moment_anew(line: &Option<ClockLine>, byte: u64) -> u64
     requires { byte ≤ 2 ^ 40 }
@@ -60,7 +60,7 @@ fn moment_by(moment: u64, step: &ClockStep, line: &Option<ClockLine>, byte: u64)
     }
 }
 
-// The line on which the clock goes on from a reference of that moment.
+// Returns the line on which the clock continues from a reference of that moment.
 #[tactic(auto, unfolding(crate::specs::ArrivalClocks::line_from, crate::specs::Clock::IfGoesOn))]
 fn line_from(moment: u64, step: &ClockStep) -> Option<ClockLine>
     requires clock { IfGoesOn step.now IsClockLine }
@@ -92,7 +92,7 @@ impl ArrivalClock {
         self.line
     }
 
-    /// Takes the next reference, and returns the line of the bytes between it and the one before.
+    /// Takes the next reference, and returns the line of the bytes between the reference before and this reference.
     pub fn take(&mut self, sample: PcrSample) -> Option<ClockLine>
         requires { IsInRange sample }
         ensures line { result ≡ spec.line_to self.old sample }

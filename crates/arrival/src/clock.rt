@@ -1,4 +1,4 @@
-//! The program clock references of a program, as they come.
+//! The program clock references of a program, as they arrive.
 ghost use Rattle.std.specs.Prelude.{◌≡◌, ◌+◌, ◌<◌, ◌^◌, None, IfSome};
 ghost use Rattle.std.specs.Option.{option_or};
 ghost use Rattle.arrival.specs.Clock.{IsInRange, IsMoment, IsClockLine, IfGoesOn};
@@ -7,7 +7,7 @@ ghost use Rattle.arrival.specs.Clock.{elapsed, goes_on, step_from, step_after, m
 use crate::line::Line;
 use std::marker::Model;
 
-/// The ticks after which a clock reference comes round: 300 times 2^33.
+/// The ticks after which a clock reference wraps: 300 times 2^33.
 pub const PCR_PERIOD: u64 = 300 << 33;
 
 /// The ticks between two references of a program beyond which they lie on no line: one second, ten times the interval
@@ -15,7 +15,7 @@ pub const PCR_PERIOD: u64 = 300 << 33;
 pub const LONGEST_INTERVAL: u64 = 27_000_000;
 
 /// A program clock reference: the byte of the stream that ends its base (byte 10 of its packet), its value in ticks,
-/// and the discontinuity_indicator beside it.
+/// and the discontinuity_indicator of its packet.
 #[derive(Clone, Copy)]
 pub struct PcrSample {
     pub byte: u64,
@@ -23,16 +23,16 @@ pub struct PcrSample {
     pub discontinuity: bool,
 }
 
-/// What a reference is to the one before it.
+/// How the clock moves from one reference to the next.
 #[derive(Clone, Copy)]
 pub enum ClockStep {
-    /// There is none before it.
+    /// There is no reference before it.
     First,
-    /// The clock goes on: the bytes between both lie on this line.
+    /// The clock continues: the bytes between both lie on this line.
     GoesOn(Line),
-    /// The clock begins anew, and the discontinuity_indicator says so.
+    /// The clock begins again, as the discontinuity_indicator says.
     Announced,
-    /// The clock begins anew, and nothing says so; by its values it would have gone on by this many ticks.
+    /// The clock begins again without an indicator; by its values it would have continued by this many ticks.
     Jump(u64),
 }
 
@@ -43,7 +43,7 @@ pub struct TimedSample {
     pub moment: u64,
 }
 
-/// What a reference is to the reference before it, and the line of the bytes between both: the line on which the clock
+/// How the clock moves from the reference before, and the line of the bytes between both: the line on which the clock
 /// continues, or the line before, continued; `None` if there is neither.
 #[derive(Clone, Copy)]
 pub struct Passed {
@@ -72,7 +72,7 @@ impl Model for ProgramClock {
     ghost inverse = { λ c. record { last = c.last; line = c.line } };
 }
 
-// The ticks from one value of the clock to the next.
+// Returns the ticks from one value of the clock to the next.
 fn elapsed(before: u64, value: u64) -> u64
     requires before { before < 2 ^ 42 }
     requires value { value < 2 ^ 42 }
@@ -82,7 +82,7 @@ fn elapsed(before: u64, value: u64) -> u64
     (value + 2 * PCR_PERIOD - before) % PCR_PERIOD
 }
 
-// Whether the clock goes on from one reference to the next.
+// Returns whether the clock continues from one reference to the next.
 fn goes_on(before: &PcrSample, sample: &PcrSample) -> bool
     requires before { IsInRange before.now }
     requires sample { IsInRange sample.now }
@@ -95,7 +95,7 @@ fn goes_on(before: &PcrSample, sample: &PcrSample) -> bool
         && ticks <= LONGEST_INTERVAL
 }
 
-// What a reference is to this one before it.
+// Returns how the clock moves from the reference `before` to the reference `sample`.
 #[tactic(auto, unfolding(crate::specs::Clock::step_from, crate::specs::Clock::IfGoesOn))]
 fn step_from(before: &TimedSample, sample: &PcrSample) -> ClockStep
     requires before { IsInRange before.now.sample }
@@ -119,7 +119,7 @@ fn step_from(before: &TimedSample, sample: &PcrSample) -> ClockStep
     ClockStep::Jump(elapsed(before.sample.ticks, sample.ticks))
 }
 
-// What a reference is to the last one before it.
+// Returns how the clock moves from the last reference before, if any, to this reference.
 #[tactic(auto, unfolding(crate::specs::Clock::step_after, crate::specs::Clock::IfGoesOn))]
 fn step_after(last: &Option<TimedSample>, sample: &PcrSample) -> ClockStep
     requires last { IfSome last.now (λ last. IsInRange last.sample × IsMoment last.sample.byte last.moment) }
@@ -134,7 +134,7 @@ fn step_after(last: &Option<TimedSample>, sample: &PcrSample) -> ClockStep
     }
 }
 
-// The moment of a reference.
+// Returns the moment of a reference.
 #[tactic(auto, unfolding(crate::specs::Clock::moment_by, crate::specs::Clock::IfGoesOn))]
 fn moment_by(step: &ClockStep, sample: &PcrSample) -> u64
     requires sample { IsInRange sample.now }
@@ -148,7 +148,7 @@ fn moment_by(step: &ClockStep, sample: &PcrSample) -> u64
     }
 }
 
-// The line on which the clock goes on.
+// Returns the line on which the clock continues.
 #[tactic(auto, unfolding(crate::specs::Clock::line_in, crate::specs::Clock::IfGoesOn))]
 fn line_in(step: &ClockStep) -> Option<Line>
     requires line { IfGoesOn step.now IsClockLine }
@@ -179,7 +179,7 @@ impl ProgramClock {
         self.last
     }
 
-    /// Returns the line that ends there, if the clock went on to it.
+    /// Returns the line that ends at the last reference, if the clock continued to it.
     pub fn line(&self) -> Option<Line>
         ensures line { result ≡ self.now.line }
         ensures clock { IfSome result IsClockLine }

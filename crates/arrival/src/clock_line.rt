@@ -43,7 +43,7 @@ impl ClockLine {
         self.line
     }
 
-    // The moment of a byte, times the line's number of bytes.
+    // Returns the moment of a byte, multiplied by the line's number of bytes.
     fn parts(&self, byte: u64) -> u128
         ensures { result ≡ parts_at self.now byte }
     {

@@ -11,8 +11,8 @@ pub fn constant_rate()
     ensures scale { ConstantScale }
 {}
 
-/// States that a line goes through both its references, so that the next line begins where it ends; no byte arrives
-/// before an earlier one; and an arrival is less than a unit early.
+/// States that a line goes through both its references, so that the next line begins where it ends; that no byte
+/// arrives before an earlier byte; and that an arrival is less than a unit early.
 pub fn lines()
     ensures begins { LineBegins }
     ensures ends { LineEnds }
@@ -27,14 +27,14 @@ pub fn moments()
     ensures { MomentLaw }
 {}
 
-/// States that the line of a byte is known once the reference after it has come.
+/// States that the line of a byte is known after the next reference has arrived.
 pub fn held()
     ensures line { HeldLaw }
     ensures state { StateLaw }
 {}
 
-/// States that the ticks from one stamp's sample to the next are those between both stamps, so that the clock goes on
-/// from one packet to the next unless the stamp jumps.
+/// States that the ticks from one stamp's sample to the next equal the ticks between both stamps, so that the clock
+/// continues from one packet to the next unless the stamp jumps.
 pub fn stamps()
     ensures ticks { StampLaw }
     ensures goes { StampJumpLaw }

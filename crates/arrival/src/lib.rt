@@ -3,12 +3,12 @@
 //!
 //! - [`Row`]: bytes that arrive one after another at an even pace, in whole units of time.
 //! - [`Line`]: the clock between two references, which is the time of each byte that lies on it.
-//! - [`ProgramClock`]: the references of a program in their order, and where they restart.
-//! - [`Arrival`]: how the bytes of a stream arrive, and their rows at a buffer; [`ClockLine`] is a single line, [`ClockLines`] two in
-//!   a row, also across a clock that restarts.
+//! - [`ProgramClock`]: the references of a program in order, and where they restart.
+//! - [`Arrival`]: how the bytes of a stream arrive, and their rows at a buffer; [`ClockLine`] is a single line,
+//!   [`ClockLines`] two consecutive lines, also across a clock that restarts.
 //! - [`ArrivalClock`]: takes clock references, and gives the line of the bytes between two of them.
 //! - [`StampClock`]: takes the arrival time stamps before packets of 192 bytes, and gives a sample of their clock for
-//!   each that differs from the one before; an [`ArrivalClock`] takes these in place of clock references.
+//!   each stamp that differs from the stamp before; an [`ArrivalClock`] takes these in place of clock references.
 //! - [`laws`]: the arrivals of a constant rate, and facts about each line.
 //!
 //! A moment is a number of ticks of 27 MHz. At a buffer that is drained at `r` bits a second times are counted in units

@@ -3,8 +3,8 @@ ghost use Rattle.std.specs.Prelude.{◌≡◌, ℕ, All, IsTrue, ◌++◌, ◌+�
 ghost use Rattle.clock27.specs.Arrival.{bytes_from};
 ghost use Rattle.arrival.specs.Rows.{IsTimed, IsEarly, first_bytes, other_bytes, times_of};
 
-// Whether the multiple after the first `count` is not above `room`: then all of these are below it. This takes no
-// division.
+// Returns whether the multiple after the first `count` multiples is not above `room`: then all of these are below it.
+// Takes no division.
 fn are_all_below(room: u128, gain: u128, count: u64) -> bool
     ensures { IsTrue result → count * gain ≤ room }
 {
@@ -74,8 +74,8 @@ impl Row {
     {
         let at = self.from + u128::from(j) * u128::from(self.pace);
         if self.parts == 1 {
-            // A division of 128 bits takes longer than all else here, and at a constant rate there is nothing to
-            // divide.
+            // A division of 128 bits takes longer than everything else here, and at a constant rate there is nothing
+            // to divide.
             return at;
         }
         at / u128::from(self.parts)

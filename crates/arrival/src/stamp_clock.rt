@@ -6,27 +6,27 @@ ghost use Rattle.arrival.specs.StampClocks as spec;
 use crate::clock::{LONGEST_INTERVAL, PCR_PERIOD, PcrSample};
 use std::marker::Model;
 
-/// The ticks after which an arrival time stamp comes round.
+/// The ticks after which an arrival time stamp wraps.
 pub const STAMP_PERIOD: u32 = 1 << 30;
 
-// The last packet whose first byte is one of the first 2^40 of a stream.
+// The last packet whose first byte is among the first 2^40 of a stream.
 const LAST_PACKET: u64 = (1 << 40) / 188;
 
-/// An arrival time stamp, and the ticks of the same clock, which come round when clock references do.
+/// An arrival time stamp, and the ticks of the same clock, extended to wrap when clock references do.
 #[derive(Clone, Copy)]
 pub struct StampValue {
     pub stamp: u32,
     pub ticks: u64,
 }
 
-/// What the four bytes before a packet say.
+/// What the four bytes before a packet give.
 #[derive(Clone, Copy)]
 pub struct StampStep {
     /// The number of packets before it.
     pub packet: u64,
-    /// The sample that its stamp gives of the clock, if the stamp differs from the one before.
+    /// The sample that its stamp gives of the clock, if the stamp differs from the stamp before.
     pub sample: Option<PcrSample>,
-    /// The ticks from the stamp before, if they are more than a second, or the stamp falls.
+    /// The ticks from the stamp before, if they are more than a second or the stamp falls.
     pub jump: Option<u64>,
 }
 
@@ -51,7 +51,7 @@ impl Model for StampClock {
     ghost inverse = { λ c. record { last = c.last; packets = c.packets } };
 }
 
-// The ticks from one stamp to the next.
+// Returns the ticks from one stamp to the next.
 fn ticks_between(before: u32, stamp: u32) -> u64
     requires before { before < 2 ^ 30 }
     requires stamp { stamp < 2 ^ 30 }
@@ -93,7 +93,7 @@ fn value_after(last: &Option<StampValue>, stamp: u32) -> StampValue
     }
 }
 
-// Whether a stamp is the same as the one before.
+// Returns whether a stamp equals the stamp before.
 #[tactic(auto, unfolding(crate::specs::StampClocks::is_same))]
 fn is_same(ticks: Option<u64>) -> bool
     ensures { result ≡ spec.is_same ticks }
@@ -104,7 +104,7 @@ fn is_same(ticks: Option<u64>) -> bool
     }
 }
 
-// The ticks from the stamp before, if the clock does not go on from it.
+// Returns the ticks from the stamp before, if the stamp jumps.
 #[tactic(auto, unfolding(crate::specs::StampClocks::jump_by))]
 fn jump_by(ticks: Option<u64>) -> Option<u64>
     ensures { result ≡ spec.jump_by ticks }
@@ -121,7 +121,7 @@ fn jump_by(ticks: Option<u64>) -> Option<u64>
     }
 }
 
-// The sample of the packet at an index.
+// Returns the sample of the packet at an index.
 fn sample_of(index: u64, value: &StampValue) -> Option<PcrSample>
     requires { value.now.ticks < pcr_period }
     ensures value { result ≡ spec.near_sample index value.now }
@@ -137,7 +137,7 @@ fn sample_of(index: u64, value: &StampValue) -> Option<PcrSample>
     })
 }
 
-// The sample that a stamp gives with this value.
+// Returns the sample of a packet, if its stamp differs from the stamp before.
 fn sample_if(same: bool, index: u64, value: &StampValue) -> Option<PcrSample>
     requires { value.now.ticks < pcr_period }
     ensures value { result ≡ spec.sample_if same index value.now }
@@ -160,7 +160,7 @@ impl StampClock {
         }
     }
 
-    /// Returns whether no packet has come.
+    /// Returns whether no packet has arrived.
     pub fn is_new(&self) -> bool
         ensures { result ≡ spec.is_new self.now }
     {

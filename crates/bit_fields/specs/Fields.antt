@@ -1,7 +1,7 @@
 -- Numbers of bytes and tables of fields (ISO/IEC 13818-1, 2.2.6: uimsbf and bslbf, the highest bit first).
 use Rattle.std.specs.Prelude.{ℕ, ◌+◌, ◌*◌, ◌^◌, ◌<◌, ◌/◌, ◌%◌, ◌==◌, Bool, true, false, List, [], ◌∷◌, get_or}
 
--- the number that bytes make after those that made n, the highest byte first
+-- the number that bytes make after the bytes that made n, the highest byte first
 abbrev pub number_from : ℕ → List ℕ → ℕ
 number_from n [] = n
 number_from n (b ∷ bytes) = number_from (n * 256 + b) bytes
@@ -10,7 +10,7 @@ number_from n (b ∷ bytes) = number_from (n * 256 + b) bytes
 abbrev pub number : List ℕ → ℕ
 number bytes = number_from 0 bytes
 
--- the number that fields make after those that made n
+-- the number that fields make after the fields that made n
 abbrev pub fields_from : ℕ → List (ℕ × ℕ) → ℕ
 fields_from n [] = n
 fields_from n (f ∷ fs) = fields_from (n * 2 ^ f.0 + f.1) fs

@@ -41,12 +41,12 @@ pub record NextPart : Type 0 where
   pub place : Place
   pub size : ℕ
 
--- of packets of 188 bytes: a packet, or bytes that are left out before the next step
+-- the next part among packets of 188 bytes: a packet, or bytes that are left out before the next step
 unfoldable pub plain_next : Option ℕ → Place → List ℕ → NextPart
 plain_next None p bs = record { part = IsPacket (take 188 bs); place = after_packets 188 p; size = 188 }
 plain_next (Some size) p bs = record { part = slip_at size p; place = after_slip size p; size = size }
 
--- the bytes from one packet to the next, and those before its first byte
+-- the bytes from one packet to the next, and the bytes before a packet's first byte
 unfoldable pub size_of : OtherPackets → ℕ
 size_of Timed = 192
 size_of Corrected = 204
@@ -59,7 +59,7 @@ front_of Corrected = 0
 abbrev pub packet_in : OtherPackets → List ℕ → List ℕ
 packet_in other bs = slice_range bs (front_of other) (front_of other + 188)
 
--- the four bytes before those, as a number
+-- the four bytes before a packet, as a number
 abbrev pub number_of : List ℕ → ℕ
 number_of bs = slice_index bs 0 * 16777216 + slice_index bs 1 * 65536 + slice_index bs 2 * 256 + slice_index bs 3
 
@@ -81,13 +81,13 @@ unfoldable pub least_size : Option OtherPackets → ℕ
 least_size None = 188
 least_size (Some other) = size_of other
 
--- none where the bytes are too few for a packet
+-- none if the bytes are too few for a packet
 unfoldable pub next_part : Option OtherPackets → Place → List ℕ → Option NextPart
 next_part other p bs = if nat_lt (length bs) (least_size other) then None else Some (next_of other p bs)
 
 -- 3. All parts
 
--- what the input would be if it is no transport stream, its parts, and the bytes after the last of them
+-- the form of an input that is no transport stream, its parts, and the bytes after the last part
 pub record Capture : Type 0 where
   pub form : FileForm
   pub parts : List Part
@@ -99,7 +99,7 @@ no_parts form bs = record { form = form; parts = []; rest = bs }
 abbrev pub with_parts : List Part → Capture → Capture
 with_parts parts c = record { form = c.form; parts = parts ++ c.parts; rest = c.rest }
 
--- the next part, and those after it, in at most n steps
+-- the next part, and the parts after it, in at most n steps
 unfoldable pub capture_then : Option NextPart → FileForm → List ℕ → (Place → List ℕ → Capture) → Capture
 capture_then None form bs after = no_parts form bs
 capture_then (Some next) form bs after = with_parts (next.part ∷ []) (after next.place (drop next.size bs))
@@ -112,7 +112,7 @@ capture_in (suc n) form other p bs = capture_then (next_part other p bs) form bs
 abbrev pub capture_from : FileForm → Option OtherPackets → Place → List ℕ → Capture
 capture_from form other p bs = capture_in (length bs) form other p bs
 
--- that packets are of another size comes first
+-- a part for packets of another size comes first
 unfoldable pub size_parts : Option OtherPackets → List Part
 size_parts None = []
 size_parts (Some other) = IsSize other ∷ []

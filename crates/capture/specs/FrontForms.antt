@@ -1,4 +1,4 @@
--- What an input is by its first bytes, where it is no transport stream.
+-- The form of an input by its first bytes, if it is no transport stream.
 use Rattle.std.specs.Prelude.{ℕ, ◌==◌, ◌&&◌, ◌||◌, nat_eq, nat_le, Bool, false, if◌then◌else◌, List, [], ◌∷◌, codes, drop, length, take}
 use Rattle.std.specs.List.{list_all, starts_with}
 use Rattle.events.specs.declared.input_event.FileForm.{FileForm}
@@ -7,7 +7,7 @@ use Rattle.events.specs.declared.input_event.FileForm.TheVariants.{Mp4, Matroska
 abbrev pub begins : List ℕ → List ℕ → Bool
 begins front bytes = starts_with nat_eq front bytes
 
--- the type of the first box of a file of the ISO base media file format stands after its size
+-- the type of the first box of a file of the ISO base media file format follows its size
 unfoldable pub is_mp4 : List ℕ → Bool
 is_mp4 front = if nat_le 4 (length front) then begins (drop 4 front) (codes "ftyp") else false
 
@@ -23,7 +23,7 @@ is_program_stream front = begins front (0 ∷ 0 ∷ 1 ∷ 186 ∷ [])
 unfoldable pub is_elementary_stream : List ℕ → Bool
 is_elementary_stream front = begins front (0 ∷ 0 ∷ 1 ∷ []) || begins front (0 ∷ 0 ∷ 0 ∷ 1 ∷ [])
 
--- of pcap in both orders of bytes, with microseconds, and of pcapng
+-- the first bytes of pcap in both orders of bytes, with microseconds, and of pcapng
 unfoldable pub is_network_capture : List ℕ → Bool
 is_network_capture front = begins front (212 ∷ 195 ∷ 178 ∷ 161 ∷ []) || begins front (161 ∷ 178 ∷ 195 ∷ 212 ∷ []) || begins front (10 ∷ 13 ∷ 13 ∷ 10 ∷ [])
 

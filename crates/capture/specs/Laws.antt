@@ -30,7 +30,7 @@ slips_among (IsStamped head bytes ∷ parts) = slips_among parts
 slips_among (IsSlip s ∷ parts) = s ∷ slips_among parts
 slips_among (IsSize other ∷ parts) = slips_among parts
 
--- of packets of 188 bytes: the bytes that are carried, and the slips
+-- for packets of 188 bytes: the bytes that are carried, and the slips
 pub record IsOfSync (bs : List ℕ) : Type 0 where
   pub carried_is : packet_bytes (capture_of bs).parts ++ (capture_of bs).rest ≡ carried bs
   pub slips_are : slips_among (capture_of bs).parts ≡ slips bs

@@ -35,7 +35,7 @@ stretch_parts bytes s p =
 abbrev pub after_stretch : Stretch → Place → Place
 after_stretch s p = place_if s.slipped (after_packets (whole_size s.in_step) p)
 
--- of packets of a size: parts were taken that the first `used` bytes settle, however the input goes on
+-- for packets of a size: parts were taken that the first `used` bytes settle, whatever bytes follow
 pub record SettlesFrom (HasTaken : List Part → Type 0) (other : Option OtherPackets) (old : Place) (bytes : List ℕ) (ended : Bool) (new : Place)
     (used : ℕ) : Type 0 where
   pub found : List Part
@@ -62,7 +62,7 @@ capture_by (Some front) p bs = capture_from front.form front.other p bs
 abbrev pub capture_after : Settled → List ℕ → Capture
 capture_after s bs = capture_by s.front s.place bs
 
--- parts were taken that the first `used` bytes settle, however the input goes on
+-- parts were taken that the first `used` bytes settle, whatever bytes follow
 pub record Settles (HasTaken : List Part → Type 0) (old : Settled) (bytes : List ℕ) (ended : Bool) (new : Settled) (used : ℕ) : Type 0 where
   pub found : List Part
   pub taken : HasTaken found
@@ -78,7 +78,7 @@ IsLast s bs = capture_after s bs ≡ no_parts (known_form s.front) bs
 
 -- 3. A reader
 
--- what is known, and the bytes that are not settled
+-- the form and place that are known, and the bytes that are not settled
 pub record ReaderView : Type 0 where
   pub settled : Settled
   pub kept : List ℕ
@@ -86,11 +86,11 @@ pub record ReaderView : Type 0 where
 abbrev pub no_bytes : ReaderView
 no_bytes = record { settled = record { front = None; place = first_place }; kept = [] }
 
--- what is left of a capture with these bytes after those that are kept
+-- the remaining capture, with these bytes after the kept bytes
 abbrev pub capture_left : ReaderView → List ℕ → Capture
 capture_left r more = capture_after r.settled (r.kept ++ more)
 
--- parts were taken that a piece settles, however the input goes on
+-- parts were taken that a piece settles, whatever bytes follow
 pub record Takes (HasTaken : List Part → Type 0) (old : ReaderView) (piece : List ℕ) (new : ReaderView) : Type 0 where
   pub found : List Part
   pub taken : HasTaken found

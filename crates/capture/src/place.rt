@@ -11,7 +11,7 @@ pub struct Place {
     pub start: usize,
 }
 
-// A number with so many more; a stream of 2^64 bytes or more is in no memory.
+// Adds `by` to a number. Refused from 2^64 on, since no memory holds a stream of that size.
 fn more(number: usize, by: usize) -> Result<usize, AllocError>
     ensures { IfOk result (λ sum. sum ≡ number + by) }
 {
@@ -28,7 +28,7 @@ impl Place {
         start: 0,
     };
 
-    /// Returns the place after so many bytes of packets of 188 bytes.
+    /// Returns the place after packets of 188 bytes with `size` bytes in all.
     pub(crate) fn after_packets(self, size: usize) -> Result<Place, AllocError>
         ensures { IfOk result (λ p. p ≡ spec.after_packets size self) }
     {
@@ -37,7 +37,7 @@ impl Place {
         Ok(Place { packet, start })
     }
 
-    /// Returns the place after so many bytes that are in no packet.
+    /// Returns the place after `size` bytes that are in no packet.
     pub(crate) fn after_slip(self, size: usize) -> Result<Place, AllocError>
         ensures { IfOk result (λ p. p ≡ spec.after_slip size self) }
     {

@@ -10,11 +10,11 @@ use packet_sync::REACH;
 use std::alloc::{AllocError, Global};
 use std::marker::Model;
 
-/// So many bytes after those that are kept settle all that are kept: the bytes of a packet less one, and those that
-/// decide what comes after it.
+/// The number of new bytes that settle all kept bytes: the bytes of a packet less one, and the bytes that decide where
+/// the next packet begins.
 const ENOUGH: usize = 187 + REACH;
 
-/// A capture so far: what is known of it, and its last bytes, which are not settled.
+/// A capture that is being read: its front and place so far, and its last bytes, which are not settled.
 ///
 /// After an `AllocError` it describes no capture: drop it.
 #[derive(Drop)]
@@ -51,7 +51,7 @@ impl CaptureReader {
         }
     }
 
-    // Keeps the bytes after the first `used` of those that are kept.
+    // Drops the first `used` of the kept bytes.
     fn keep_from(&mut self, used: usize) -> Result<(), AllocError>
         requires { used ≤ length self.old.kept }
         ensures { OnOk result (self.new ≡ record { settled = self.old.settled; kept = drop used self.old.kept }) }
@@ -86,7 +86,7 @@ impl CaptureReader {
         self.settled.settle(&self.kept, false, taker)
     }
 
-    // Takes the bytes of a piece after those that settled all that were kept.
+    // Takes the rest of a piece, after its first bytes have settled all kept bytes.
     fn take_rest<T: PartTaker>(&mut self, rest: &[u8], taker: &mut T) -> Result<(), AllocError>
         ensures few { OnOk result (length self.new.kept < 1128) }
         ensures taken { (first : T) (parts : List Part) → T.has_taken first parts taker.old →
@@ -98,8 +98,8 @@ impl CaptureReader {
         self.kept.extend_from_slice(&rest[used..])
     }
 
-    /// Takes the next bytes of a capture, and gives the taker the parts that they settle: all but those of less than
-    /// 1,128 bytes.
+    /// Takes the next bytes of a capture, and gives the taker the parts that they settle; fewer than 1,128 bytes are
+    /// kept.
     pub fn take<T: PartTaker>(&mut self, piece: &[u8], taker: &mut T) -> Result<(), AllocError>
         ensures few { OnOk result (length self.new.kept < 1128) }
         ensures taken { (first : T) (parts : List Part) → T.has_taken first parts taker.old →

@@ -1,4 +1,4 @@
-//! What is known of a capture so far.
+//! The front of a capture, and the end of its settled parts.
 ghost use Rattle.std.specs.Prelude.{◌≡◌};
 ghost use Rattle.capture.specs.Reading.{known_form};
 
@@ -14,7 +14,7 @@ pub struct Front {
     pub form: FileForm,
 }
 
-/// What is known of a capture: its front, once enough bytes have come, and the place up to which its parts are settled.
+/// The front of a capture, once enough bytes have arrived, and the place where its settled parts end.
 #[derive(Clone, Copy)]
 pub struct Settled {
     pub front: Option<Front>,

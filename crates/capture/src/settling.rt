@@ -29,7 +29,7 @@ pub fn bytes_apart(other: OtherPackets) -> usize
     }
 }
 
-// The bytes before the first one of a packet among them.
+// Returns the number of bytes before the first packet of 188 bytes.
 #[tactic(auto, unfolding(crate::specs::Captures::front_of, crate::specs::Captures::size_of))]
 fn front_of(other: OtherPackets) -> usize
     ensures value { result ≡ spec.front_of other }
@@ -42,14 +42,14 @@ fn front_of(other: OtherPackets) -> usize
     }
 }
 
-// The number of bytes that decide which part comes next.
+// Returns the number of bytes that decide which part comes next.
 fn decisive(ended: bool) -> usize
     ensures { result ≡ (if ended then 188 else 1128) }
 {
     if ended { PACKET_SIZE } else { REACH }
 }
 
-// Whether bytes that do not end yet decide nothing.
+// Returns whether the bytes are too few to decide the next part; never once the capture has ended.
 fn are_few(bytes: &[u8], ended: bool) -> bool
     ensures few { result ≡ true → (ended ≡ false) × (length bytes.now < 1128) }
     ensures long { result ≡ false → ended ≡ false → 1128 ≤ length bytes.now }
@@ -245,7 +245,7 @@ impl Settled {
         Ok(front)
     }
 
-    // Takes the parts that the bytes settle where the first bytes are known, and returns how many bytes these are.
+    // Takes the parts that the bytes settle if the front is known, and returns the number of these bytes.
     fn settle_known<T: PartTaker>(
         &mut self,
         front: Front,
@@ -267,7 +267,7 @@ impl Settled {
         }
     }
 
-    // The same, where the first bytes are not known yet.
+    // Settles the first bytes of a capture, which show its front.
     fn settle_first<T: PartTaker>(
         &mut self,
         bytes: &[u8],

@@ -6,10 +6,10 @@ use Rattle.ts_packet.specs.Packets.{packets}
 use Rattle.carry.specs.PidPackets.{payload_packets}
 use Rattle.carry.specs.RecordRuns.{run_from, run_of}
 
--- an input has no more records than bytes: no run over more records says more
+-- an input has no more records than bytes: a run over more records gives the same result
 abbrev pub RunsAreWhole : Type 0
 RunsAreWhole = (n id : ℕ) (xs : List ℕ) → length xs < n → run_from n id 0 xs ≡ run_of id xs
 
--- the packets of payloads one by one, joined, are the packets of the payloads
+-- the packets of payloads, written one by one and joined, are the packets of the payloads
 abbrev pub PacketsJoin : Type 0
 PacketsJoin = (pid number : ℕ) (start : Start) (pieces : List (List ℕ)) → concat (payload_packets pid start number pieces) ≡ packets pid start number pieces

@@ -1,4 +1,4 @@
--- What a whole input of records becomes, where one stream has a PID for itself.
+-- The result of a whole input of records, if a PID carries a single stream.
 use Rattle.std.specs.Prelude.{◌≡◌, ◌≤◌, ℕ, zero, suc, ◌+◌, Bool, List, [], ◌∷◌, length, take, drop, Option, Some, None, Result, Ok, Err, ⊤}
 use Rattle.std.specs.Io.KnownBytes.{Appends}
 use Rattle.counted_io.specs.Device.{Failed}
@@ -14,18 +14,18 @@ use Rattle.unit_records.specs.declared.reading.UnitFileError.TheVariants.{Cut, S
 use Rattle.carry.specs.declared.carrying.CarryError.{CarryError}
 use Rattle.carry.specs.declared.carrying.CarryError.TheVariants.{Unit as AtUnit, File as AtRecord, Device as AtWriter, Memory as NoMemory}
 
--- how an input of records ends: at its end, at a unit that is refused, or at what is no record
+-- how an input of records ends: at its end, at a refused unit, or at bytes that are not a record
 pub data Ending : Type 0 where
   Finished : Ending
   UnitRefused : FeedError → Ending
   FileRefused : UnitFileError → Ending
 
--- the units of an input that are accepted, in order, and how it ends
+-- the accepted units of an input, in order, and how the input ends
 pub record Run : Type 0 where
   pub units : List AccessUnit
   pub ending : Ending
 
--- a unit that is refused ends the run; else it comes before the run after it
+-- a refused unit ends the run; an accepted unit precedes the run after it
 unfoldable pub judged : Option FeedError → AccessUnit → Run → Run
 judged (Some cause) unit after = record { units = []; ending = UnitRefused cause }
 judged None unit after = record { units = unit ∷ after.units; ending = after.ending }
@@ -36,7 +36,7 @@ run_step id min_next_dts (Err fault) after = record { units = []; ending = FileR
 run_step id min_next_dts (Ok None) after = record { units = []; ending = Finished }
 run_step id min_next_dts (Ok (Some entry)) after = judged (refusal id min_next_dts entry.0 entry.1) entry.1 (after entry.1)
 
--- the run of at most n records, where no DTS below `min_next_dts` is accepted: each unit is later than the one before
+-- the run of at most n records, if no DTS below `min_next_dts` is accepted: each unit is later than the unit before
 unfoldable pub run_from : ℕ → ℕ → ℕ → List ℕ → Run
 run_from zero id min_next_dts xs = record { units = []; ending = Finished }
 run_from (suc n) id min_next_dts xs = run_step id min_next_dts (record_at xs) (λ unit. run_from n id (unit.dts + 1) (after_record xs))
@@ -49,7 +49,7 @@ run_of id xs = run_from (1 + length xs) id 0 xs
 abbrev pub carried : Bool → ℕ → ℕ → List AccessUnit → List ℕ
 carried hex pid id units = formatted_all hex (stream_packets pid id 0 units)
 
--- which answer a run has; a failed reader, and being out of memory, may stop it at each of its records
+-- the answer of a run; a failed reader, or lack of memory, may stop the run at any record
 abbrev pub Answers : Run → Result ℕ CarryError → Type 0
 Answers run (Ok sent) = run.ending ≡ Finished
 Answers run (Err (AtUnit index cause)) = (run.ending ≡ UnitRefused cause) × (index ≡ length run.units)
@@ -60,7 +60,7 @@ Answers run (Err (AtRecord index Memory)) = ⊥
 Answers run (Err (AtWriter sent)) = ⊤
 Answers run (Err (NoMemory index)) = index ≤ length run.units
 
--- what the writer took of the output of units: all, that of the records before the one named, or exactly the first `sent` bytes
+-- what the writer took of the output of units: all of it, the output of the records before the named record, or exactly the first `sent` bytes
 abbrev pub Writes : (List AccessUnit → List ℕ) → List AccessUnit → Option (List ℕ) → Option (List ℕ) → Result ℕ CarryError → Type 0
 Writes out units old new (Ok sent) = (sent ≡ byte_count (length (out units))) × Appends old new (out units)
 Writes out units old new (Err (AtUnit index cause)) = Appends old new (out (take index units))
@@ -73,8 +73,8 @@ unfoldable pub after_records : ℕ → List ℕ → List ℕ
 after_records zero xs = xs
 after_records (suc n) xs = after_record (after_records n xs)
 
--- what is left of the input: nothing of one that was carried, or that ends in a record; the bytes after a record that is
--- refused; of one that was not read whole, the rest of it and the bytes after it. Where the writer failed it is not said
+-- the bytes of the input that remain: none if it was carried, or if it ends within a record; the bytes after a refused record; the rest of a record that was
+-- not read whole, and the bytes after it. If the writer failed, the remainder is not determined
 abbrev pub Leaves : List ℕ → Option (List ℕ) → Result ℕ CarryError → Type 0
 Leaves xs left (Ok sent) = left ≡ Some []
 Leaves xs left (Err (AtUnit index cause)) = left ≡ Some (after_records (index + 1) xs)
@@ -85,7 +85,7 @@ Leaves xs left (Err (AtRecord index Memory)) = ⊥
 Leaves xs left (Err (AtWriter sent)) = ⊤
 Leaves xs left (Err (NoMemory index)) = StopsWithin (head_size + 1) (after_records index xs) left
 
--- a device is named exactly where a call of it failed: the reader by File with Device, the writer by Device
+-- a device is named exactly if a call of it failed: the reader by AtRecord with Device, the writer by AtWriter
 abbrev pub NamesDevice : {V : Type 0} → Result V CarryError → ℕ → ℕ → ℕ → ℕ → Type 0
 NamesDevice (Ok sent) read0 read1 written0 written1 = (read1 ≡ read0) × (written1 ≡ written0)
 NamesDevice (Err (AtUnit index cause)) read0 read1 written0 written1 = (read1 ≡ read0) × (written1 ≡ written0)

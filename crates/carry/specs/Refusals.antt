@@ -1,4 +1,4 @@
--- Which unit is refused, where one stream has a PID for itself and no plan.
+-- Which unit is refused, if a PID carries a single stream without a plan.
 use Rattle.std.specs.Prelude.{ℕ, ◌==◌, not, false, if◌then◌else◌, Option, Some}
 use Rattle.pes_packet.specs.AccessUnits.{AccessUnit}
 use Rattle.pes_packet.specs.StreamIds.{greatest_size}
@@ -6,11 +6,11 @@ use Rattle.unit_queue.specs.Causes.{or_cause, own_cause, time_cause}
 use Rattle.unit_queue.specs.declared.refusal.FeedError.{FeedError}
 use Rattle.unit_queue.specs.declared.refusal.FeedError.TheVariants.{UnknownStream}
 
--- how long after its DTS a unit's PTS may be, of which no key says more
+-- how long after its DTS the PTS of a unit may be, as no key gives another limit
 abbrev pub pts_limit : ℕ
 pts_limit = 90_000
 
--- the first cause for which stream 0 of this stream_id refuses a unit, where no DTS below `min_next_dts` is accepted: no unit is late
+-- the first cause for which stream 0 of this stream_id refuses a unit, if no DTS below `min_next_dts` is accepted: no unit is late
 unfoldable pub refusal : ℕ → ℕ → ℕ → AccessUnit → Option FeedError
 refusal id min_next_dts stream unit =
     if not (stream == 0) then Some UnknownStream

@@ -1,4 +1,4 @@
--- The steps of a run over records: the next accepted unit, and why there is none.
+-- The steps of a run over records: the next accepted unit, or why there is none.
 use Rattle.std.specs.Prelude.{◌≡◌, ◌≤◌, ◌^◌, ◌+◌, ℕ, List, [], length, Option, Some, None, Result, Ok, Err}
 use Rattle.counted_io.specs.Device.{Failed}
 use Rattle.pes_packet.specs.AccessUnits.{AccessUnit}
@@ -14,7 +14,7 @@ use Rattle.carry.specs.declared.carrying.CarryError.TheVariants.{Unit as AtUnit,
 use Rattle.carry.specs.declared.carrying.Stop.{Stop}
 use Rattle.carry.specs.declared.carrying.Stop.TheVariants.{Refused, Unread, OutOfMemory}
 
--- what is known of a unit that is accepted
+-- the properties of an accepted unit
 pub record IsAccepted (id min_next_dts : ℕ) (unit : AccessUnit) : Type 0 where
   pub some : 1 ≤ length unit.bytes
   pub most : length unit.bytes ≤ greatest_size id
@@ -28,13 +28,13 @@ pub record HoldsUnit (id min_next_dts : ℕ) (xs : List ℕ) (unit : AccessUnit)
   pub record_is : record_at xs ≡ Ok (Some (stream, unit))
   pub judged_is : refusal id min_next_dts stream unit ≡ cause
 
--- one whose unit is refused
+-- a record at the front whose unit is refused
 pub record IsRefused (id min_next_dts : ℕ) (xs : List ℕ) (left : Option (List ℕ)) (cause : FeedError) : Type 0 where
   pub unit : AccessUnit
   pub stands : HoldsUnit id min_next_dts xs unit (Some cause)
   pub rest : left ≡ Some (after_record xs)
 
--- what the next record of these bytes gave
+-- the result of reading the next record of these bytes
 abbrev pub ReadsNext : ℕ → ℕ → List ℕ → Option (List ℕ) → Result (Option AccessUnit) Stop → Type 0
 ReadsNext id min_next_dts xs left (Ok None) = (record_at xs ≡ Ok None) × (left ≡ Some [])
 ReadsNext id min_next_dts xs left (Ok (Some unit)) = HoldsUnit id min_next_dts xs unit None × (left ≡ Some (after_record xs))
@@ -45,7 +45,7 @@ ReadsNext id min_next_dts xs left (Err (Unread Device)) = ReadsRecord xs left (E
 ReadsNext id min_next_dts xs left (Err (Unread Memory)) = ⊥
 ReadsNext id min_next_dts xs left (Err OutOfMemory) = ReadsRecord xs left (Err Memory)
 
--- a run ended like this, after `index` records
+-- how a run ended after `index` records
 abbrev pub EndsRun : Run → ℕ → Option Stop → Type 0
 EndsRun run index None = (run.ending ≡ Finished) × (index ≡ length run.units)
 EndsRun run index (Some (Refused cause)) = (run.ending ≡ UnitRefused cause) × (index ≡ length run.units)
@@ -55,14 +55,14 @@ EndsRun run index (Some (Unread Device)) = index ≤ length run.units
 EndsRun run index (Some (Unread Memory)) = ⊥
 EndsRun run index (Some OutOfMemory) = index ≤ length run.units
 
--- what is then left of the input
+-- the bytes of the input that remain then
 abbrev pub LeavesAt : List ℕ → Option (List ℕ) → ℕ → Option Stop → Type 0
 LeavesAt xs left index None = left ≡ Some []
 LeavesAt xs left index (Some (Refused cause)) = left ≡ Some (after_records (index + 1) xs)
 LeavesAt xs left index (Some (Unread fault)) = Leaves xs left (Err (AtRecord index fault))
 LeavesAt xs left index (Some OutOfMemory) = Leaves xs left (Err (NoMemory index))
 
--- the reader failed exactly where that ended the run
+-- the reader failed exactly if this ended the run
 abbrev pub NamesStop : Option Stop → ℕ → ℕ → Type 0
 NamesStop None old new = new ≡ old
 NamesStop (Some (Refused cause)) old new = new ≡ old
@@ -72,12 +72,12 @@ NamesStop (Some (Unread Device)) old new = Failed old new
 NamesStop (Some (Unread Memory)) old new = ⊥
 NamesStop (Some OutOfMemory) old new = new ≡ old
 
--- the same of one call
+-- the same for one call
 abbrev pub NamesNext : {V : Type 0} → Result V Stop → ℕ → ℕ → Type 0
 NamesNext (Ok x) old new = new ≡ old
 NamesNext (Err stop) old new = NamesStop (Some stop) old new
 
--- what is answered of a run that ended like this
+-- the answer of a run that ended like this
 abbrev pub answer_of : ℕ → Option Stop → ℕ → Result ℕ CarryError
 answer_of index None sent = Ok sent
 answer_of index (Some (Refused cause)) sent = Err (AtUnit index cause)

@@ -35,12 +35,12 @@ pub enum CarryError {
     Memory { index: u64 },
 }
 
-/// Writes the units of stream 0 as the packets of one PID, back to back: stream_id `id`, stamps as they are, continuity
-/// counters from 0. With `hex` each packet is a line of 376 lower-case digits and LF. It answers the number of bytes
-/// written; that and `sent` stop at 2^64 - 1.
+/// Writes the units of stream 0 as the packets of one PID, back to back: stream_id `id`, stamps as they are,
+/// continuity counters from 0. With `hex` each packet is a line of 376 lower-case digits and LF. Returns the number of
+/// bytes written; this number and `sent` stop at 2^64 - 1.
 ///
-/// Units have 1 to 4,000,000 bytes with a video stream_id, else 1 to 65,522; each DTS is later than the one before and
-/// at most 2^52, and each PTS at most 90,000 after its DTS.
+/// Units have 1 to 4,000,000 bytes with a video stream_id, otherwise 1 to 65,522; each DTS is later than the DTS
+/// before and at most 2^52, and each PTS at most 90,000 after its DTS.
 pub fn carry<A: Allocator + Copy, R: Source, W: Sink>(
     alloc: A,
     pid: u16,
@@ -52,13 +52,13 @@ pub fn carry<A: Allocator + Copy, R: Source, W: Sink>(
     requires pid { pid < 8192 }
     requires id { IsTrue (is_unit_id id) }
 
-    // Of an input whose bytes are known: which answer, what the writer took, and what is left.
+    // For an input whose bytes are known: the answer, what the writer took, and the bytes that remain.
     ensures answer { (xs : List ℕ) → R.remaining input.old ≡ Some xs → Answers (run_of id xs) result }
     ensures written { (xs : List ℕ) → R.remaining input.old ≡ Some xs →
         Writes (carried hex pid id) (run_of id xs).units (W.contents output.old) (W.contents output.new) result }
     ensures left { (xs : List ℕ) → R.remaining input.old ≡ Some xs → Leaves xs (R.remaining input.new) result }
 
-    // Of any input and writer.
+    // For any input and writer.
     ensures fault { NamesDevice result (R.fault_count input.old) (R.fault_count input.new)
         (W.fault_count output.old) (W.fault_count output.new) }
 {
@@ -83,7 +83,7 @@ enum Stop {
     OutOfMemory,
 }
 
-// The answer of a run that ended after `index` records, when `sent` bytes are written.
+// Returns the answer of a run that ended after `index` records, when `sent` bytes are written.
 fn answer(index: u64, stop: Option<Stop>, sent: u64) -> Result<u64, CarryError>
     ensures { result ≡ answer_of index stop sent }
 {
@@ -95,7 +95,7 @@ fn answer(index: u64, stop: Option<Stop>, sent: u64) -> Result<u64, CarryError>
     }
 }
 
-// The unit of the next record, where it is accepted; None at the end of the input.
+// Reads the next record and returns its unit, if it is accepted; returns None at the end of the input.
 fn next_unit<A: Allocator, R: Source>(
     alloc: A,
     id: u8,

@@ -19,7 +19,7 @@ use std::alloc::Allocator;
 use ts_packet::MAX_PAYLOAD;
 use unit_queue::write_piece;
 
-// The continuity counter after this one.
+// Returns the continuity counter after this counter.
 fn next_counter(counter: u8) -> u8
     requires { counter < 16 }
     ensures { result ≡ (counter + 1) % 16 }
@@ -27,8 +27,8 @@ fn next_counter(counter: u8) -> u8
     (counter + 1) & 0x0f
 }
 
-/// Writes the packets of a unit, of which the first has this continuity counter, and answers the counter after the
-/// last. Stamps are written as they are.
+/// Writes the packets of a unit, from continuity counter `counter` on, and returns the counter after the last packet.
+/// Stamps are written as they are.
 pub(crate) fn push_unit<A: Allocator, B: Allocator, W: Sink>(
     packets: &mut PacketOutput<A>,
     to: &mut W,

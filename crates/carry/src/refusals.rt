@@ -10,8 +10,8 @@ use unit_queue::{FeedError, own_cause, time_cause};
 // No key says how long after its DTS a unit's PTS may be.
 const PTS_LIMIT: u32 = 90_000;
 
-/// Returns the first cause for which a unit is refused where stream 0 has a PID for itself: its stream_id is `id`,
-/// and no DTS below `min_next_dts` is accepted.
+/// Returns the first cause of the refusal of a unit, if stream 0 is alone on its PID, its stream_id is `id`, and no
+/// DTS below `min_next_dts` is accepted.
 #[tactic(auto, unfolding(crate::specs::Refusals::refusal, unit_queue::specs::Causes::or_cause))]
 pub(crate) fn refusal<A: Allocator>(
     id: u8,

@@ -13,7 +13,7 @@ use Rattle.checked_jobs.specs.declared.job_fault.JobReadError.TheVariants.{Fault
 use Rattle.checked_jobs.specs.declared.job_fault.JobFault.{JobFault}
 use Rattle.checked_jobs.specs.declared.job_fault.JobFault.TheVariants.{NoPlan, Description, PlanLine, Refused, SecondPlanLine, SecondRefused}
 
--- 1. What stands in memory
+-- 1. The faults as they are in memory
 
 abbrev pub fault_view : JobFault → JobFaultView
 fault_view NoPlan = HasNoPlan

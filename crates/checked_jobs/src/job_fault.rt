@@ -59,7 +59,7 @@ pub fn is_final(fault: JobFault) -> bool
     }
 }
 
-/// The name of a fault's line.
+/// Returns the name of a fault's line.
 fn name_of(fault: JobFault) -> &'static str
     ensures name { result.now ≡ fault_name (fault_view fault) }
     ensures short { length result.now ≤ 40 }

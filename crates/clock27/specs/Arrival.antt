@@ -1,8 +1,7 @@
 -- When the bytes of a transport stream arrive (ISO/IEC 13818-1, 2.4.2.2).
 --
--- At R bits a second byte i arrives 8 * i / R seconds after the start. At a buffer from which bytes leave at r bits a
--- second, times are counted in units of 8 / (R * r) seconds: there byte i arrives at i * r, and one byte takes R to
--- leave.
+-- At R bits a second byte i arrives 8 * i / R seconds after the start. For a buffer that is drained at r bits a second, times are
+-- counted in units of 8 / (R * r) seconds: there byte i arrives at i * r, and one byte takes R to leave.
 use Rattle.std.specs.Prelude.{ℕ, zero, suc, ◌*◌, List, [], ◌∷◌, ◌++◌}
 
 -- the arrivals of n bytes, from byte i on

@@ -7,7 +7,7 @@ unfoldable pub departures : ℕ → ℕ → List ℕ → List ℕ
 departures step prev [] = []
 departures step prev (t ∷ ts) = (max t prev + step) ∷ departures step (max t prev + step) ts
 
--- the last of them, `prev` where no byte arrives
+-- the last departure, `prev` if no byte arrives
 unfoldable pub last_left : ℕ → ℕ → List ℕ → ℕ
 last_left step prev [] = prev
 last_left step prev (t ∷ ts) = last_left step (max t prev + step) ts

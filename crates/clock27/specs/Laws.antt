@@ -1,4 +1,4 @@
--- Laws of the times of bytes, over the definitions alone.
+-- Laws of the times of bytes, about the definitions alone.
 use Rattle.std.specs.Prelude.{◌≡◌, ℕ, ◌+◌, ◌-◌, ◌*◌, ◌/◌, ◌<◌, ◌≤◌, max, List, ◌++◌, length, map, All}
 use Rattle.clock27.specs.Arrival.{bytes_from, arrivals}
 use Rattle.clock27.specs.Departure.{departures, last_left}
@@ -39,7 +39,7 @@ RowLaw = (r i n : ℕ) → All (λ t. i * r ≤ t) (bytes_from r i n)
 abbrev pub RoomLaw : Type 0
 RoomLaw = (x step room : ℕ) (ts : List ℕ) → 0 < step → Stays (room * step) ts (departures step 0 ts) → fullness x ts (departures step 0 ts) ≤ room
 
--- the fullness is that of the first part and that of the rest
+-- the fullness of joined lists is the sum of the fullnesses of their parts
 abbrev pub FullnessLaw : Type 0
 FullnessLaw = (x : ℕ) (ts ts' ds ds' : List ℕ) → length ts ≡ length ds →
     fullness x (ts ++ ts') (ds ++ ds') ≡ fullness x ts ds + fullness x ts' ds'
@@ -56,7 +56,8 @@ FullnessBefore = (x : ℕ) (ts ds : List ℕ) → All (λ t. x < t) ts → fulln
 abbrev pub FullnessAfter : Type 0
 FullnessAfter = (x : ℕ) (ts ds : List ℕ) → All (λ d. d ≤ x) ds → fullness x ts ds ≡ 0
 
--- a queue after one that is no slower: each byte leaves the second `first` later than it would leave the second alone
+-- a queue after a queue that is no slower: each byte leaves the second queue `first` later than it would leave the second queue
+-- alone
 abbrev pub TandemLaw : Type 0
 TandemLaw = (first second : ℕ) (ts : List ℕ) → first ≤ second →
     departures second 0 (departures first 0 ts) ≡ map (λ d. d + first) (departures second 0 ts)

@@ -11,8 +11,7 @@ pub record Reference : Type 0 where
 abbrev pub ticks_of : Reference → ℕ
 ticks_of pcr = 300 * pcr.base + pcr.extension
 
--- the clock at byte i of an output of `rate` bits a second, in ticks of 27 MHz, where it stood at `base0` units of 90
--- kHz at byte 0
+-- the clock at byte i of an output of `rate` bits a second, in ticks of 27 MHz, if it is `base0` units of 90 kHz at byte 0
 abbrev pub pcr_ticks : ℕ → ℕ → ℕ → ℕ
 pcr_ticks rate base0 i = (byte_ticks_at_1bps * i / rate + 300 * base0) % (300 * 2 ^ 33)
 

@@ -6,7 +6,7 @@ use crate::rate::Rate;
 use crate::units::SLOT_UNITS_AT_1BPS;
 
 /// Returns the first slot that begins no earlier than `lead` before the decoding time `dts`, both
-/// in units of 90 kHz; none where the time lies before the lead.
+/// in units of 90 kHz; none if the time lies before the lead.
 pub fn release_slot(rate: Rate, dts: u64, lead: u64) -> Option<u64>
     ensures early { IsNone result ↔ (dts < lead) }
     ensures least { IfSome result (IsReleaseSlot rate (dts - lead)) }

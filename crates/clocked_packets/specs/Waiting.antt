@@ -1,8 +1,8 @@
--- Packets that wait until the line is known on which they arrive.
+-- Packets that wait until the line of their arrival is known.
 --
--- A stream arrives by the references of one PID, that of the first, or PCR_PID of a program once the first tables are known (ISO/IEC
--- 13818-1, 2.4.2.2: bytes arrive by the references of their program). With each of them the packets before it have a line, and the
--- packet with the reference waits as the first of those for the next. Where too many wait, the line before goes on for them.
+-- A stream arrives by the references of one PID: the PID of the first reference, or PCR_PID of a program once the first tables are known (ISO/IEC
+-- 13818-1, 2.4.2.2: bytes arrive by the references of their program). Each reference gives the packets before it their line, and the packet with the
+-- reference is the first to wait for the next line. If too many packets wait, the line before is extended for them.
 use Rattle.std.specs.Prelude.{ℕ, ◌+◌, ◌-◌, ◌^◌, ◌==◌, ◌&&◌, min, nat_lt, not, is_some, Bool, true, false, if◌then◌else◌, List, [], ◌∷◌, ◌++◌, length, Option}
 use Rattle.std.specs.Prelude.{Some, None, Result, Ok, Err}
 use Rattle.std.specs.Option.{option_map}
@@ -26,8 +26,8 @@ use Rattle.clocked_packets.specs.declared.packet_queue.ClockPid.TheVariants.{OfF
 abbrev pub most_waiting : ℕ
 most_waiting = 65536
 
--- the PID of the references, the streams that are named, the clock that the references give, the line of the first bytes of the first packet that waits, the
--- number of packets so far, and those that wait
+-- the PID of the references, the streams that are named, the clock that the references give, the line of the first bytes of the first packet that waits,
+-- the number of packets so far, and the packets that wait
 pub record QueueState : Type 0 where
   pub pid : ClockPid
   pub named : NamedView
@@ -39,7 +39,7 @@ pub record QueueState : Type 0 where
 abbrev pub no_packet : ClockPid → QueueState
 no_packet pid = record { pid = pid; named = none_taken; clock = no_reference; before = None; packets = 0; held = [] }
 
--- 1. The reference of a packet by which the stream arrives, and its PID
+-- 1. The reference of a packet of the stream's clock of arrival, and its PID
 
 unfoldable pub is_of_clock : ClockPid → ℕ → Bool
 is_of_clock OfFirst pid = true
@@ -58,7 +58,7 @@ reference_read clock index (Ok packet) = reference_of clock index packet
 abbrev pub reference_in : QueueState → List ℕ → Option (ℕ × PcrSample)
 reference_in q bytes = reference_read q.pid q.packets (packet_at bytes)
 
--- 2. What it gives those that wait
+-- 2. The line that a reference gives to the packets that wait
 
 unfoldable pub line_by : QueueState → Option (ℕ × PcrSample) → Option Line
 line_by q None = None
@@ -72,7 +72,7 @@ unfoldable pub pid_by : QueueState → Option (ℕ × PcrSample) → ClockPid
 pid_by q None = q.pid
 pid_by q (Some reference) = Known reference.0
 
--- they still wait: the reference gives no line, and they are not too many
+-- the packets still wait: the reference gives no line, and there are not too many of them
 abbrev pub still_wait : QueueState → Option (ℕ × PcrSample) → Bool
 still_wait q reference = not (is_some (line_by q reference)) && nat_lt (length q.held) most_waiting
 
@@ -85,7 +85,7 @@ arrival_by (Some before) (Some line) = OnLines (record { before = before; line =
 abbrev pub released_by : QueueState → Option (ℕ × PcrSample) → Option Arrival
 released_by q reference = if still_wait q reference then None else Some (arrival_by q.before (clock_by q reference).line)
 
--- without a reference for so long the clock begins anew
+-- without a reference for so long the clock begins again
 unfoldable pub begun_by : ArrivalClockState → Option (ℕ × PcrSample) → ArrivalClockState
 begun_by clock None = without_last clock
 begun_by clock (Some reference) = clock
@@ -100,7 +100,7 @@ stepped_by q reference = record {
   held = q.held;
 }
 
--- 3. PCR_PID of a program, once the first tables are known, 8191 where they do not name it: what a packet names counts from the next one on
+-- 3. PCR_PID of a program, once the first tables are known; 8191 if they do not name it: the tables of a packet count from the next packet on
 
 unfoldable pub program_pid_in : ℕ → Option FoundProgramsView → ClockPid
 program_pid_in number None = OfProgram number
@@ -109,7 +109,7 @@ program_pid_in number (Some found) = Known (clock_in number found.programs)
 abbrev pub program_pid : ℕ → NamedView → ClockPid
 program_pid number named = program_pid_in number named.streams
 
--- nothing is looked for where the PID is known, or is that of the first reference
+-- tables are not read if the PID is known, or is the PID of the first reference
 unfoldable pub named_after : ClockPid → NamedView → List ℕ → NamedView
 named_after OfFirst named bytes = named
 named_after (OfProgram number) named bytes = naming.taken named bytes
@@ -123,7 +123,7 @@ pid_after (Known pid) named = Known pid
 abbrev pub named_by : QueueState → List ℕ → QueueState
 named_by q bytes = record q { pid = pid_after q.pid (named_after q.pid q.named bytes); named = named_after q.pid q.named bytes }
 
--- 4. A packet comes: how those before it arrive, if they do; and then it waits
+-- 4. A packet comes: how the packets before it arrive, if they do; and then it waits
 
 abbrev pub released : QueueState → List ℕ → Option Arrival
 released q bytes = released_by q (reference_in q bytes)
@@ -134,11 +134,11 @@ stepped q bytes = named_by (stepped_by q (reference_in q bytes)) bytes
 abbrev pub with_held : QueueState → List (List ℕ) → QueueState
 with_held q held = record q { held = held }
 
--- at the end the last line goes on
+-- at the end the last line is extended
 abbrev pub last_arrival : QueueState → Arrival
 last_arrival q = arrival_by q.before q.clock.line
 
--- 5. The same of a stream that arrives by samples of another clock, which are given beside its packets: by the references of no PID
+-- 5. The same for a stream that arrives by samples of another clock, which are given with its packets: by the references of no PID
 
 abbrev pub no_pid : ℕ
 no_pid = 8191

@@ -22,7 +22,7 @@ const NO_PID: u16 = 8191;
 /// The PID of the clock references that time a stream's arrival.
 #[derive(Clone, Copy)]
 pub enum ClockPid {
-    /// That of the first reference, before one has come.
+    /// PID of the first reference, which has not arrived yet.
     OfFirst,
     /// PCR_PID of a program, before the first tables are known.
     OfProgram(u16),
@@ -50,7 +50,7 @@ impl Model for PacketQueue {
     ghost view = { λ q. record { pid = q.pid; named = q.named; clock = q.clock; before = q.before; packets = q.packets; held = q.held.items } };
 }
 
-// Whether references of a PID are those by which the stream arrives.
+// Returns whether references of a PID time the arrival of the stream.
 #[tactic(auto, unfolding(crate::specs::Waiting::is_of_clock))]
 fn is_of_clock(clock: ClockPid, pid: u16) -> bool
     ensures { result ≡ spec.is_of_clock clock pid }
@@ -62,7 +62,7 @@ fn is_of_clock(clock: ClockPid, pid: u16) -> bool
     }
 }
 
-// The reference of a packet by which the stream arrives, and its PID.
+// Returns the reference of a packet and its PID, if it times the arrival of the stream.
 fn reference_of(clock: ClockPid, index: u64, packet: &Packet<'_>) -> Option<(u16, PcrSample)>
     ensures value { result ≡ spec.reference_of clock index (packet_view packet.now) }
     ensures range { IfSome result (λ r. IsInRange r.1) }
@@ -90,7 +90,7 @@ fn reference_read(
     }
 }
 
-// PCR_PID of a program, once the first tables are known.
+// Returns PCR_PID of a program, once the first tables are known.
 #[tactic(auto, unfolding(crate::specs::Waiting::program_pid_in, ts_tables::specs::NamedStreams::clock_by))]
 fn program_pid(number: u16, named: &NamedStreams) -> ClockPid
     ensures { result ≡ spec.program_pid number named.now }
@@ -101,7 +101,7 @@ fn program_pid(number: u16, named: &NamedStreams) -> ClockPid
     }
 }
 
-// The sample of a clock beside a packet, as a reference of no PID.
+// Returns the sample of a clock beside a packet, as a reference of no PID.
 fn given_sample(sample: Option<PcrSample>) -> Option<(u16, PcrSample)>
     requires { IfSome sample IsInRange }
     ensures value { result ≡ spec.given_sample sample }
@@ -111,7 +111,7 @@ fn given_sample(sample: Option<PcrSample>) -> Option<(u16, PcrSample)>
     Some((NO_PID, sample))
 }
 
-// How bytes arrive on these lines.
+// Returns how bytes arrive on these lines.
 #[tactic(auto, unfolding(crate::specs::Waiting::arrival_by))]
 fn arrival_by(before: Option<ClockLine>, line: Option<ClockLine>) -> Arrival
     ensures { result ≡ spec.arrival_by before line }
@@ -145,7 +145,7 @@ impl PacketQueue {
         &self.held
     }
 
-    // The clock takes a reference, if there is one: the line that it gives to those that wait.
+    // Takes the reference, if there is one, and returns the line that it gives to the packets that wait.
     #[tactic(auto, unfolding(crate::specs::Waiting::line_by, crate::specs::Waiting::clock_by, crate::specs::Waiting::pid_by))]
     fn take_reference(&mut self, reference: &Option<(u16, PcrSample)>) -> Option<ClockLine>
         requires { IfSome reference.now (λ r. IsInRange r.1) }
@@ -166,7 +166,7 @@ impl PacketQueue {
         }
     }
 
-    // A packet comes with this reference, or with none.
+    // Takes the next packet's reference, if it has one; returns the arrival of the waiting packets, if it is known now.
     #[tactic(auto, unfolding(crate::specs::Waiting::begun_by))]
     fn step(&mut self, reference: &Option<(u16, PcrSample)>) -> Option<Arrival>
         requires { IfSome reference.now (λ r. IsInRange r.1) }
@@ -186,7 +186,7 @@ impl PacketQueue {
         Some(arrival)
     }
 
-    // What a packet names counts from the next one on, where the PID is not known yet.
+    // Learns the names in a packet, if the PID is not known yet; they apply from the next packet on.
     #[tactic(auto, unfolding(crate::specs::Waiting::named_after, crate::specs::Waiting::pid_after))]
     fn name(&mut self, bytes: &[u8; 188]) -> Result<(), AllocError>
         ensures { OnOk result (self.new ≡ spec.named_by self.old bytes.now) }

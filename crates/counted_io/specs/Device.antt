@@ -1,4 +1,4 @@
--- What is known of a device whose failed calls are counted.
+-- Properties of a device whose failed calls are counted.
 use Rattle.std.specs.Prelude.{◌≡◌, ◌⊎◌, ℕ, ◌+◌, ◌-◌, ◌^◌, ◌<◌, ◌≤◌, min, List, length, take, drop, Option, Some, Result, Ok, Err, MatchResult}
 use Rattle.counted_io.specs.declared.fault.DeviceFault.{DeviceFault}
 
@@ -6,15 +6,15 @@ use Rattle.counted_io.specs.declared.fault.DeviceFault.{DeviceFault}
 abbrev pub last_count : ℕ
 last_count = 2 ^ 64 - 1
 
--- one more failure: the count rises by one, or stands at its last value
+-- one more failure: the count rises by one, or stays at its last value
 abbrev pub CountsOne : ℕ → ℕ → Type 0
 CountsOne old new = (new ≡ old + 1) ⊎ ((new ≡ old) × (old ≡ last_count))
 
--- a call that failed is counted, and one that did not is not
+-- a call that failed is counted, and a call that did not fail is not
 abbrev pub CountsFailure : {V E : Type 0} → ℕ → ℕ → Result V E → Type 0
 CountsFailure old new result = MatchResult result (λ _. new ≡ old) (λ _. CountsOne old new)
 
--- a call failed in between: the count rose, or it stands at its last value
+-- a call failed in between: the count rose, or it is at its last value
 abbrev pub Failed : ℕ → ℕ → Type 0
 Failed old new = (old < new) ⊎ ((new ≡ old) × (old ≡ last_count))
 
@@ -23,7 +23,7 @@ abbrev pub taken_of : {V : Type 0} → Result V DeviceFault → ℕ → ℕ
 taken_of (Ok _) size = size
 taken_of (Err fault) size = fault.taken
 
--- the first n bytes of the part are those of xs, and the rest of xs is left
+-- the first n bytes of the part are the first n bytes of xs, and the rest of xs is left
 pub record IsFront (xs : List ℕ) (left : Option (List ℕ)) (part : List ℕ) (n : ℕ) : Type 0 where
   pub front : take n part ≡ take n xs
   pub rest : left ≡ Some (drop n xs)

@@ -34,7 +34,7 @@ impl<T> Counted<T> {
         self.inner
     }
 
-    // One more call has failed.
+    // Counts one more failed call.
     fn count_failure(&mut self)
         ensures inner { inner_of self.new ≡ inner_of self.old }
         ensures counts { CountsOne (failures_of self.old) (failures_of self.new) }

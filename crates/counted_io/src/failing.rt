@@ -52,7 +52,7 @@ impl<T> Failing<T> {
         self.inner
     }
 
-    // The number of the wanted bytes that the next call may give or take.
+    // Returns how many of the wanted bytes the next call may give or take.
     fn allowed(&self, wanted: usize) -> Option<usize>
         ensures none { IsNone result ↔ (0 < wanted × ((self.now.calls ≡ 0) ⊎ (self.now.bytes ≡ 0))) }
         ensures some { IfSome result (λ most. most ≡ min wanted self.now.bytes) }

@@ -26,11 +26,11 @@ pub trait Source: Read {
 /// Fills the part as far as the input goes, and says how many bytes were read: fewer than the part holds only where
 /// the input ends. The first failed call ends it.
 pub fn read_part<R: Source>(from: &mut R, part: &mut [u8]) -> Result<usize, DeviceFault>
-    // Of an input whose bytes are known: which bytes, and what is left.
+    // If the input's bytes are known: which bytes were read, and which remain.
     ensures known { (xs : List ℕ) → R.remaining from.old ≡ Some xs →
         ReadsPart xs (R.remaining from.new) part.new result }
 
-    // Of any input.
+    // For any input.
     ensures bound { IfOk result (λ n. n ≤ length part.new) }
     ensures short { IfErr result (λ fault. fault.taken < length part.new) }
 

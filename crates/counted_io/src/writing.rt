@@ -11,8 +11,8 @@ use std::io::{self, Write};
 pub trait Sink: Write {
     ghost fault_count: { Self → ℕ };
 
-    /// One `write`. It fails too where the writer takes no byte of a part that has some. A failed one takes no byte and
-    /// is counted.
+    /// Makes one `write`, which also fails if the writer takes no byte of a part that has some. A failed call takes no
+    /// byte and is counted.
     fn write_some(&mut self, part: &[u8]) -> io::Result<usize>
         ensures bound { WritesAtMost result part.now }
         ensures progress { IfOk result (λ n. 0 < length part.now → 0 < n) }

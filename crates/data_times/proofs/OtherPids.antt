@@ -2,7 +2,7 @@
 use Rattle.std.proofs.Common.{◌≡◌, ℕ, Bool, true, false, if◌then◌else◌, Option, Some, None, List, [], ◌∷◌, refl, ap, ◌∙◌}
 use Rattle.std.proofs.lemmas.Bool.{eqb-true}
 use Rattle.demux.specs.Laws.{found_of, has_pid}
-use Rattle.demux.specs.Views.{FindingView}
+use Rattle.pid_findings.specs.Views.{FindingView}
 use Rattle.data_times.specs.DataTimes.{Clocks, LineView, TimesView, first_shown, is_unstamped, moment_of, moment_on, passed, timed_finding, timed_from}
 use Rattle.data_times.specs.DataTimes.{times_of}
 use Rattle.data_times.specs.Laws.{OthersStay}

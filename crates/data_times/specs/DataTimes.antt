@@ -7,10 +7,10 @@ use Rattle.std.specs.Map.{lookup}
 use Rattle.indexmap.specs.IndexMap.{insert_entry}
 use Rattle.pes_packet.specs.declared.time_stamps.Stamps.TheVariants.{Pts}
 use Rattle.pes_packet.specs.declared.reading.PesHeader.{PesHeader}
-use Rattle.demux.specs.declared.finding.Kind.{Kind}
-use Rattle.demux.specs.declared.finding.Kind.TheVariants.{Table, Pes}
-use Rattle.demux.specs.Views.{FindingView, WhatView, IsPes}
-use Rattle.demux.specs.OpenUnits.{is_stamped}
+use Rattle.pid_findings.specs.declared.finding.Kind.{Kind}
+use Rattle.pid_findings.specs.declared.finding.Kind.TheVariants.{Table, Pes}
+use Rattle.pid_findings.specs.Views.{FindingView, WhatView, IsPes}
+use Rattle.pid_findings.specs.OpenUnits.{is_stamped}
 use Rattle.program_tables.specs.Association.{AssociationView, association}
 use Rattle.descriptor_loops.specs.Descriptors.{has_tag}
 use Rattle.stream_programs.specs.Programs.{FoundProgramView, FoundProgramsView, programs_of}
@@ -24,7 +24,7 @@ unfoldable pub data_pts : WhatView → Option Bool
 data_pts (IsPes header unended body) = if header.id == 0xBD then Some (is_stamped header.stamps) else None
 data_pts what = None
 
--- what is seen of each PID that has such packets: whether one of them has a PTS
+-- for each PID with such packets, whether one of its packets has a PTS
 abbrev pub SeenStamps : Type 0
 SeenStamps = List (ℕ × Bool)
 
@@ -64,12 +64,12 @@ unfoldable pub first_shown : Clocks → List FoundPcr → Clocks
 first_shown clocks [] = clocks
 first_shown clocks (r ∷ rs) = first_shown (shown_if (lookup (nat_eq r.pid) clocks) clocks r) rs
 
--- what they show, and the references of later packets
+-- the values of the clocks, and the references of later packets
 pub record LineView : Type 0 where
   pub clocks : Clocks
   pub later : List FoundPcr
 
--- when a packet comes
+-- the clocks when a packet comes
 unfoldable pub passed_by : ℕ → Clocks → List FoundPcr → LineView
 passed_by packet clocks [] = record { clocks = clocks; later = [] }
 passed_by packet clocks (r ∷ rs) = if nat_le r.packet packet then passed_by packet (with_shown clocks r) rs else record { clocks = clocks; later = r ∷ rs }
@@ -82,7 +82,7 @@ unfoldable pub pcr_if : Option FoundProgramView → Option ℕ
 pcr_if None = None
 pcr_if (Some p) = Some p.pcr_pid
 
--- that of a stream's program, if the stream has a teletext_descriptor (EN 300 468, table 12)
+-- the clock of a stream's program, if the stream has a teletext_descriptor (EN 300 468, table 12)
 unfoldable pub clock_of : FoundProgramsView → FoundStreamView → Option ℕ
 clock_of found s = if has_tag 0x56 s.descriptors then pcr_if (find (λ p. p.number == s.program) found.programs) else None
 
@@ -90,11 +90,11 @@ unfoldable pub clock_if : FoundProgramsView → Option FoundStreamView → Optio
 clock_if found None = None
 clock_if found (Some s) = clock_of found s
 
--- that of the stream on a PID
+-- the clock of the stream on a PID
 unfoldable pub clock_on : FoundProgramsView → ℕ → Option ℕ
 clock_on found pid = clock_if found (find (λ s. s.pid == pid) found.streams)
 
--- 3. What decides: the programs, the stamps that are seen, and what the clocks show first
+-- 3. The state that decides: the programs, the stamps seen, and the first values of the clocks
 
 pub record TimesView : Type 0 where
   pub programs : FoundProgramsView
@@ -112,11 +112,11 @@ times_of references findings = record {
   first = first_shown [] references;
 }
 
--- what the clock of a PID shows, if the PID has teletext without stamps
+-- the value of the clock of a PID, if the PID has teletext without stamps
 unfoldable pub moment_of : TimesView → Clocks → ℕ → Option ℕ
 moment_of t clocks pid = if is_unstamped t.seen pid then option_and_then (λ clock. lookup (nat_eq clock) clocks) (clock_on t.programs pid) else None
 
--- it has moments: its clock has references
+-- the PID has moments: its clock has references
 abbrev pub is_timed : TimesView → ℕ → Bool
 is_timed t pid = is_some (moment_of t t.first pid)
 
@@ -142,7 +142,7 @@ unfoldable pub timed_what : ℕ → WhatView → WhatView
 timed_what moment (IsPes header unended body) = if header.id == 0xBD then IsPes (with_pts moment header) unended body else IsPes header unended body
 timed_what moment what = what
 
--- a PES packet that begins, whole or cut, goes on with no unit before it
+-- a PES packet that begins, whole or cut, does not continue a unit before it
 unfoldable pub as_first : Option (ℕ × Kind) → Option (ℕ × Kind)
 as_first None = None
 as_first (Some (packet, Table table_id)) = Some (packet, Table table_id)

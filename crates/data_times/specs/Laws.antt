@@ -1,7 +1,7 @@
 -- What the laws of this crate say.
 use Rattle.std.specs.Prelude.{◌≡◌, ℕ, false, List}
 use Rattle.demux.specs.Laws.{found_of}
-use Rattle.demux.specs.Views.{FindingView}
+use Rattle.pid_findings.specs.Views.{FindingView}
 use Rattle.data_times.specs.DataTimes.{is_unstamped, seen_in, timed}
 use Rattle.packet_pcr.specs.declared.pcr_reading.FoundPcr.{FoundPcr}
 

@@ -5,7 +5,7 @@ use Rattle.demux.specs.Stream.{next_packet}
 use Rattle.packet_pcr.specs.PacketPcr.{pcr_at}
 use Rattle.packet_pcr.specs.declared.pcr_reading.FoundPcr.{FoundPcr}
 
--- the number of its packets so far, the bytes of one that is not whole yet, and the references of those before
+-- the number of packets so far, the bytes of a packet that is not whole yet, and the references of the packets before
 pub record LogView : Type 0 where
   pub packets : ℕ
   pub held : List ℕ
@@ -18,7 +18,7 @@ no_packet = record { packets = 0; held = []; found = [] }
 abbrev pub with_packet : LogView → List ℕ → LogView
 with_packet s bytes = record { packets = next_packet s.packets; held = []; found = s.found ++ option_to_list (pcr_at s.packets bytes) }
 
--- what is held, once it may be a packet
+-- the log with the held bytes: 188 of them are taken as a packet
 unfoldable pub completed : LogView → List ℕ → LogView
 completed s held = if length held == 188 then with_packet s held else record { packets = s.packets; held = held; found = s.found }
 

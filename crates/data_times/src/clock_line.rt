@@ -25,7 +25,7 @@ impl Model for ShownClocks {
 }
 
 impl ShownClocks {
-    /// Returns what is shown where no clock shows anything.
+    /// Returns the clocks before any reference.
     pub(crate) fn new(alloc: Global) -> ShownClocks
         ensures { result ≡ [] }
     {
@@ -75,7 +75,7 @@ impl ShownClocks {
     }
 }
 
-// The clocks show the references up to a packet; those of later packets are returned.
+// Shows the references up to a packet, and returns the references of later packets.
 #[tactic(auto, using(crate::proofs::PassedFindings::pass_more, crate::proofs::PassedFindings::pass_stop, crate::proofs::PassedFindings::pass_end))]
 fn pass_all<'r>(
     packet: u64,

@@ -7,7 +7,7 @@
 //! - [`text_times`], [`TextTimes`]: which PIDs have such teletext, and the findings of a stream, each PES packet of it with its
 //!   moment as PTS (`specs/DataTimes`).
 //! - [`programs_in`], [`stream_on`], [`pcr_of`]: the programs of a stream, and their clocks.
-//! - [`others_stay`]: what is found of other PIDs stays as it is.
+//! - [`others_stay`]: findings of other PIDs stay as they are.
 #![tactic(auto)]
 
 mod clock_line;

@@ -2,12 +2,12 @@
 
 ghost use Rattle.std.specs.Prelude.{◌≡◌, IfOk, OnOk, map, nat_eq};
 ghost use Rattle.std.specs.Map.{lookup};
-ghost use Rattle.demux.specs.OpenUnits.{is_stamped};
-ghost use Rattle.demux.specs.Shown.{finding_view, what_view};
+ghost use Rattle.pid_findings.specs.OpenUnits.{is_stamped};
+ghost use Rattle.pid_findings.specs.Shown.{finding_view, what_view};
 ghost use Rattle.data_times.specs.DataTimes as spec;
 
-use demux::{Finding, What};
 use pes_packet::Stamps;
+use pid_findings::{Finding, What};
 use pid_map::PidMap;
 use std::alloc::{AllocError, Global};
 use std::marker::Model;
@@ -15,7 +15,7 @@ use std::marker::Model;
 /// private_stream_1 (ISO/IEC 13818-1, table 2-22).
 pub(crate) const PRIVATE_STREAM: u8 = 0xbd;
 
-/// Of each PID that has PES packets of private_stream_1, whether one of them has a PTS.
+/// Whether any PES packet of private_stream_1 has a PTS, for each PID with such packets.
 #[derive(Drop)]
 pub(crate) struct SeenStamps {
     seen: PidMap<bool, Global>,
@@ -40,7 +40,7 @@ fn is_stamped(stamps: Stamps) -> bool
     }
 }
 
-// Whether what is found, if it is a PES packet of private_stream_1, has a PTS.
+// Returns whether a finding, if it is a PES packet of private_stream_1, has a PTS.
 #[tactic(auto, unfolding(crate::specs::DataTimes::data_pts))]
 fn data_pts(what: &What<'_>) -> Option<bool>
     ensures { result ≡ spec.data_pts (what_view what.now) }
@@ -82,7 +82,7 @@ impl SeenStamps {
         Ok(())
     }
 
-    // Sees what is found of a PID.
+    // Sees a finding of a PID.
     #[tactic(auto, unfolding(crate::specs::DataTimes::seen_by))]
     fn take(&mut self, pid: Option<u16>, pts: Option<bool>) -> Result<(), AllocError>
         ensures { OnOk result (self.new ≡ spec.seen_by self.old pid pts) }
@@ -94,7 +94,7 @@ impl SeenStamps {
     }
 }
 
-/// Returns what is seen in findings.
+/// Returns the PIDs with PES packets of private_stream_1 in findings.
 pub(crate) fn seen_in(alloc: Global, findings: &[Finding<'_>]) -> Result<SeenStamps, AllocError>
     ensures { IfOk result (λ seen. seen ≡ spec.seen_in (map finding_view findings.now)) }
 {

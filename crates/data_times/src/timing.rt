@@ -1,16 +1,16 @@
 //! Findings with the moments of teletext that has no stamps.
 
 ghost use Rattle.std.specs.Prelude.{◌≡◌, ◌==◌, [], IfOk, find, map, option_map};
-ghost use Rattle.demux.specs.Shown.{finding_view, what_view};
+ghost use Rattle.pid_findings.specs.Shown.{finding_view, what_view};
 ghost use Rattle.program_tables.specs.Association.{association};
 ghost use Rattle.data_times.specs.DataTimes as spec;
 
 use crate::clock_line::{ClockLine, ShownClocks};
 use crate::seen_stamps::{PRIVATE_STREAM, SeenStamps, seen_in};
-use demux::{Finding, Kind, What};
 use descriptor_loops::has_tag;
 use packet_pcr::FoundPcr;
 use pes_packet::{PesHeader, Stamps};
+use pid_findings::{Finding, Kind, What};
 use program_tables::named_programs;
 use std::alloc::{AllocError, Global};
 use std::collections::VecDeque;
@@ -45,7 +45,7 @@ pub fn pcr_of(programs: &[FoundProgram], number: u16) -> Option<u16>
     }
 }
 
-// That of a stream's program, if the stream is teletext.
+// Returns the PID of the clock references of a stream's program, if the stream is teletext.
 #[tactic(auto, unfolding(crate::specs::DataTimes::clock_of))]
 fn clock_of(found: &FoundPrograms, stream: &FoundStream) -> Option<u16>
     ensures { result ≡ spec.clock_of found.now stream.now }
@@ -56,7 +56,7 @@ fn clock_of(found: &FoundPrograms, stream: &FoundStream) -> Option<u16>
     pcr_of(&found.programs, stream.program)
 }
 
-// That of the stream on a PID.
+// Returns the PID of the clock references of the teletext on a PID.
 #[tactic(auto, unfolding(crate::specs::DataTimes::clock_on, crate::specs::DataTimes::clock_if))]
 fn clock_on(found: &FoundPrograms, pid: u16) -> Option<u16>
     ensures { result ≡ spec.clock_on found.now pid }
@@ -81,7 +81,7 @@ fn with_pts(moment: u64, header: PesHeader) -> PesHeader
     }
 }
 
-// What is found, at this moment if it is a PES packet of private_stream_1.
+// Returns what a finding has, at this moment if it is a PES packet of private_stream_1.
 #[tactic(auto, unfolding(crate::specs::DataTimes::timed_what))]
 fn timed_what<'a>(moment: u64, what: What<'a>) -> What<'a>
     ensures { what_view result ≡ spec.timed_what moment (what_view what.entry) }
@@ -107,7 +107,7 @@ fn timed_what<'a>(moment: u64, what: What<'a>) -> What<'a>
     }
 }
 
-// What begins, as a PES packet that goes on with no unit.
+// Returns what begins, as a PES packet that continues no unit.
 #[tactic(auto, unfolding(crate::specs::DataTimes::as_first))]
 fn as_first(begun: Option<(u64, Kind)>) -> Option<(u64, Kind)>
     ensures { result ≡ spec.as_first begun }
@@ -162,7 +162,7 @@ fn first_shown(alloc: Global, references: &[FoundPcr]) -> Result<ShownClocks, Al
     Ok(clocks)
 }
 
-/// Which teletext of a stream has no stamps, and by which clocks it has moments.
+/// The teletext of a stream without stamps, and the clocks that give it moments.
 #[derive(Drop)]
 pub struct TextTimes {
     programs: FoundPrograms,
@@ -179,7 +179,7 @@ impl Model for TextTimes {
     ghost view = { λ t. record { programs = t.programs; seen = t.seen; first = t.first } };
 }
 
-/// Returns that of the findings of a stream with these clock references.
+/// Returns the teletext without stamps in the findings of a stream with these clock references.
 pub fn text_times(
     alloc: Global,
     references: &[FoundPcr],

@@ -11,10 +11,10 @@ use Rattle.ts_packet.specs.Views.{PacketView}
 use Rattle.ts_packet.specs.Reading.{packet_at}
 use Rattle.ts_packet.specs.PidList.{Entry, is_of_pid}
 use Rattle.ts_packet.specs.PidList as lists
-use Rattle.demux.specs.Views.{IsErrored, Found, FindingView}
-use Rattle.demux.specs.Findings.{at_packet}
-use Rattle.demux.specs.Machine.{PidState, step, found_by, run, run_to}
-use Rattle.demux.specs.Shown.{with_pid}
+use Rattle.pid_findings.specs.Views.{IsErrored, Found, FindingView}
+use Rattle.pid_findings.specs.Findings.{at_packet}
+use Rattle.pid_findings.specs.Machine.{PidState, step, found_by, run, run_to}
+use Rattle.pid_findings.specs.Shown.{with_pid}
 use Rattle.demux.specs.Stream.{States, StreamState, state_of, with_state, states_by, findings_by, entry_of, without_pid, next_packet, packet_pushed, taken}
 use Rattle.demux.specs.Stream.{found_in}
 use Rattle.demux.specs.Laws.{found_of, with_pid_at}

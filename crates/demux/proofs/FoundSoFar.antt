@@ -4,7 +4,7 @@ use Rattle.std.specs.Prelude.{if◌then◌else◌, ◌==◌}
 use Rattle.std.specs.List.{concat}
 use Rattle.std.proofs.lemmas.List.{append-nil}
 use Rattle.std.proofs.lemmas.List.Elements.{All-head, All-tail}
-use Rattle.demux.specs.Views.{FindingView}
+use Rattle.pid_findings.specs.Views.{FindingView}
 use Rattle.demux.specs.Laws.{found_of}
 use Rattle.demux.specs.Stream.{StreamState, start, is_aligned, completed, ended_found, finished, found_in, held_found, packet_pushed, pushed, taken}
 use Rattle.demux.specs.FoundSoFar.{FoundSoFar, NothingAtFirst, PacketAdds, PacketsAdd, PieceAdds, AllAreFound, PidFoundSoFar, found_in_all, taken_all}

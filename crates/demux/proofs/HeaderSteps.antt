@@ -2,13 +2,14 @@
 use Rattle.std.proofs.Common.{◌≡◌, ℕ, zero, suc, true, List, [], ◌∷◌, ◌++◌, map, slice_get, Option, Some, None, OnOk, Result, Ok, Err, refl, sym, ap, ◌∙◌}
 use Rattle.std.specs.Prelude.{IfSome}
 use Rattle.std.proofs.lemmas.List.{map-append}
-use Rattle.demux.specs.Views.{FindingView}
-use Rattle.demux.specs.Machine.{PidState}
-use Rattle.demux.specs.Findings.{ended}
-use Rattle.demux.specs.Shown.{with_pid}
+use Rattle.pid_findings.specs.Views.{FindingView}
+use Rattle.pid_findings.specs.Machine.{PidState}
+use Rattle.pid_findings.specs.Findings.{ended}
+use Rattle.pid_findings.specs.Shown.{with_pid}
 use Rattle.demux.specs.Stream.{States, StreamState, found_in, pushed, taken}
-use Rattle.demux.specs.Bodies.{AddsHeaders, all_without_body, bodies_left_out, finding_without_body, headers_pushed, headers_taken, states_without_bodies}
-use Rattle.demux.specs.Bodies.{without_bodies}
+use Rattle.pid_findings.specs.Bodies.{all_without_body, finding_without_body}
+use Rattle.demux.specs.StreamBodies.{AddsHeaders, bodies_left_out, headers_pushed, headers_taken, states_without_bodies}
+use Rattle.demux.specs.StreamBodies.{without_bodies}
 use Rattle.demux.proofs.StreamBodies.{entry_ends, found_in_same, left_again, none_besides, pushed_same, taken_same}
 
 -- bodies that are left out are no part of it

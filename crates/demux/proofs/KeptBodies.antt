@@ -5,15 +5,15 @@ use Rattle.ts_packet.specs.PidList.{Entry}
 use Rattle.ts_packet.specs.Views.{PacketView}
 use Rattle.ts_packet.specs.Reading.{packet_at}
 use Rattle.ts_packet.specs.declared.packet.PacketError.{PacketError}
-use Rattle.demux.specs.Views.{Found, FindingView, IsErrored, IsTruncated}
-use Rattle.demux.specs.Findings.{ended}
-use Rattle.demux.specs.Machine.{PidState, found_by, fresh, step}
-use Rattle.demux.specs.Shown.{with_pid}
+use Rattle.pid_findings.specs.Views.{Found, FindingView, IsErrored, IsTruncated}
+use Rattle.pid_findings.specs.Findings.{ended}
+use Rattle.pid_findings.specs.Machine.{PidState, found_by, fresh, step}
+use Rattle.pid_findings.specs.Shown.{with_pid}
 use Rattle.demux.specs.Stream.{States, StreamState, completed, ended_found, entry_of, finished, findings_by, found_in, held_found, packet_pushed, pushed}
 use Rattle.demux.specs.Stream.{state_of, states_by, taken, with_state, without_pid}
-use Rattle.demux.specs.Bodies.{finding_without_body, found_without_body, state_without_body}
+use Rattle.pid_findings.specs.Bodies.{finding_without_body, found_without_body, state_without_body}
 use Rattle.demux.specs.KeptBodies.{OthersDecideNothing, all_but, bodies_left_out_but, finding_but, is_kept, is_of_kept, state_if, states_but}
-use Rattle.demux.proofs.Bodies.{bodies_decide_nothing, ended_same, state_again}
+use Rattle.pid_findings.proofs.Bodies.{bodies_decide_nothing, ended_same, state_again}
 use Rattle.demux.proofs.EachPid.{same_number}
 use Rattle.demux.proofs.StreamBodies.{what_again}
 

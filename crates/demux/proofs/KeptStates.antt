@@ -6,7 +6,7 @@ use Rattle.std.proofs.lemmas.List.{drop_all, append-nil, take_all}
 use Rattle.std.proofs.lemmas.Option.{slice_get_cases}
 use Rattle.indexmap.specs.IndexMap.{set_value_at}
 use Rattle.pid_map.proofs.Entries.{set_same}
-use Rattle.demux.specs.Machine.{PidState}
+use Rattle.pid_findings.specs.Machine.{PidState}
 use Rattle.demux.specs.Stream.{States}
 use Rattle.demux.specs.KeptBodies.{is_kept, state_if, states_but}
 

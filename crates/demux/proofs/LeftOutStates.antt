@@ -4,9 +4,10 @@ use Rattle.std.specs.Map.{values_of}
 use Rattle.std.proofs.lemmas.List.{drop_all, append-nil, take_all}
 use Rattle.std.proofs.lemmas.Option.{slice_get_cases}
 use Rattle.indexmap.specs.IndexMap.{set_value_at}
-use Rattle.demux.specs.Machine.{PidState}
+use Rattle.pid_findings.specs.Machine.{PidState}
 use Rattle.demux.specs.Stream.{States}
-use Rattle.demux.specs.Bodies.{state_without_body, states_without_bodies}
+use Rattle.pid_findings.specs.Bodies.{state_without_body}
+use Rattle.demux.specs.StreamBodies.{states_without_bodies}
 
 -- the first i without bodies
 abbrev pub first_left_out : ℕ → States → States

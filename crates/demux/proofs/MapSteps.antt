@@ -5,7 +5,7 @@ use Rattle.std.specs.Map.{keys_of, lookup, values_of}
 use Rattle.indexmap.specs.IndexMap.{insert_entry, set_value_at}
 use Rattle.pid_map.proofs.Entries.{found_there, set_same, set_there}
 use Rattle.std.specs.Prelude.{OnOk, OnErr, Result, Ok, Err, ⊤}
-use Rattle.demux.specs.Machine.{PidState, fresh}
+use Rattle.pid_findings.specs.Machine.{PidState, fresh}
 use Rattle.demux.specs.Stream.{States, state_of, with_state}
 
 same_state : (y z : PidState) → ◌≡◌ {A = Option PidState} (Some y) (Some z) → y ≡ z

@@ -16,25 +16,29 @@ use Rattle.ts_packet.specs.PidList.{Entry}
 use Rattle.ts_packet.specs.Views.{PacketView}
 use Rattle.ts_packet.specs.Reading.{packet_at}
 use Rattle.ts_packet.specs.declared.packet.PacketError.{PacketError}
-use Rattle.demux.specs.Views.{WhatView, IsDuplicate, BreaksCounter, IsScrambled, IsTruncated, IsSection, IsBadSection, IsPes, IsBadPes, IsBadPacket, IsErrored}
-use Rattle.demux.specs.Views.{IsStray}
-use Rattle.demux.specs.Views.{Found, FindingView}
-use Rattle.demux.specs.OpenUnits.{UnitKind, decided, of_pes, of_section}
-use Rattle.demux.specs.declared.open_unit.UnitKind.TheVariants as unit_kinds
-use Rattle.demux.specs.Findings.{ended}
-use Rattle.demux.specs.Machine.{PidState, found_by, step}
-use Rattle.demux.specs.Shown.{with_pid}
+use Rattle.pid_findings.specs.Views.{WhatView, IsDuplicate, BreaksCounter, IsScrambled, IsTruncated, IsSection, IsBadSection, IsPes, IsBadPes, IsBadPacket}
+use Rattle.pid_findings.specs.Views.{IsErrored}
+use Rattle.pid_findings.specs.Views.{IsStray}
+use Rattle.pid_findings.specs.Views.{Found, FindingView}
+use Rattle.pid_findings.specs.OpenUnits.{decided, of_pes, of_section}
+use Rattle.pid_findings.specs.declared.open_unit.UnitKind.{UnitKind}
+use Rattle.pid_findings.specs.declared.open_unit.UnitKind.TheVariants as unit_kinds
+use Rattle.pid_findings.specs.Findings.{ended}
+use Rattle.pid_findings.specs.Machine.{PidState, found_by, step}
+use Rattle.pid_findings.specs.Shown.{with_pid}
 use Rattle.demux.specs.Stream.{States, StreamState, completed, ended_found, entry_of, finished, findings_by, found_in, held_found, packet_pushed, pushed, start}
 use Rattle.demux.specs.Stream.{state_of, states_by, taken, with_state, without_pid}
 use Rattle.demux.specs.FoundSoFar.{with_found}
-use Rattle.demux.specs.Bodies.{FewAreKept, HeadersAlone, HeadersAreFound, HeadersSoFar, NoHeadersAtFirst, headers_pushed, all_without_body, bodies_left_out}
-use Rattle.demux.specs.Bodies.{finding_without_body, found_without_body, header_bytes, kept_bytes, state_without_body, states_without_bodies, without_bodies}
-use Rattle.demux.specs.Bodies.{without_body}
-use Rattle.demux.proofs.Bodies.{bodies_decide_nothing, ended_same, state_again, zeros_again}
+use Rattle.pid_findings.specs.Bodies.{FewAreKept, all_without_body}
+use Rattle.demux.specs.StreamBodies.{HeadersAlone, HeadersAreFound, HeadersSoFar, NoHeadersAtFirst, headers_pushed, bodies_left_out}
+use Rattle.pid_findings.specs.Bodies.{finding_without_body, found_without_body, header_bytes, kept_bytes, state_without_body}
+use Rattle.demux.specs.StreamBodies.{states_without_bodies, without_bodies}
+use Rattle.pid_findings.specs.Bodies.{without_body}
+use Rattle.pid_findings.proofs.Bodies.{bodies_decide_nothing, ended_same, state_again, zeros_again}
 use Rattle.demux.proofs.FoundSoFar.{cleared, pushed_after}
 use Rattle.demux.proofs.PushedBytes.{pushed_append}
-use Rattle.demux.proofs.HeaderFronts.{header_size, header_there}
-use Rattle.demux.proofs.ShortReads.{header_bound, section_bound}
+use Rattle.pid_findings.proofs.HeaderFronts.{header_size, header_there}
+use Rattle.pid_findings.proofs.ShortReads.{header_bound, section_bound}
 
 -- 1. The states of all PIDs
 

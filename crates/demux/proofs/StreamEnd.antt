@@ -1,11 +1,11 @@
 -- What the end of the stream decides, PID by PID.
 use Rattle.std.proofs.Common.{◌≡◌, ℕ, suc, zero, List, [], ◌∷◌, ◌++◌, map, drop, length, ◌≤◌, slice_get, true, Option, Some, sym, ap, ◌∙◌, append_assoc}
 use Rattle.std.proofs.lemmas.List.{append-nil, drop_all}
-use Rattle.demux.specs.Views.{FindingView}
-use Rattle.demux.specs.Machine.{PidState}
-use Rattle.demux.specs.Findings.{ended}
+use Rattle.pid_findings.specs.Views.{FindingView}
+use Rattle.pid_findings.specs.Machine.{PidState}
+use Rattle.pid_findings.specs.Findings.{ended}
 use Rattle.demux.specs.Stream.{States, ended_found}
-use Rattle.demux.specs.Shown.{with_pid}
+use Rattle.pid_findings.specs.Shown.{with_pid}
 
 same_entry : (x y : ℕ × PidState) → ◌≡◌ {A = Option (ℕ × PidState)} (Some x) (Some y) → x ≡ y
 same_entry x y e = cc

@@ -7,16 +7,16 @@ use Rattle.ts_packet.specs.Views.{PacketView}
 use Rattle.ts_packet.specs.declared.packet.PacketError.{PacketError}
 use Rattle.ts_packet.specs.Reading.{packet_at}
 use Rattle.ts_packet.specs.PidList.{Entry, pid_list, cut_packets}
-use Rattle.demux.specs.Views.{FindingView}
-use Rattle.demux.specs.Findings.{at_packet, ended, findings, findings_to_end}
-use Rattle.demux.specs.Machine.{PidState, fresh, step, run, run_to}
-use Rattle.demux.specs.Shown.{with_pid}
+use Rattle.pid_findings.specs.Views.{FindingView}
+use Rattle.pid_findings.specs.Findings.{at_packet, ended, findings, findings_to_end}
+use Rattle.pid_findings.specs.Machine.{PidState, fresh, step, run, run_to}
+use Rattle.pid_findings.specs.Shown.{with_pid}
 use Rattle.demux.specs.Stream.{States, StreamState, start, state_of, with_state, states_by, entry_of, taken, packet_pushed, pushed, finished, held_found}
 use Rattle.demux.specs.Stream.{ended_found}
 use Rattle.demux.specs.Laws.{EachPidAlone, PacketsDecide, PiecesJoin, found_of, with_pid_at}
 use Rattle.demux.proofs.EachPid.{of_append, of_with_pid, packets_pushed, passed_count, passed_found, passed_to, same_number, with_pid_all, turned_test}
 use Rattle.demux.proofs.PushedBytes.{pushed_append, pushed_less, pushed_whole}
-use Rattle.demux.proofs.MachineRun.{run_finds_all}
+use Rattle.pid_findings.proofs.MachineRun.{run_finds_all}
 
 -- 1. The bytes as packets
 

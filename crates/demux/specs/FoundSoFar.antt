@@ -3,8 +3,8 @@
 use Rattle.std.specs.Prelude.{◌≡◌, ℕ, ◌/◌, ◌-◌, ◌^◌, ◌<◌, ◌==◌, true, false, List, [], ◌∷◌, ◌++◌, length, map, All}
 use Rattle.std.specs.List.{concat}
 use Rattle.ts_packet.specs.PidList.{pid_list}
-use Rattle.demux.specs.Views.{FindingView}
-use Rattle.demux.specs.Findings.{findings, findings_to_end}
+use Rattle.pid_findings.specs.Views.{FindingView}
+use Rattle.pid_findings.specs.Findings.{findings, findings_to_end}
 use Rattle.demux.specs.Stream.{StreamState, start, is_aligned, taken, found_in, pushed, finished}
 use Rattle.demux.specs.Laws.{found_of, with_pid_at}
 
@@ -22,7 +22,7 @@ unfoldable pub taken_all : StreamState → List (List ℕ) → StreamState
 taken_all s [] = s
 taken_all s (packet ∷ packets) = taken_all (taken s packet) packets
 
--- what is found in them
+-- the findings in these packets, one after another
 unfoldable pub found_in_all : StreamState → List (List ℕ) → List FindingView
 found_in_all s [] = []
 found_in_all s (packet ∷ packets) = found_in s packet ++ found_in_all (taken s packet) packets
@@ -31,12 +31,12 @@ found_in_all s (packet ∷ packets) = found_in s packet ++ found_in_all (taken s
 abbrev pub NothingAtFirst : Type 0
 NothingAtFirst = FoundSoFar [] start []
 
--- a packet that is taken adds what is found in it
+-- a packet that is taken adds its findings
 abbrev pub PacketAdds : Type 0
 PacketAdds = (bytes packet : List ℕ) (s : StreamState) (found : List FindingView) → FoundSoFar bytes s found → is_aligned s ≡ true →
     length packet ≡ 188 → FoundSoFar (bytes ++ packet) (taken s packet) (found ++ found_in s packet)
 
--- packets that are taken one after another add what is found in each
+-- packets that are taken one after another add the findings in each packet
 abbrev pub PacketsAdd : Type 0
 PacketsAdd = (bytes : List ℕ) (packets : List (List ℕ)) (s : StreamState) (found : List FindingView) → FoundSoFar bytes s found →
     is_aligned s ≡ true → All (λ packet. length packet ≡ 188) packets →
@@ -47,14 +47,14 @@ abbrev pub PieceAdds : Type 0
 PieceAdds = (bytes piece : List ℕ) (s : StreamState) (found : List FindingView) → FoundSoFar bytes s found →
     FoundSoFar (bytes ++ piece) (with_found [] (pushed s piece)) (found ++ (pushed s piece).found)
 
--- the findings of the bytes are those so far; with a piece more and the end of the stream, those that these leave follow
+-- the findings in the bytes are the findings so far; after a further piece and the end of the stream, the findings that these give follow
 abbrev pub AllAreFound : Type 0
 AllAreFound = (bytes piece : List ℕ) (s : StreamState) (found : List FindingView) → FoundSoFar bytes s found →
     ((pushed start bytes).found ≡ found)
     × ((pushed start (bytes ++ piece)).found ≡ found ++ (pushed s piece).found)
     × ((finished (pushed start (bytes ++ piece))).found ≡ found ++ (finished (pushed s piece)).found)
 
--- those of a PID are the findings of its packets
+-- the findings of a PID are the findings of its packets alone
 abbrev pub PidFoundSoFar : Type 0
 PidFoundSoFar = (pid : ℕ) (bytes : List ℕ) (s : StreamState) (found : List FindingView) → FoundSoFar bytes s found → (pid == 8191) ≡ false →
     length bytes / 188 < 2 ^ 64 - 1 →

@@ -1,14 +1,6 @@
-pub mod Views
-pub mod Marks
-pub mod Roles
-pub mod OpenUnits
-pub mod Findings
-pub mod Shown
-pub mod Machine
-pub mod GoingOn
 pub mod Codes
 pub mod Stream
 pub mod Laws
 pub mod FoundSoFar
-pub mod Bodies
+pub mod StreamBodies
 pub mod KeptBodies

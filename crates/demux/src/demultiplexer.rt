@@ -1,24 +1,24 @@
 //! The demultiplexer: a stream in pieces, or packet by packet.
-ghost use Rattle.std.specs.Prelude.{◌≡◌, ◌<◌, ◌≤◌, ◌+◌, ◌++◌, [], false, true, Ok, IfOk, IfErr, OnOk, OnErr, map, take};
+ghost use Rattle.std.specs.Prelude.{◌≡◌, ◌<◌, ◌≤◌, ◌++◌, [], false, true, Ok, IfOk, IfErr, OnOk, OnErr, map, take};
 ghost use Rattle.std.specs.Prelude.{ℕ, Some, length, slice_get};
 ghost use Rattle.bit_fields.specs.Reading.{Gives};
 ghost use Rattle.ts_packet.specs.Packets.{null_packet};
 ghost use Rattle.ts_packet.specs.Reading.{packet_at};
 ghost use Rattle.ts_packet.specs.Views.{packet_view};
-ghost use Rattle.demux.specs.GoingOn.{plain_view};
-ghost use Rattle.demux.specs.Bodies.{bodies_left_out};
+ghost use Rattle.pid_findings.specs.GoingOn.{plain_view};
+ghost use Rattle.demux.specs.StreamBodies.{bodies_left_out};
 ghost use Rattle.demux.specs.KeptBodies.{bodies_left_out_but};
-ghost use Rattle.demux.specs.Findings.{ended};
-ghost use Rattle.demux.specs.Machine.{PidState};
+ghost use Rattle.pid_findings.specs.Findings.{ended};
+ghost use Rattle.pid_findings.specs.Machine.{PidState};
 ghost use Rattle.demux.specs.Stream as stream;
 ghost use Rattle.std.specs.List.{list_any};
-ghost use Rattle.demux.specs.Shown.{KeepsFindings, Spans, AddsFindings, finding_view, is_span, with_pid};
+ghost use Rattle.pid_findings.specs.Shown.{KeepsFindings, Spans, AddsFindings, finding_view, is_span, with_pid};
 
 use crate::error::DemuxError;
-use crate::finding::Finding;
-use crate::packets::{note_held, pass, take_borrowed, take_copied};
+use crate::packets::{join, note_held, pass, take_borrowed, take_copied};
 use crate::states::States;
 use arrayvec::ArrayVec;
+use pid_findings::Finding;
 use std::alloc::{AllocError, Allocator, Global};
 use std::marker::Model;
 use ts_packet::{Packet, PacketError, read_packet};
@@ -26,8 +26,8 @@ use ts_packet::{Packet, PacketError, read_packet};
 /// The state of a transport stream: a state for each PID, and the at most 187 bytes of a packet that is not whole
 /// yet.
 ///
-/// The state of a PID has its last packet and its open unit: at most 8,388,608 bytes of a section or a PES packet; of
-/// an open PES packet whose body was left out (`leave_out_bodies`) the header, and of a section at most 4,098 bytes.
+/// The state of a PID has its last packet and its open unit: at most 8,388,608 bytes of a section or a PES packet; only
+/// the header of a PES packet whose body was left out (`leave_out_bodies`), and at most 4,098 bytes of a section.
 /// Packets are numbered from 0; the number stops at 2^64 - 1.
 #[derive(Drop)]
 pub struct Demux<A: Allocator = Global> {
@@ -42,7 +42,7 @@ impl<A: Allocator> Model for Demux<A> {
     ghost use Rattle.std.specs.Prelude.{◌≡◌, false, map};
     ghost use Rattle.std.specs.List.{list_any};
     ghost use Rattle.demux.specs.Stream.{StreamState};
-    ghost use Rattle.demux.specs.Shown.{finding_view, is_span};
+    ghost use Rattle.pid_findings.specs.Shown.{finding_view, is_span};
 
     ghost Value = { StreamState };
 
@@ -55,24 +55,6 @@ impl<A: Allocator> Model for Demux<A> {
     } };
 
     ghost invariant = { λ d. list_any is_span d.found.items ≡ false };
-}
-
-// Two parts of a packet, joined.
-fn join(held: &[u8], front: &[u8]) -> [u8; 188]
-    requires { length held.now + length front.now ≡ 188 }
-    ensures { result ≡ held.now ++ front.now }
-{
-    let mut whole = ArrayVec::<u8, 188>::new();
-    let (Ok(()), Ok(())) = (
-        whole.try_extend_from_slice(held),
-        whole.try_extend_from_slice(front),
-    ) else {
-        unreachable!()
-    };
-    match whole.into_inner() {
-        Ok(bytes) => bytes,
-        Err(_) => unreachable!(),
-    }
 }
 
 impl<A: Allocator + Copy> Demux<A> {
@@ -111,8 +93,8 @@ impl<A: Allocator + Copy> Demux<A> {
         self.found.clear();
     }
 
-    // Takes a packet in which nothing is found, if its first bytes show that it is one and there is memory for it.
-    // Whether it is taken; else nothing changes.
+    // Takes a packet without a finding, if its first bytes show this and there is memory for it. Returns whether it
+    // took the packet; if not, nothing changes.
     #[tactic(auto, unfolding(crate::specs::Stream::taken, crate::specs::Stream::found_in, crate::specs::Stream::within_in))]
     fn take_plain(&mut self, bytes: &[u8; 188]) -> bool
         ensures taken { result ≡ true → self.new ≡ stream.taken self.old bytes.now }
@@ -286,7 +268,7 @@ impl<A: Allocator + Copy> Demux<A> {
         }
     }
 
-    // One more packet.
+    // Counts a packet.
     fn count(&mut self)
         ensures { self.new ≡ record self.old { packets = stream.next_packet self.old.packets } }
     {
@@ -313,8 +295,8 @@ impl<A: Allocator + Copy> Demux<A> {
         self.states.leave_out_bodies();
     }
 
-    /// Leaves out the bodies of the open PES packets as `leave_out_bodies` does, but those of these PIDs. What is found
-    /// of these is then the same as before (`others_decide_nothing`).
+    /// Leaves out the bodies of the open PES packets as `leave_out_bodies` does, except on these PIDs. The findings of
+    /// these PIDs stay the same (`others_decide_nothing`).
     pub fn leave_out_other_bodies(&mut self, kept: &[u16])
         ensures { self.new ≡ bodies_left_out_but kept.now self.old }
     {
@@ -355,7 +337,7 @@ impl<A: Allocator + Copy> Demux<A> {
         self.states.end_at(index, self.packets, found)
     }
 
-    // What the end of the stream decides.
+    // Returns the findings of the end of the stream.
     #[tactic(auto, unfolding(crate::specs::Stream::held_found))]
     fn ends(&self) -> Result<Vec<Finding<'static, A>, A>, AllocError>
         ensures found { IfOk result (λ found. map finding_view found.items

@@ -4,15 +4,16 @@ ghost use Rattle.bit_fields.specs.Reading.{Gives};
 ghost use Rattle.ts_packet.specs.Packets.{null_packet};
 ghost use Rattle.ts_packet.specs.Reading.{packet_at};
 ghost use Rattle.ts_packet.specs.Views.{packet_view};
-ghost use Rattle.demux.specs.Bodies.{AddsHeaders, all_without_body, headers_pushed, headers_taken};
-ghost use Rattle.demux.specs.Findings.{ended};
-ghost use Rattle.demux.specs.GoingOn.{plain_view};
-ghost use Rattle.demux.specs.Machine.{PidState};
-ghost use Rattle.demux.specs.Shown.{finding_view, with_pid};
+ghost use Rattle.pid_findings.specs.Bodies.{all_without_body};
+ghost use Rattle.demux.specs.StreamBodies.{AddsHeaders, headers_pushed, headers_taken};
+ghost use Rattle.pid_findings.specs.Findings.{ended};
+ghost use Rattle.pid_findings.specs.GoingOn.{plain_view};
+ghost use Rattle.pid_findings.specs.Machine.{PidState};
+ghost use Rattle.pid_findings.specs.Shown.{finding_view, with_pid};
 ghost use Rattle.demux.specs.Stream as stream;
 
 use crate::demultiplexer::Demux;
-use crate::finding::Finding;
+use pid_findings::Finding;
 use std::alloc::{AllocError, Allocator, Global};
 use std::marker::Model;
 use ts_packet::{Packet, PacketError};
@@ -20,11 +21,11 @@ use ts_packet::{Packet, PacketError};
 // After this number of packets the bodies of the open PES packets are left out.
 const PACKETS: u32 = 1_024;
 
-/// A stream as `Demux` takes it, of which the bodies of open PES packets are left out again and again: memory goes with
+/// A stream as `Demux` takes it, but the bodies of open PES packets are left out again and again: memory goes with
 /// the number of PIDs, and not with the PES packets that are open.
 ///
-/// A contract sees the stream without bodies: the findings are those of `Demux` besides the bytes of bodies and of what
-/// was cut short. Their number is kept.
+/// A contract sees the stream without bodies: the findings are the findings of `Demux` without the bytes of bodies and
+/// of truncated units. The number of these bytes is kept.
 #[derive(Drop)]
 pub struct HeaderDemux<A: Allocator = Global> {
     demux: Demux<A>,
@@ -33,7 +34,7 @@ pub struct HeaderDemux<A: Allocator = Global> {
 }
 
 impl<A: Allocator> Model for HeaderDemux<A> {
-    ghost use Rattle.demux.specs.Bodies.{without_bodies};
+    ghost use Rattle.demux.specs.StreamBodies.{without_bodies};
     ghost use Rattle.demux.specs.Stream.{StreamState};
 
     ghost Value = { StreamState };

@@ -1,9 +1,10 @@
 //! Laws of the definitions. Each function does nothing: its contract is the law.
 
-ghost use Rattle.demux.specs.Bodies.{BodiesDecideNothing, FewAreKept, HeadersAlone, HeadersAreFound, NoHeadersAtFirst};
+ghost use Rattle.pid_findings.specs.Bodies.{BodiesDecideNothing, FewAreKept};
+ghost use Rattle.demux.specs.StreamBodies.{HeadersAlone, HeadersAreFound, NoHeadersAtFirst};
 ghost use Rattle.demux.specs.KeptBodies.{OthersDecideNothing};
 ghost use Rattle.demux.specs.Laws.{EachPidAlone, PacketsDecide, PiecesJoin, TakenAsPushed};
-ghost use Rattle.demux.specs.Machine.{RunFindsAll};
+ghost use Rattle.pid_findings.specs.Machine.{RunFindsAll};
 ghost use Rattle.demux.specs.FoundSoFar.{AllAreFound, NothingAtFirst, PacketAdds, PacketsAdd, PidFoundSoFar, PieceAdds};
 
 /// States that the findings packet by packet, with a state of the last packet and the open unit, are the findings of

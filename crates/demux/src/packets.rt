@@ -1,23 +1,22 @@
 //! A whole packet of a stream.
-ghost use Rattle.std.specs.Prelude.{◌≡◌, ◌&&◌, [], ◌∷◌, true, false, Ok, OnOk, OnErr, option_map, map};
+ghost use Rattle.std.specs.Prelude.{◌≡◌, ◌+◌, ◌++◌, ◌&&◌, [], ◌∷◌, true, false, Ok, OnOk, OnErr, length, option_map};
+ghost use Rattle.std.specs.Prelude.{map};
 ghost use Rattle.bit_fields.specs.Reading.{Gives};
 ghost use Rattle.ts_packet.specs.Reading.{packet_at};
 ghost use Rattle.ts_packet.specs.Views.{packet_view, bytes_view};
-ghost use Rattle.demux.specs.GoingOn.{plain_view};
+ghost use Rattle.pid_findings.specs.GoingOn.{plain_view};
 ghost use Rattle.demux.specs.Stream.{findings_by, held_found, states_by, without_pid, within_by};
-ghost use Rattle.demux.specs.Shown.{IsPayloadOf, KeepsJoined, KeepsFindings, Spans, AddsFindings, finding_view};
-ghost use Rattle.demux.specs.Shown.{has_span};
-ghost use Rattle.demux.specs.Shown.{payload_borrowed, payload_list, what_view};
+ghost use Rattle.pid_findings.specs.Shown.{IsPayloadOf, KeepsJoined, KeepsFindings, Spans, AddsFindings, finding_view};
+ghost use Rattle.pid_findings.specs.Shown.{has_span};
+ghost use Rattle.pid_findings.specs.Shown.{payload_borrowed, payload_list, what_view};
 
-use crate::finding::{Finding, Part, What};
-use crate::going_on::{is_plain, pid_in};
-use crate::payload_bytes::PayloadBytes;
-use crate::place::Place;
 use crate::states::States;
+use arrayvec::ArrayVec;
+use pid_findings::{Finding, Part, PayloadBytes, Place, What, is_plain, pid_in};
 use std::alloc::{AllocError, Allocator};
 use ts_packet::{NULL_PID, Packet, PacketError, read_packet};
 
-// Notes what is found of no PID.
+// Notes a finding of no PID.
 pub(crate) fn note_without_pid<'a, A: Allocator>(
     packet: u64,
     what: What<'a, A>,
@@ -38,7 +37,7 @@ pub(crate) fn note_without_pid<'a, A: Allocator>(
 }
 
 /// Notes the bytes of a packet that is not whole.
-#[tactic(auto, using(crate::proofs::FoundViews::joined_one))]
+#[tactic(auto, using(pid_findings::proofs::FoundViews::joined_one))]
 pub(crate) fn note_held<'a, A: Allocator + Copy>(
     alloc: &A,
     packet: u64,
@@ -56,8 +55,8 @@ pub(crate) fn note_held<'a, A: Allocator + Copy>(
     Ok(())
 }
 
-/// Takes a packet in which nothing is found, if its first bytes show that it is one: a null packet, or one that goes on
-/// with an open unit, for which there is memory. Whether it is taken; else nothing changes.
+/// Takes a packet without a finding, if its first bytes show this: a null packet, or a packet that continues an open
+/// unit, for which there is memory. Returns whether it took the packet; if not, nothing changes.
 #[tactic(auto, unfolding(crate::specs::Stream::states_by, crate::specs::Stream::findings_by, crate::specs::Stream::within_by))]
 pub(crate) fn pass<A: Allocator + Copy>(
     states: &mut States<A>,
@@ -80,7 +79,7 @@ pub(crate) fn pass<A: Allocator + Copy>(
     states.go_on(index, pid, bytes)
 }
 
-// A packet that was read.
+// Takes a packet that was read.
 #[tactic(auto, unfolding(crate::specs::Stream::states_by, crate::specs::Stream::findings_by, crate::specs::Stream::within_by))]
 fn take_read<'p, 'a: 'p, A: Allocator + Copy>(
     states: &mut States<A>,
@@ -118,7 +117,7 @@ fn take_read<'p, 'a: 'p, A: Allocator + Copy>(
     Ok(())
 }
 
-// The payload, borrowed for as long as the packet is.
+// Returns the payload, borrowed for as long as the packet is.
 fn borrowed<'a>(payload: Option<&'a [u8]>) -> Option<PayloadBytes<'a, 'a>>
     ensures bytes { option_map payload_list result ≡ bytes_view payload.entry }
     ensures borrowed { payload_borrowed true result ≡ true }
@@ -129,7 +128,7 @@ fn borrowed<'a>(payload: Option<&'a [u8]>) -> Option<PayloadBytes<'a, 'a>>
     }
 }
 
-// The payload, which is not kept.
+// Returns the payload, which is not kept.
 fn copied<'p>(payload: Option<&'p [u8]>) -> Option<PayloadBytes<'p, 'static>>
     ensures bytes { option_map payload_list result ≡ bytes_view payload.entry }
     ensures borrowed { payload_borrowed false result ≡ false }
@@ -140,7 +139,7 @@ fn copied<'p>(payload: Option<&'p [u8]>) -> Option<PayloadBytes<'p, 'static>>
     }
 }
 
-/// Takes 188 bytes, read before, that findings may point into. It stays a call of its own: few packets come to it.
+/// Takes 188 bytes, read before, that findings may point into. It stays a call of its own: few packets reach it.
 #[inline(never)]
 #[tactic(auto, unfolding(crate::specs::Stream::states_by, crate::specs::Stream::findings_by, crate::specs::Stream::within_by))]
 pub(crate) fn take_borrowed<'a, A: Allocator + Copy>(
@@ -173,9 +172,9 @@ pub(crate) fn take_borrowed<'a, A: Allocator + Copy>(
     }
 }
 
-/// Takes 188 bytes that findings may not point into. It stays a call of its own: few packets come to it.
+/// Takes 188 bytes that findings may not point into. It stays a call of its own: few packets reach it.
 #[inline(never)]
-#[tactic(auto, unfolding(crate::specs::Stream::states_by, crate::specs::Stream::findings_by, crate::specs::Stream::within_by), using(crate::proofs::FoundViews::joined_one, crate::proofs::FoundViews::same_joined, crate::proofs::FoundViews::same_says))]
+#[tactic(auto, unfolding(crate::specs::Stream::states_by, crate::specs::Stream::findings_by, crate::specs::Stream::within_by), using(pid_findings::proofs::FoundViews::joined_one, pid_findings::proofs::FoundViews::same_joined, pid_findings::proofs::FoundViews::same_says))]
 pub(crate) fn take_copied<A: Allocator + Copy>(
     states: &mut States<A>,
     index: u64,
@@ -201,5 +200,23 @@ pub(crate) fn take_copied<A: Allocator + Copy>(
             take_read(states, index, bytes, packet, false, payload, found)?;
             Ok(())
         }
+    }
+}
+
+/// Joins two parts of a packet.
+pub(crate) fn join(held: &[u8], front: &[u8]) -> [u8; 188]
+    requires { length held.now + length front.now ≡ 188 }
+    ensures { result ≡ held.now ++ front.now }
+{
+    let mut whole = ArrayVec::<u8, 188>::new();
+    let (Ok(()), Ok(())) = (
+        whole.try_extend_from_slice(held),
+        whole.try_extend_from_slice(front),
+    ) else {
+        unreachable!()
+    };
+    match whole.into_inner() {
+        Ok(bytes) => bytes,
+        Err(_) => unreachable!(),
     }
 }

@@ -1,20 +1,19 @@
 //! The states of the PIDs of a stream, in the order of each PID's first packet.
-ghost use Rattle.std.specs.Prelude.{◌≡◌, ◌<◌, ◌++◌, [], ℕ, Some, None, OnOk, OnErr, map, false, true, length, slice_get, nat_eq};
+ghost use Rattle.std.specs.Prelude.{◌≡◌, ◌<◌, ◌++◌, [], ℕ, Some, None, OnOk, OnErr, map, false, true, length};
+ghost use Rattle.std.specs.Prelude.{slice_get, nat_eq};
 ghost use Rattle.indexmap.specs.IndexMap.{index_map_len, get, values, set_value_at};
-ghost use Rattle.demux.specs.Bodies.{state_without_body, states_without_bodies};
+ghost use Rattle.pid_findings.specs.Bodies.{state_without_body};
+ghost use Rattle.demux.specs.StreamBodies.{states_without_bodies};
 ghost use Rattle.demux.specs.KeptBodies.{is_kept, state_if, states_but};
-ghost use Rattle.demux.specs.Machine as machine;
+ghost use Rattle.pid_findings.specs.Machine as machine;
 ghost use Rattle.demux.specs.Stream.{ended_found, state_of, with_state};
-ghost use Rattle.demux.specs.Shown.{Finds, KeepsFindings, entry_with, finding_view, KeepsJoined, IsPayloadOf};
-ghost use Rattle.demux.specs.Shown.{AddsFindings};
-ghost use Rattle.demux.specs.Shown.{with_pid};
-ghost use Rattle.demux.specs.Findings as findings;
-ghost use Rattle.demux.specs.GoingOn.{plain_entry};
+ghost use Rattle.pid_findings.specs.Shown.{Finds, KeepsFindings, entry_with, finding_view, KeepsJoined, IsPayloadOf};
+ghost use Rattle.pid_findings.specs.Shown.{AddsFindings};
+ghost use Rattle.pid_findings.specs.Shown.{with_pid};
+ghost use Rattle.pid_findings.specs.Findings as findings;
+ghost use Rattle.pid_findings.specs.GoingOn.{plain_entry};
 
-use crate::finding::Finding;
-use crate::payload_bytes::PayloadBytes;
-use crate::pid_state::PidState;
-use crate::place::Place;
+use pid_findings::{Finding, PayloadBytes, PidState, Place};
 use pid_map::{PidEntries, PidMap};
 use std::alloc::{AllocError, Allocator};
 use std::marker::Model;
@@ -35,7 +34,7 @@ impl<A: Allocator> Model for States<A> {
     ghost view = { λ s. s.by_pid.entries };
 }
 
-// A packet that goes on with the open unit of a PID that was seen before.
+// Takes a packet that continues the open unit of a PID that was seen before.
 fn go_on_at<A: Allocator + Copy>(
     states: &mut PidMap<PidState<A>, A>,
     at: usize,
@@ -55,7 +54,7 @@ fn go_on_at<A: Allocator + Copy>(
     state.go_on(index, bytes)
 }
 
-// A packet of a PID that was seen before.
+// Takes a packet of a PID that was seen before.
 fn step_at<'p, 'a: 'p, A: Allocator + Copy>(
     states: &mut PidMap<PidState<A>, A>,
     index: usize,
@@ -82,7 +81,8 @@ fn step_at<'p, 'a: 'p, A: Allocator + Copy>(
     state.step(&alloc, place, bytes, packet, payload, found)
 }
 
-// The first packet of a PID. It stays a call of its own: the new state would else be made ready for each packet.
+// Takes the first packet of a PID. It stays a call of its own: the new state would otherwise be made ready for each
+// packet.
 #[inline(never)]
 #[tactic(auto, using(crate::proofs::MapSteps::with_is_insert))]
 fn step_first<'p, 'a: 'p, A: Allocator + Copy>(
@@ -164,7 +164,7 @@ fn leave_out_others<A: Allocator + Copy>(states: &mut PidMap<PidState<A>, A>, ke
     }
 }
 
-// What the end of the stream decides of a PID.
+// Appends the findings of the end of the stream on a PID.
 fn end_at<'a, A: Allocator + Copy>(
     states: &PidEntries<PidState<A>, A>,
     index: usize,
@@ -192,7 +192,7 @@ fn end_at<'a, A: Allocator + Copy>(
     }
 }
 
-// What the end of the stream decides of the PIDs, in their order.
+// Appends the findings of the end of the stream, in the order of the PIDs.
 fn end_each<'a, A: Allocator + Copy>(
     states: &PidEntries<PidState<A>, A>,
     packet: u64,
@@ -292,7 +292,7 @@ impl<A: Allocator + Copy> States<A> {
         self.by_pid.entries().len()
     }
 
-    /// Appends what the end of the stream decides of the PID at an index, in the order of the PIDs.
+    /// Appends the findings of the end of the stream on the PID at an index, in the order of the PIDs.
     pub fn end_at<'a>(
         &self,
         index: usize,
@@ -307,7 +307,7 @@ impl<A: Allocator + Copy> States<A> {
         end_at(self.by_pid.entries(), index, packet, found)
     }
 
-    /// Appends what the end of the stream decides of each PID, in the order of the PIDs.
+    /// Appends the findings of the end of the stream on each PID, in the order of the PIDs.
     pub fn end<'a>(&self, packet: u64, found: &mut Vec<Finding<'a, A>, A>) -> Result<(), AllocError>
         ensures found { OnOk result (AddsFindings found.old.items found.new.items (ended_found packet self.now)) }
         ensures joined { OnOk result (KeepsJoined found.old.items found.new.items) }

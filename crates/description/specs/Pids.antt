@@ -4,19 +4,19 @@ use Rattle.description_parts.specs.Described.{Described, DescribedProgram, Descr
 use Rattle.description_parts.specs.Ranges.{IsInRange, IsProgram, IsStream}
 use Rattle.description_parts.specs.Tables.{kind_pid, table_kinds, table_count, table_pid, section_count, round_packets}
 
--- those of the tables in the order of their numbers, of the programs' clocks, of the streams
+-- the PIDs of the tables in the order of their numbers, of the programs' clocks, of the streams
 abbrev pub all_pids : Described → List ℕ
 all_pids d = map (kind_pid d) (table_kinds d) ++ (map (λ p. p.pcr_pid) d.programs ++ map (λ s. s.pid) d.streams)
 
--- none stands there twice
+-- no PID is listed twice
 abbrev pub PidsApartLaw : Type 0
 PidsApartLaw = (d : Described) (i j pid : ℕ) → IsInRange d → slice_get (all_pids d) i ≡ Some pid → slice_get (all_pids d) j ≡ Some pid → i ≡ j
 
--- each is below that of null packets (ISO/IEC 13818-1, table 2-3)
+-- each PID is below the PID of null packets (ISO/IEC 13818-1, table 2-3)
 abbrev pub PidsBelowLaw : Type 0
 PidsBelowLaw = (d : Described) (i pid : ℕ) → IsInRange d → slice_get (all_pids d) i ≡ Some pid → pid < 8191
 
--- where they stand
+-- the places of the PIDs in the list
 pub record PidPlaces (d : Described) : Type 0 where
   pub table : (t : ℕ) → t < table_count d → slice_get (all_pids d) t ≡ Some (table_pid d t)
   pub clock : (i : ℕ) (p : DescribedProgram) → slice_get d.programs i ≡ Some p → slice_get (all_pids d) (table_count d + i) ≡ Some p.pcr_pid

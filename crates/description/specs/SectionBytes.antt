@@ -30,7 +30,7 @@ use Rattle.description_parts.specs.declared.table_kind.TableKind.TheVariants as 
 abbrev pub single_header : ℕ → LongHeader
 single_header extension = record { table_id_extension = extension; version_number = 0; current_next = true; section_number = 0; last_section_number = 0 }
 
--- PAT: program 0 names the NIT's PID where there is a network, then the programs
+-- PAT: program 0 names the NIT's PID if there is a network, then the programs
 abbrev pub network_entries : Described → List PatEntry
 network_entries d = map (λ n. record { program_number = 0; pid = 0x10 }) (option_to_list d.network)
 
@@ -94,7 +94,7 @@ nit_says d n = record {
   transport_streams = network_stream d n ∷ [];
 }
 
--- SDT: each program's service, running; present and following events are carried where there are events
+-- SDT: each program's service, running; present and following events are carried if there are events
 abbrev pub service_says : DescribedProgram → ServiceView
 service_says p = record {
   service_id = p.number;

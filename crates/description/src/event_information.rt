@@ -31,7 +31,7 @@ fn has_ended(event: &Event, moment: u64) -> bool
     event.start <= moment && event.duration as u64 <= moment - event.start
 }
 
-// How many events have begun.
+// Returns how many events have begun.
 fn begun(events: &[Event], moment: u64) -> usize
     ensures { result ≡ count_by (λ e. spec.has_begun moment (event_view e)) events.now }
 {
@@ -44,7 +44,7 @@ fn begun(events: &[Event], moment: u64) -> usize
     count
 }
 
-// How many events have ended.
+// Returns how many events have ended.
 fn ended(events: &[Event], moment: u64) -> usize
     ensures { result ≡ count_by (λ e. spec.has_ended moment (event_view e)) events.now }
 {
@@ -57,7 +57,7 @@ fn ended(events: &[Event], moment: u64) -> usize
     count
 }
 
-// The version of both sections at a moment.
+// Returns the version of both sections at a moment.
 fn version(program: &ProgramDescription, moment: u64) -> u8
     ensures value { result ≡ spec.eit_version moment program.now }
     ensures five_bits { result < 32 }
@@ -95,7 +95,7 @@ fn following_event(events: &[Event], moment: u64) -> Option<&Event>
     }
 }
 
-// A name has at most 100 bytes, and a text at most 150.
+// States that a name has at most 100 bytes, and a text at most 150.
 fn keeps_lengths(event: &Event)
     ensures name { length event.now.name ≤ 100 }
     ensures text { length event.now.text ≤ 150 }
@@ -113,7 +113,7 @@ fn short_event(event: &Event) -> ArrayVec<u8, 257>
     bytes
 }
 
-// A loop of one entry, for which a section always has room.
+// Returns a loop of one entry, for which a section always has room.
 #[tactic(auto, using(crate::proofs::LoopLengths::one_event_entry))]
 fn one_entry(entry: &EventEntry<'_>) -> EventLoop
     requires { length entry.now.descriptors.now ≤ 257 }
@@ -141,7 +141,7 @@ fn one_event(event: &Event, running_status: RunningStatus) -> EventLoop
     })
 }
 
-// A loop of the event, if there is one.
+// Returns a loop of the event, if there is one.
 fn loop_of(event: Option<&Event>, running_status: RunningStatus) -> EventLoop
     ensures { event_loop_of result ≡ map (spec.event_says running_status) (option_to_list (option_map
         (λ e. event_view e.now) event.entry)) }
@@ -169,7 +169,7 @@ fn section_events(program: &ProgramDescription, number: usize, moment: u64) -> E
 }
 
 impl Description {
-    /// Section 0 or 1 of a program's event information table.
+    /// Writes section 0 or 1 of a program's event information table.
     pub(crate) fn write_eit(
         &self,
         program: &ProgramDescription,

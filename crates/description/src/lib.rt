@@ -19,7 +19,7 @@ mod program_map;
 mod section_bytes;
 mod service_description;
 
-// What holds of every description.
+// Laws for every description.
 pub mod laws;
 
 pub use description::Description;

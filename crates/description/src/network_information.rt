@@ -17,7 +17,7 @@ use description_parts::Network;
 use dvb_tables::{Nit, TransportStream, TransportStreamLoop, TransportStreams, push_network_name};
 use psi_tables::LongHeader;
 
-// The descriptor of a network's name.
+// Returns the descriptor of a network's name.
 fn name_descriptor(network: &Network) -> ArrayVec<u8, 202>
     requires { IsNetwork network.now }
     ensures { result.items ≡ network_name_descriptor network.now.name }
@@ -27,7 +27,7 @@ fn name_descriptor(network: &Network) -> ArrayVec<u8, 202>
     bytes
 }
 
-// A loop of one transport stream.
+// Returns a loop of one transport stream.
 #[tactic(auto, using(crate::proofs::LoopLengths::one_transport_stream))]
 fn one_stream(entry: &TransportStream<'_>) -> TransportStreamLoop
     requires { length entry.now.descriptors.now ≤ 700 }
@@ -53,7 +53,7 @@ impl Description {
         })
     }
 
-    /// The network information section.
+    /// Writes the network information section.
     pub(crate) fn write_nit(&self, network: &Network, out: &mut ArrayVec<u8, 4096>)
         requires ranges { IsNetwork network.now }
         requires fits { nit_length network.now ≤ longest_section }

@@ -65,7 +65,7 @@ impl Description {
         entries
     }
 
-    /// The program association section.
+    /// Writes the program association section.
     pub(crate) fn write_pat(&self, out: &mut ArrayVec<u8, 4096>)
         ensures { out.new.items ≡ section_bytes (pat_section (spec.pat_says self.now)) }
     {

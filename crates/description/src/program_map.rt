@@ -38,7 +38,7 @@ fn push_language(out: &mut ArrayVec<u8, 709>, language: Option<[u8; 3]>)
     }
 }
 
-// The descriptors of a stream in its PMT.
+// Returns the descriptors of a stream in its PMT.
 fn stream_descriptors(stream: &StreamDescription) -> ArrayVec<u8, 709>
     requires { IsStream stream.now }
     ensures value { result.items ≡ spec.stream_descriptors stream.now }
@@ -71,7 +71,7 @@ fn push_stream(entries: &mut StreamLoop, stream: &StreamDescription)
     }
 }
 
-// The streams of the program of a number.
+// Returns the streams of the program of a number.
 fn program_streams(number: u16, streams: &[StreamDescription]) -> StreamLoop
     requires ranges { All IsStream streams.now }
     requires room { sum_by (entry_length number) streams.now ≤ 1012 }
@@ -162,7 +162,7 @@ fn push_tables(entries: &mut StreamLoop, number: u16, tables: &[PrivateTable])
 }
 
 impl Description {
-    /// The program map section of a program.
+    /// Writes the program map section of a program.
     pub(crate) fn write_pmt(&self, program: &ProgramDescription, out: &mut ArrayVec<u8, 4096>)
         requires ranges { IsProgram program.now }
         requires fits { pmt_length self.now program.now ≤ longest_section }

@@ -12,7 +12,7 @@ use description_parts::table_kind::has_event;
 use description_parts::{ProgramDescription, TableKind};
 use dvb_tables::{Tdt, utc_time};
 
-// The time and date section.
+// Writes the time and date section.
 fn write_tdt(moment: u64, out: &mut ArrayVec<u8, 4096>)
     ensures { out.new.items ≡ spec.tdt_bytes moment }
 {
@@ -25,7 +25,7 @@ fn write_tdt(moment: u64, out: &mut ArrayVec<u8, 4096>)
     }
 }
 
-// The program at a place among those that have events.
+// Returns the program at a place among the programs that have events.
 fn scheduled_program(programs: &[ProgramDescription], place: usize) -> Option<&ProgramDescription>
     ensures { option_map (λ p. p.now) result ≡ slice_get (filter has_event programs.now) place }
 {
@@ -42,7 +42,7 @@ fn scheduled_program(programs: &[ProgramDescription], place: usize) -> Option<&P
 }
 
 impl Description {
-    // The map section of the program at a place.
+    // Writes the map section of the program at a place.
     fn write_pmt_at(&self, place: usize, out: &mut ArrayVec<u8, 4096>)
         ensures { out.new.items ≡ spec.kind_bytes self.now (TableKind.Pmt place) 0 0 }
     {
@@ -82,7 +82,7 @@ impl Description {
         }
     }
 
-    // A section of the private table at a place.
+    // Writes a section of the private table at a place.
     fn write_private(&self, place: usize, section: usize, out: &mut ArrayVec<u8, 4096>)
         ensures { out.new.items ≡ spec.kind_bytes self.now (TableKind.Private place) section 0 }
     {

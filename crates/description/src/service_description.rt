@@ -18,7 +18,7 @@ use description_parts::table_kind::has_event;
 use dvb_tables::{RunningStatus, Sdt, Service, ServiceLoop, Services, push_service};
 use psi_tables::LongHeader;
 
-// The descriptor of a program's service.
+// Returns the descriptor of a program's service.
 fn descriptor_of(program: &ProgramDescription) -> ArrayVec<u8, 205>
     requires { IsProgram program.now }
     ensures { result.items ≡ service_descriptor program.now.service_type program.now.provider program.now.name }
@@ -71,7 +71,7 @@ fn program_services(programs: &[ProgramDescription]) -> ServiceLoop
 }
 
 impl Description {
-    /// The service description section.
+    /// Writes the service description section.
     pub(crate) fn write_sdt(&self, out: &mut ArrayVec<u8, 4096>)
         requires { sdt_length self.now ≤ longest_section }
         ensures { out.new.items ≡ section_bytes (sdt_section (spec.sdt_says self.now)) }

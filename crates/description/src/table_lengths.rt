@@ -7,7 +7,7 @@ use crate::description::Description;
 use arrayvec::ArrayVec;
 
 impl Description {
-    /// Returns the greatest length of each section of a table over all moments, in bytes; none where there is no
+    /// Returns the greatest length of each section of a table over all moments, in bytes; none if there is no
     /// such table.
     pub fn section_lengths(&self, table: usize) -> ArrayVec<u16, 32>
         ensures { result.items ≡ section_lengths self.now table }

@@ -5,7 +5,7 @@ use Rattle.description_values.specs.Values.{integer_at, integer_or, text_or, des
 use Rattle.description_keys.specs.declared.program_keys.ProgramKey.{ProgramKey}
 use Rattle.description_keys.specs.declared.program_keys.ProgramKey.TheVariants.{Number, PmtPid, PcrPid, PcrLimit, Descriptors, ServiceType, Provider, Name}
 
--- program_number, that of a program and not 0 (ISO/IEC 13818-1, 2.4.4.5)
+-- program_number, a program's and therefore not 0 (ISO/IEC 13818-1, 2.4.4.5)
 abbrev pub program_number : Data → Option ℕ
 program_number = integer_at (codes "number") (pos 1) (pos 65535)
 

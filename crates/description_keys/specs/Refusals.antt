@@ -68,7 +68,7 @@ network_of = get (codes "network")
 abbrev pub knows_network : Data → Bool
 knows_network d = elim (network_of d) [ None ↦ true | Some network ↦ knows_keys network_key_names network ]
 
--- a key that no description has, in the document or in one of its parts that is a table
+-- a key that no description has, in the document or in a part that is a table
 abbrev pub has_unknown_key : Data → Bool
 has_unknown_key d = not (knows_keys top_key_names d
     && knows_network d

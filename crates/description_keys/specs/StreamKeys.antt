@@ -49,7 +49,7 @@ is_audio_id id = nat_le 192 id && nat_le id 223
 abbrev pub is_video_id : ℕ → Bool
 is_video_id id = nat_le 224 id
 
--- what the stream_id counts as where it is refused
+-- the stream_id, or 189 (private_stream_1) if it is refused
 abbrev pub id_or_private : Data → ℕ
 id_or_private stream = unwrap_or (stream_id stream) 189
 
@@ -72,7 +72,7 @@ stream_size stream = integer_at (codes "size") (pos 1) (pos (greatest_size strea
 abbrev pub stream_lead : Data → Option ℕ
 stream_lead = integer_at (codes "lead") (pos 1) (pos 90000)
 
--- the greatest time from the decoding of a unit to its presentation, in units of 90 kHz: a second where the key is absent. The longest
+-- the greatest time from the decoding of a unit to its presentation, in units of 90 kHz: a second if the key is absent. The longest
 -- stay of data in the decoder model is a second, of AVC and HEVC 10, of still pictures 60 (ISO/IEC 13818-1, 2.4.2.6 and 2.14.3.1)
 abbrev pub stream_pts_limit : Data → Option ℕ
 stream_pts_limit = integer_or 90000 (codes "pts_limit") (pos 1) (pos 5400000)
@@ -114,24 +114,24 @@ abbrev pub stream_group_packets : Data → Option ℕ
 stream_group_packets stream =
     integer_or (greatest_group_packets stream) (codes "group_packets") (pos (unit_packets stream)) (pos (greatest_group_packets stream)) stream
 
--- the packets are declared by time where one of these keys stands there, and else by groups
+-- the packets are declared by time if the stream has one of these keys, otherwise by groups
 abbrev pub is_paced : Data → Bool
 is_paced stream = is_some (get (codes "burst_packets") stream) || is_some (get (codes "pace") stream)
 
--- by time: the packets that units in a row may have beyond those of the pace, in bits a second of whole packets
+-- by time: the packets that units in a row may have beyond the packets of the pace, in bits a second of whole packets
 abbrev pub stream_burst_packets : Data → Option ℕ
 stream_burst_packets stream = integer_at (codes "burst_packets") (pos (unit_packets stream)) (pos 100000) stream
 
 abbrev pub stream_pace : Data → Option ℕ
 stream_pace = integer_at (codes "pace") (pos 1) (pos 100000000)
 
--- what is declared, with the least value of its range where a key is refused
+-- the declared allowance, with the least value of its range for each key that is refused
 abbrev pub stream_allowance : Data → Allowance
 stream_allowance stream = if is_paced stream
     then allowance.Pace (unwrap_or (stream_burst_packets stream) (unit_packets stream)) (unwrap_or (stream_pace stream) 1)
     else allowance.Groups (unwrap_or (stream_group stream) 1) (unwrap_or (stream_group_packets stream) (unit_packets stream))
 
--- where the packets are declared by time, no key of groups may stand there, and both keys of time have to
+-- if the packets are declared by time, keys of groups are refused, and both keys of time are required
 abbrev pub refuses_group : Data → Bool
 refuses_group stream = if is_paced stream then is_some (get (codes "group") stream) else is_none (stream_group stream)
 
@@ -144,7 +144,7 @@ refuses_burst_packets stream = is_paced stream && is_none (stream_burst_packets 
 abbrev pub refuses_pace : Data → Bool
 refuses_pace stream = is_paced stream && is_none (stream_pace stream)
 
--- the programs beside its own whose PMTs name it: up to 15 numbers of declared programs, each once
+-- the programs, other than its own, whose PMTs name it: up to 15 numbers of declared programs, each once
 abbrev pub number_in : Data → Option ℕ
 number_in = integer_in (pos 1) (pos 65535)
 
@@ -167,7 +167,7 @@ abbrev pub stream_sharers : Data → List ℕ
 stream_sharers stream = sharers_of (elements (codes "shared_with") stream)
 
 -- the multiplexing buffer MB (ISO/IEC 13818-1, 2.4.2.3): `rbx` is the rate of its leak into the elementary stream buffer
--- EB in bits a second, `mb` its size in bytes. A stream has both keys, or neither; where it has them `main` is the size of EB.
+-- EB in bits a second, `mb` its size in bytes. A stream has both keys, or neither; if it has them, `main` is the size of EB.
 -- The leak is not faster than the transport buffer is emptied
 abbrev pub has_multiplexing : Data → Bool
 has_multiplexing stream = is_some (get (codes "rbx") stream) || is_some (get (codes "mb") stream)
@@ -181,7 +181,7 @@ stream_rbx stream = integer_at (codes "rbx") (pos 64000) (pos (greatest_rbx stre
 abbrev pub stream_mb : Data → Option ℕ
 stream_mb = integer_at (codes "mb") (pos 1) (pos 10000000)
 
--- what is declared, with the least value of its range where a key is refused
+-- the declared buffer, with the least value of its range for each key that is refused
 abbrev pub multiplexing_of : Data → MultiplexingBuffer
 multiplexing_of stream = record { rbx = unwrap_or (stream_rbx stream) 64000; size = unwrap_or (stream_mb stream) 1 }
 
@@ -194,10 +194,11 @@ refuses_rbx stream = has_multiplexing stream && is_none (stream_rbx stream)
 abbrev pub refuses_mb : Data → Bool
 refuses_mb stream = has_multiplexing stream && is_none (stream_mb stream)
 
--- the access units of a unit, where this is a PES packet of several: each is removed from the main buffer at its own decoding
--- time (ISO/IEC 13818-1, 2.4.2.3; 2.7.5 for those that no stamp names). `frames` is the most of them in a unit, `frame` the
--- longest time from one to the next, and `frame_size` the greatest but the first of a unit, which has the header too. A stream
--- has all three keys, or none: of what is left when some are gone, number and unit size alone bound no less than the whole unit
+-- the access units of a unit that is a PES packet of several: each is removed from the main buffer at its own decoding time
+-- (ISO/IEC 13818-1, 2.4.2.3; 2.7.5 for access units without a stamp). `frames` is the most access units in a unit, `frame` the
+-- longest time from one to the next, and `frame_size` the greatest size except the first in a unit, which has the header too. A
+-- stream has all three keys, or none: without `frame_size`, the only bound on the bytes that remain when some access units are gone
+-- is the whole unit
 abbrev pub has_framing : Data → Bool
 has_framing stream = is_some (get (codes "frames") stream) || is_some (get (codes "frame") stream) || is_some (get (codes "frame_size") stream)
 
@@ -217,7 +218,7 @@ stream_frame stream = integer_at (codes "frame") (pos 1) (pos (greatest_frame st
 abbrev pub stream_frame_size : Data → Option ℕ
 stream_frame_size stream = integer_at (codes "frame_size") (pos 1) (pos (unwrap_or (stream_size stream) 1)) stream
 
--- what is declared; where a key is refused, one access unit of one byte, and no time
+-- the declared framing; a key that is refused has the least value: one access unit, of one byte, and no time
 abbrev pub framing_of : Data → Framing
 framing_of stream = record {
   frames = unwrap_or (stream_frames stream) 1;

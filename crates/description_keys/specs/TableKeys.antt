@@ -16,8 +16,8 @@ private_limit = integer_at (codes "limit") (pos 1) (pos 30000)
 abbrev pub has_sections : Data → Bool
 has_sections = sections_at (codes "sections")
 
--- the entry of the table in the PMT of a program (ISO/IEC 13818-1, 2.4.4.8): it has one where one of these keys stands
--- there, the program's number, stream_type (table 2-34) and descriptors, and then all three have to
+-- the entry of the table in the PMT of a program (ISO/IEC 13818-1, 2.4.4.8): the table has an entry if one of these keys is there,
+-- the program's number, stream_type (table 2-34) and descriptors, and then all three are required
 abbrev pub is_listed : Data → Bool
 is_listed part = is_some (get (codes "program") part) || is_some (get (codes "stream_type") part) || is_some (get (codes "descriptors") part)
 

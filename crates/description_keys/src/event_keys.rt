@@ -74,7 +74,7 @@ pub fn text(event: &Value) -> Option<Text<150>>
 impl EventKey {
     ghost use Rattle.description_keys.specs.Codes.{event_code};
 
-    /// All of them, in the order of their numbers.
+    /// All keys, in the order of their numbers.
     pub const ALL: [EventKey; 7] = [
         EventKey::Program,
         EventKey::Id,

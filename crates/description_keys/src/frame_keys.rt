@@ -11,7 +11,7 @@ use description_values::values::integer_at;
 use toml::Value;
 use unit_timing::framing::Framing;
 
-// Whether a unit has several access units: one of the three keys stands there.
+// Returns whether a unit has several access units: the stream has one or more of the three keys.
 fn has_framing(stream: &Value) -> bool
     ensures { result ≡ has_framing (view stream.now) }
 {
@@ -26,7 +26,7 @@ fn frames(stream: &Value) -> Option<u8>
     Some(integer_at(stream, "frames", 1, 64)? as u8)
 }
 
-// The longest time from one access unit to the next, so that the last of a unit is due before the next unit.
+// Returns the longest time from one access unit to the next, so that the last of a unit is due before the next unit.
 #[tactic(auto, using(crate::proofs::Quotients::quotient_most))]
 fn greatest_frame(stream: &Value) -> u32
     ensures value { result ≡ greatest_frame (view stream.now) }
@@ -42,7 +42,7 @@ fn frame(stream: &Value) -> Option<u32>
     Some(integer_at(stream, "frame", 1, greatest_frame(stream) as i64)? as u32)
 }
 
-// The greatest access unit is a whole unit.
+// Returns the greatest size of an access unit: a whole unit.
 fn greatest_frame_size(stream: &Value) -> u32
     ensures value { result ≡ unwrap_or (stream_size (view stream.now)) 1 }
     ensures bound { result ≤ 4000000 }
@@ -56,7 +56,7 @@ fn frame_size(stream: &Value) -> Option<u32>
     Some(integer_at(stream, "frame_size", 1, greatest_frame_size(stream) as i64)? as u32)
 }
 
-// The access units, where a key is refused one of one byte, and no time.
+// Returns the access units; a key that is refused has the least value: one access unit, of one byte, and no time.
 fn framing_of(stream: &Value) -> Framing
     ensures { result ≡ framing_of (view stream.now) }
 {
@@ -78,21 +78,21 @@ pub fn framing(stream: &Value) -> Option<Framing>
     }
 }
 
-/// Returns whether `frames` is refused: absent beside another of the three keys, or out of its range.
+/// Returns whether `frames` is refused: absent although another of the three keys is there, or out of its range.
 pub fn refuses_frames(stream: &Value) -> bool
     ensures { result ≡ refuses_frames (view stream.now) }
 {
     has_framing(stream) && frames(stream).is_none()
 }
 
-/// Returns whether `frame` is refused: absent beside another of the three keys, or out of its range.
+/// Returns whether `frame` is refused: absent although another of the three keys is there, or out of its range.
 pub fn refuses_frame(stream: &Value) -> bool
     ensures { result ≡ refuses_frame (view stream.now) }
 {
     has_framing(stream) && frame(stream).is_none()
 }
 
-/// Returns whether `frame_size` is refused: absent beside another of the three keys, or out of its range.
+/// Returns whether `frame_size` is refused: absent although another of the three keys is there, or out of its range.
 pub fn refuses_frame_size(stream: &Value) -> bool
     ensures { result ≡ refuses_frame_size (view stream.now) }
 {

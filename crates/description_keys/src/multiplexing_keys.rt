@@ -11,14 +11,14 @@ use description_values::values::integer_at;
 use toml::Value;
 use unit_timing::multiplexing_buffer::MultiplexingBuffer;
 
-// Whether there is a multiplexing buffer: one of the keys `rbx` and `mb` stands there.
+// Returns whether there is a multiplexing buffer: the stream has the key `rbx` or `mb`.
 fn has_multiplexing(stream: &Value) -> bool
     ensures { result ≡ has_multiplexing (view stream.now) }
 {
     stream.get("rbx").is_some() || stream.get("mb").is_some()
 }
 
-// The fastest leak: the rate at which the transport buffer is emptied.
+// Returns the rate of the fastest leak: the rate at which the transport buffer is emptied.
 fn greatest_rbx(stream: &Value) -> u32
     ensures value { result ≡ greatest_rbx (view stream.now) }
     ensures bound { result ≤ 200000000 }
@@ -38,7 +38,7 @@ fn mb(stream: &Value) -> Option<u32>
     Some(integer_at(stream, "mb", 1, 10_000_000)? as u32)
 }
 
-// The multiplexing buffer, with the least value of its range where a key is refused.
+// Returns the multiplexing buffer, with the least value of its range for each key that is refused.
 fn multiplexing_of(stream: &Value) -> MultiplexingBuffer
     ensures { result ≡ multiplexing_of (view stream.now) }
 {
@@ -59,14 +59,14 @@ pub fn multiplexing(stream: &Value) -> Option<MultiplexingBuffer>
     }
 }
 
-/// Returns whether `rbx` is refused: absent beside `mb`, or out of its range.
+/// Returns whether `rbx` is refused: absent although `mb` is there, or out of its range.
 pub fn refuses_rbx(stream: &Value) -> bool
     ensures { result ≡ refuses_rbx (view stream.now) }
 {
     has_multiplexing(stream) && rbx(stream).is_none()
 }
 
-/// Returns whether `mb` is refused: absent beside `rbx`, or out of its range.
+/// Returns whether `mb` is refused: absent although `rbx` is there, or out of its range.
 pub fn refuses_mb(stream: &Value) -> bool
     ensures { result ≡ refuses_mb (view stream.now) }
 {

@@ -47,7 +47,7 @@ pub fn descriptors(network: &Value) -> Option<DescriptorLoop>
 impl NetworkKey {
     ghost use Rattle.description_keys.specs.Codes.{network_code};
 
-    /// All of them, in the order of their numbers.
+    /// All keys, in the order of their numbers.
     pub const ALL: [NetworkKey; 3] = [NetworkKey::Id, NetworkKey::Name, NetworkKey::Descriptors];
 
     /// Returns the number of its refusal.

@@ -92,7 +92,7 @@ pub fn name(program: &Value) -> Option<Text<100>>
 impl ProgramKey {
     ghost use Rattle.description_keys.specs.Codes.{program_code};
 
-    /// All of them, in the order of their numbers.
+    /// All keys, in the order of their numbers.
     pub const ALL: [ProgramKey; 8] = [
         ProgramKey::Number,
         ProgramKey::PmtPid,

@@ -51,7 +51,7 @@ fn knows_network(document: &Value) -> bool
     }
 }
 
-// Whether a table has a key that no description has.
+// Returns whether a table has a key that no description has.
 fn has_unknown_key(document: &Value) -> bool
     ensures { result ≡ has_unknown_key (view document.now) }
 {

@@ -64,7 +64,7 @@ fn are_sharers_in(document: &Value, stream: &Value, values: &[Value]) -> bool
     all_name_another(document, stream, values) && is_distinct(numbers_in(values).as_slice())
 }
 
-// Whether a value is an array of up to 15 numbers of declared programs, each once and not the stream's own.
+// Returns whether a value is an array of up to 15 numbers of declared programs, each once and not the stream's own.
 fn are_sharers(document: &Value, stream: &Value, value: &Value) -> bool
     ensures { result ≡ are_sharers (view document.now) (view stream.now) (view value.now) }
 {
@@ -95,7 +95,7 @@ fn sharers_of(values: &[Value]) -> ProgramNumbers
     ProgramNumbers { numbers }
 }
 
-/// Returns the numbers at the key; none where it is absent, or has more than it may have.
+/// Returns the numbers at the key; none if it is absent, or has more than it may have.
 pub fn sharers(stream: &Value) -> ProgramNumbers
     ensures { result ≡ stream_sharers (view stream.now) }
 {

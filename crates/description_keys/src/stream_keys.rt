@@ -69,7 +69,7 @@ pub fn stream_id(stream: &Value) -> Option<u8>
     if is_stream_id(id) { Some(id) } else { None }
 }
 
-// private_stream_1, audio or video, of the numbers from 189 to 239.
+// Returns whether a stream_id, 189 to 239, is private_stream_1, audio or video.
 fn is_stream_id(id: u8) -> bool
     ensures { result ≡ is_stream_id id }
 {
@@ -88,7 +88,7 @@ fn is_video_id(id: u8) -> bool
     224 <= id
 }
 
-/// Returns stream_id, and 189 where it is refused.
+/// Returns stream_id, or 189 if it is refused.
 pub fn id_or_private(stream: &Value) -> u8
     ensures { result ≡ id_or_private (view stream.now) }
 {
@@ -121,7 +121,7 @@ fn greatest_size(stream: &Value) -> u32
     }
 }
 
-/// Returns the greatest unit, in bytes: 1 to 4,000,000 if stream_id is that of video, otherwise 1 to 65,522;
+/// Returns the greatest unit, in bytes: 1 to 4,000,000 if stream_id is a video stream's, otherwise 1 to 65,522;
 /// `None` if the key is refused.
 pub fn size(stream: &Value) -> Option<u32>
     ensures value { result ≡ stream_size (view stream.now) }
@@ -145,7 +145,7 @@ pub fn pts_limit(stream: &Value) -> Option<u32>
     Some(integer_or(90_000, stream, "pts_limit", 1, 5_400_000)? as u32)
 }
 
-// Whether both numbers of the buffers may be absent, going by `main`.
+// Returns whether both numbers of the buffers may be absent, going by `main`.
 fn leaves_out_buffers(stream: &Value) -> bool
     ensures { result ≡ leaves_out_buffers (view stream.now) }
 {
@@ -209,7 +209,7 @@ fn group(stream: &Value) -> Option<u8>
     Some(integer_or(1, stream, "group", 1, 64)? as u8)
 }
 
-// The packets of a unit of the greatest size.
+// Returns the number of packets of a unit of the greatest size.
 fn unit_packets(stream: &Value) -> u32
     ensures value { result ≡ unit_packets (view stream.now) }
     ensures bound { result ≤ 21740 }
@@ -217,7 +217,7 @@ fn unit_packets(stream: &Value) -> u32
     (19 + size(stream).unwrap_or(1)).div_ceil(184)
 }
 
-// The packets of a group of units of the greatest size.
+// Returns the number of packets of a group of units of the greatest size.
 fn greatest_group_packets(stream: &Value) -> u32
     ensures value { result ≡ greatest_group_packets (view stream.now) }
     ensures bound { result ≤ 1391360 }
@@ -238,7 +238,7 @@ fn group_packets(stream: &Value) -> Option<u32>
     )? as u32)
 }
 
-// Whether the packets are declared by time: one of the keys `burst_packets` and `pace` stands there.
+// Returns whether the packets are declared by time: the stream has the key `burst_packets` or `pace`.
 fn is_paced(stream: &Value) -> bool
     ensures { result ≡ is_paced (view stream.now) }
 {
@@ -258,7 +258,7 @@ fn pace(stream: &Value) -> Option<u32>
     Some(integer_at(stream, "pace", 1, 100_000_000)? as u32)
 }
 
-/// Returns the most packets of units in a row, with the least value of its range where a key is refused.
+/// Returns the most packets of units in a row, with the least value of its range if a key is refused.
 pub fn allowance(stream: &Value) -> Allowance
     ensures { result ≡ stream_allowance (view stream.now) }
 {
@@ -310,7 +310,7 @@ fn refuses_pace(stream: &Value) -> bool
 impl StreamKey {
     ghost use Rattle.description_keys.specs.Codes.{stream_code};
 
-    /// All of them, in the order of their numbers.
+    /// All keys, in the order of their numbers.
     pub const ALL: [StreamKey; 23] = [
         StreamKey::Program,
         StreamKey::Pid,

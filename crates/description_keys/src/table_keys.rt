@@ -71,7 +71,7 @@ pub fn entry_descriptors(table: &Value) -> Option<DescriptorLoop>
 impl TableKey {
     ghost use Rattle.description_keys.specs.Codes.{table_code};
 
-    /// All of them, in the order of their numbers.
+    /// All keys, in the order of their numbers.
     pub const ALL: [TableKey; 6] = [
         TableKey::Pid,
         TableKey::Limit,

@@ -75,7 +75,7 @@ impl TopKey {
     ghost use Rattle.description_keys.specs.TopKeys.{refuses_top};
     ghost use Rattle.description_keys.specs.Refusals.{top_keys};
 
-    /// All of them, in the order of their numbers.
+    /// All keys, in the order of their numbers.
     pub const ALL: [TopKey; 7] = [
         TopKey::Rate,
         TopKey::Start,

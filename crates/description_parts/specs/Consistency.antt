@@ -29,7 +29,7 @@ event_begin event = unwrap_or (event_start event) 0
 abbrev pub event_end : Data → ℕ
 event_end event = event_begin event + unwrap_or (event_duration event) 1
 
--- an event begins before an earlier one of its program ends
+-- an event begins before an earlier event of its program ends
 abbrev pub overlaps : Data → Data → Bool
 overlaps event earlier = unwrap_or (owner_number earlier) 1 == unwrap_or (owner_number event) 1 && nat_lt (event_begin event) (event_end earlier)
 

@@ -1,4 +1,4 @@
--- What a document describes: each key's value, with the least value of its range where the key is refused. (The
+-- What a document describes: each key's value, with the least value of its range if the key is refused. (The
 -- document is refused then, and no description has that value.)
 use Rattle.std.specs.Prelude.{ℕ, Bool, false, List, [], Option, None, Some, map, filter, unwrap_or, option_map, codes, if◌then◌else◌}
 use Rattle.std.specs.List.{filter_map}

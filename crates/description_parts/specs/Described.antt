@@ -1,5 +1,5 @@
--- A service description as numbers and byte lists: what every contract of this crate, and of those above it, speaks of.
--- Texts are kept as they are written in descriptors (ETSI EN 300 468, annex A), moments as seconds since 1970 (UTC).
+-- A service description as numbers and byte lists, which the contracts of this crate and of the crates above it use. Texts are kept
+-- as they are written in descriptors (ETSI EN 300 468, annex A), moments as seconds since 1970 (UTC).
 use Rattle.std.specs.Prelude.{ℕ, Bool, List, Option}
 use Rattle.dvb_tables.specs.declared.schedule.Event.{Event}
 use Rattle.description_parts.specs.declared.map_entry.MapEntry.{MapEntry}
@@ -19,7 +19,7 @@ pub record DescribedEvent : Type 0 where
   pub name : List ℕ
   pub text : List ℕ
 
--- what an event says
+-- the content of an event
 abbrev pub event_view : Event → DescribedEvent
 event_view e = record { id = e.id; start = e.start; duration = e.duration; language = e.language; name = e.name; text = e.text }
 
@@ -49,7 +49,7 @@ abbrev pub DescribedEntry : Type 0
 DescribedEntry = MapEntry
 
 -- ready-made sections on a PID of their own; limit is the greatest time between two starts of a section, in ms. A PMT
--- names the PID where there is an entry
+-- names the PID if there is an entry
 pub record DescribedTable : Type 0 where
   pub pid : ℕ
   pub limit : ℕ

@@ -1,4 +1,4 @@
--- What holds of every description that is read: the ranges of its numbers, its texts and its tables.
+-- The ranges of every description that is read: of its numbers, its texts and its tables.
 use Rattle.std.specs.Prelude.{◌≡◌, ℕ, ◌-◌, ◌*◌, ◌^◌, ◌<◌, ◌≤◌, ◌⊎◌, true, List, ◌++◌, length, map, sum_by, All, Contains, nat_eq, IsTrue}
 use Rattle.std.specs.List.{IsDistinct}
 use Rattle.std.specs.Option.{option_to_list}
@@ -60,8 +60,8 @@ pub record IsProgram (p : DescribedProgram) : Type 0 where
 abbrev pub IsStreamId : ℕ → Type 0
 IsStreamId id = (id ≡ 189) ⊎ ((192 ≤ id) × (id ≤ 239))
 
--- what a stream may declare of its packets, of which its greatest unit has n: of so many units in a row, or by time,
--- with a pace in bits a second of whole packets
+-- what a stream may declare about its packets, if its greatest unit has n of them: a limit on `units` units in a row, or a limit by
+-- time, with a pace in bits a second of whole packets
 pub record IsGroups (n units packets : ℕ) : Type 0 where
   pub some_units : 1 ≤ units
   pub most_units : units ≤ 64
@@ -85,7 +85,8 @@ pub record IsMultiplexingBuffer (rx : ℕ) (b : MultiplexingBuffer) : Type 0 whe
   pub some_size : 1 ≤ b.size
   pub most_size : b.size ≤ 10000000
 
--- the access units of units of at most so many bytes, an interval apart: the last of a unit is due by the time of the next unit
+-- the access units of units of at most `size` bytes, an interval apart: the last access unit of a unit is due by the time of the
+-- next unit
 pub record IsFraming (interval size : ℕ) (f : Framing) : Type 0 where
   pub some_frames : 1 ≤ f.frames
   pub most_frames : f.frames ≤ 64
@@ -153,7 +154,7 @@ pub record IsSharing (d : Described) (s : DescribedStream) : Type 0 where
   pub others : All (λ n. n ≡ s.program → ⊥) s.shared_with
   pub once : IsDistinct nat_eq s.shared_with
 
--- the PMTs that name a table are those of declared programs
+-- the PMTs that name a table belong to declared programs
 abbrev pub IsListed : Described → DescribedTable → Type 0
 IsListed d t = All (λ e. Contains (program_numbers d) e.program) (option_to_list t.entry)
 

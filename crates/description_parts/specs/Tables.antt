@@ -19,16 +19,16 @@ has_event p = nat_le 1 (length p.events)
 abbrev pub scheduled_programs : Described → List DescribedProgram
 scheduled_programs d = filter has_event d.programs
 
--- the element alone where the test holds, else nothing
+-- the element alone if the test holds, otherwise nothing
 abbrev pub only_if : {X : Type 0} → Bool → X → List X
 only_if b x = if b then x ∷ [] else []
 
--- those of NIT, SDT, EIT and TDT that the description has
+-- which of NIT, SDT, EIT and TDT the description has
 abbrev pub service_tables : Described → List TableKind
 service_tables d = only_if (is_some d.network) Nit ++ only_if d.has_sdt Sdt ++ only_if (list_any has_event d.programs) Eit ++ only_if d.has_tdt Tdt
 
--- the tables in the order of their numbers: PAT, the PMTs in the order of the programs, those of NIT, SDT, EIT and TDT
--- that the description has, the private tables
+-- the tables in the order of their numbers: PAT, the PMTs in the order of the programs, NIT, SDT, EIT and TDT as far as the
+-- description has them, the private tables
 abbrev pub table_kinds : Described → List TableKind
 table_kinds d = (Pat ∷ map Pmt (numbers_from 0 d.programs)) ++ (service_tables d ++ map Private (numbers_from 0 d.tables))
 
@@ -75,7 +75,7 @@ pat_length d = section_overhead + 4 * (length (option_to_list d.network) + lengt
 abbrev pub entry_length : ℕ → DescribedStream → ℕ
 entry_length number s = if s.program == number then 5 + es_info_length s else 0
 
--- a program beside its own shares the stream, and its bytes in that program's PMT
+-- a program other than its own shares the stream, and its bytes in that program's PMT
 abbrev pub is_shared_with : ℕ → DescribedStream → Bool
 is_shared_with number s = list_any (λ n. n == number) s.shared_with
 
@@ -116,11 +116,11 @@ abbrev pub longest_event : List DescribedEvent → ℕ
 longest_event [] = 0
 longest_event (e ∷ es) = max (event_length e) (longest_event es)
 
--- the longest of a program's EIT sections: that of an empty loop, or of a loop of one event
+-- the longest EIT section of a program: of an empty loop, or of a loop of one event
 abbrev pub eit_length : DescribedProgram → ℕ
 eit_length p = section_overhead + 6 + longest_event p.events
 
--- of each program's two sections, that of the present event and that of the following one
+-- the lengths of each program's two sections, for the present event and for the following event
 abbrev pub eit_lengths : List DescribedProgram → List ℕ
 eit_lengths [] = []
 eit_lengths (p ∷ ps) = eit_length p ∷ eit_length p ∷ eit_lengths ps
@@ -138,7 +138,7 @@ kind_lengths d Eit = eit_lengths (scheduled_programs d)
 kind_lengths d Tdt = tdt_length ∷ []
 kind_lengths d (Private i) = elim (slice_get d.tables i) [ None ↦ [] | Some private ↦ map length private.sections ]
 
--- of the table of that number: its PID, its limit in ms, the greatest lengths of its sections in bytes
+-- for the table of that number: its PID, its limit in ms, the greatest lengths of its sections in bytes
 abbrev pub table_pid : Described → ℕ → ℕ
 table_pid d t = elim (table_kind d t) [ None ↦ 0 | Some kind ↦ kind_pid d kind ]
 

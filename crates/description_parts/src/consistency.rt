@@ -56,7 +56,7 @@ fn push_table_pids(pids: &mut ArrayVec<u16, 80>, tables: &[PrivateTable])
     }
 }
 
-// Every PID that the description names.
+// Returns every PID that the description names.
 fn named_pids(contents: &Contents) -> ArrayVec<u16, 80>
     ensures { result.items ≡ named_pids contents.now }
 {
@@ -99,7 +99,7 @@ fn equal_numbers_fault(contents: &Contents) -> Option<DescFault>
     }
 }
 
-// When an event begins, in seconds since 1970.
+// Returns when an event begins, in seconds since 1970.
 fn event_begin(event: &Value) -> u64
     ensures value { result ≡ spec.event_begin (view event.now) }
     ensures bound { result ≤ last_moment }
@@ -107,7 +107,7 @@ fn event_begin(event: &Value) -> u64
     event_keys::start(event).unwrap_or(0)
 }
 
-// Whether an event begins before an earlier one of its program ends.
+// Returns whether an event begins before an earlier event of its program ends.
 fn overlaps(event: &Value, earlier: &Value) -> bool
     ensures { result ≡ spec.overlaps (view event.now) (view earlier.now) }
 {
@@ -122,7 +122,7 @@ fn overlaps_one(event: &Value, earlier: &[Value]) -> bool
     earlier.iter().any(|other| overlaps(event, other))
 }
 
-// The place of the first event that begins before an earlier one of its program ends.
+// Returns the place of the first event that begins before an earlier event of its program ends.
 fn first_overlap(events: &[Value]) -> Option<usize>
     ensures { result ≡ spec.first_overlap 0 [] (map view events.now) }
 {
@@ -140,7 +140,7 @@ fn event_order_fault(document: &Value) -> Option<DescFault>
     first_overlap(elements(document, "event")).map(DescFault::EventOrder)
 }
 
-// Whether a length passes that of a section with a section_length of 1,021.
+// Returns whether a length exceeds the length of a section with a section_length of 1,021.
 fn has_long(lengths: &[u16]) -> bool
     ensures { result ≡ list_any (nat_lt longest_section) lengths.now }
 {
@@ -159,7 +159,7 @@ impl Contents {
         }
     }
 
-    // The number of the first table that would be too long.
+    // Returns the number of the first table that would be too long.
     fn first_too_long(&self) -> Option<usize>
         ensures { result ≡ spec.first_place (spec.is_too_long self.now) 0 (table_kinds self.now) }
     {

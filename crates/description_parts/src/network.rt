@@ -8,6 +8,6 @@ use dvb_tables::Text;
 pub struct Network {
     pub id: u16,
     pub name: Text<200>,
-    /// Of its one transport stream.
+    /// The descriptors of its one transport stream.
     pub descriptors: DescriptorLoop,
 }

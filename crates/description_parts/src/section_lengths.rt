@@ -14,7 +14,7 @@ use arrayvec::ArrayVec;
 use description_values::PrivateSection;
 use dvb_tables::Event;
 
-// The bytes of a stream's descriptors in a PMT.
+// Returns the number of bytes of a stream's descriptors in a PMT.
 fn es_info_length(stream: &StreamDescription) -> usize
     ensures value { result ≡ spec.es_info_length stream.now }
     ensures bound { result ≤ 709 }
@@ -24,7 +24,7 @@ fn es_info_length(stream: &StreamDescription) -> usize
     tag + language + stream.descriptors.as_bytes().len()
 }
 
-// The bytes of a stream in the PMT of the program of a number.
+// Returns the number of bytes of a stream in the PMT of the program of a number.
 fn entry_length(number: u16, stream: &StreamDescription) -> usize
     ensures value { result ≡ spec.entry_length number stream.now }
     ensures bound { result ≤ 714 }
@@ -48,7 +48,7 @@ fn entries_length(number: u16, streams: &[StreamDescription]) -> usize
     total
 }
 
-// The bytes of a stream in the PMT of the program of a number that shares it.
+// Returns the number of bytes of a stream in the PMT of the program of a number that shares it.
 fn shared_length(number: u16, stream: &StreamDescription) -> usize
     ensures value { result ≡ spec.shared_length number stream.now }
     ensures bound { result ≤ 714 }
@@ -72,7 +72,7 @@ fn sharing_length(number: u16, streams: &[StreamDescription]) -> usize
     total
 }
 
-// The bytes of a table in the PMT of the program of a number.
+// Returns the number of bytes of a table in the PMT of the program of a number.
 fn listed_length(number: u16, table: &PrivateTable) -> usize
     ensures value { result ≡ spec.listed_length number table.now }
     ensures bound { result ≤ 705 }
@@ -95,7 +95,7 @@ fn tables_length(number: u16, tables: &[PrivateTable]) -> usize
     total
 }
 
-// The bytes of a service in the SDT.
+// Returns the number of bytes of a service in the SDT.
 fn service_length(program: &ProgramDescription) -> usize
     ensures value { result ≡ spec.service_length program.now }
     ensures bound { result ≤ 210 }
@@ -115,7 +115,7 @@ fn services_length(programs: &[ProgramDescription]) -> usize
     total
 }
 
-// The bytes of an event in an EIT section.
+// Returns the number of bytes of an event in an EIT section.
 fn event_length(event: &Event) -> usize
     ensures value { result ≡ spec.event_length (event_view event.now) }
     ensures bound { result ≤ 269 }
@@ -156,7 +156,7 @@ fn one(length: u16) -> ArrayVec<u16, 32>
     lengths
 }
 
-// Of each program's two sections.
+// Returns the lengths of each program's two sections.
 fn eit_lengths(programs: &[ProgramDescription]) -> ArrayVec<u16, 32>
     requires { length programs.now ≤ 16 }
     ensures { result.items ≡ spec.eit_lengths (filter spec.has_event programs.now) }

@@ -25,16 +25,16 @@ pub struct StreamDescription {
     pub rx: u32,
     /// The longest time from the decoding of a unit to its presentation, in units of 90 kHz.
     pub pts_limit: u32,
-    /// Its main buffer, in bytes; its elementary stream buffer EB where it has a multiplexing buffer (2.4.2.3).
+    /// Its main buffer, in bytes; its elementary stream buffer EB if it has a multiplexing buffer (2.4.2.3).
     pub main: u32,
     pub tag: Option<u8>,
     pub language: Option<[u8; 3]>,
     pub descriptors: DescriptorLoop,
     /// The most packets of its units in a row.
     pub allowance: Allowance,
-    /// The programs beside its own whose PMTs name it.
+    /// The programs, other than its own, whose PMTs name it.
     pub shared_with: ProgramNumbers,
-    /// Its multiplexing buffer MB before EB; one main buffer takes the place of both where there is no such buffer.
+    /// Its multiplexing buffer MB before EB; one main buffer takes the place of both if there is no such buffer.
     pub multiplexing: Option<MultiplexingBuffer>,
     /// The access units of its units, if these are PES packets that hold several; otherwise a unit is one access unit.
     pub framing: Option<Framing>,

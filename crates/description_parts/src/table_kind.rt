@@ -56,7 +56,7 @@ impl Contents {
     ghost use Rattle.description_parts.specs.Tables.{service_tables, table_count, table_kind, table_pid, kind_pid};
     ghost use Rattle.description_parts.specs.Tables.{table_limit, kind_limit};
 
-    // Those of NIT, SDT, EIT and TDT that the description has.
+    // Returns which of NIT, SDT, EIT and TDT the description has.
     fn service_tables(&self) -> ArrayVec<TableKind, 4>
         ensures { result.items ≡ service_tables self.now }
     {

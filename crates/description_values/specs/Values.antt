@@ -1,4 +1,4 @@
--- Values of keys, as the parsed TOML document gives them: None where the value is refused.
+-- Values of keys, as the parsed TOML document gives them: None if the value is refused.
 use Rattle.std.specs.Prelude.{ℕ, ℤ, ◌&&◌, ◌||◌, ◌==◌, nat_le, nat_lt, not, Bool, true, false, List, [], ◌∷◌, Option, None, Some, Ok, Err, length, is_some}
 use Rattle.std.specs.Prelude.{unsigned_abs, int_le, option_and_then, option_map, if◌then◌else◌, unwrap_or}
 use Rattle.std.specs.List.{list_all, list_any}
@@ -8,7 +8,7 @@ use Rattle.dvb_tables.specs.CharacterCoding.{text_bytes}
 use Rattle.toml.specs.Data.{Data, get, as_integer, as_bool, as_str, as_array, as_table, Items, no_items, item}
 use Rattle.dvb_tables.specs.DescriptorLoops.{are_whole_descriptors}
 
--- what a key's value reads as: `absent` where the key is not there, else what `read` makes of it
+-- what a key's value reads as: `absent` if the key is not there, otherwise the value that `read` makes of it
 abbrev pub at_key : {X : Type 0} → List ℕ → Option X → (Data → Option X) → Data → Option X
 at_key key absent read d = elim (get key d) [ None ↦ absent | Some value ↦ read value ]
 
@@ -19,7 +19,7 @@ in_range low high z = if int_le low z && int_le z high then Some (unsigned_abs z
 abbrev pub integer_in : ℤ → ℤ → Data → Option ℕ
 integer_in low high d = option_and_then (in_range low high) (as_integer d)
 
--- a number at a key: one that has to be there, one with a default, one that may be absent
+-- a number at a key: a number that is required, a number with a default, a number that may be absent
 abbrev pub integer_at : List ℕ → ℤ → ℤ → Data → Option ℕ
 integer_at key low high = at_key key None (integer_in low high)
 
@@ -88,7 +88,7 @@ is_one_section bytes = elim (section_at bytes) [ Ok section ↦ section.1 == len
 abbrev pub section_in : Data → Option (List ℕ)
 section_in d = option_and_then (λ bytes. if is_one_section bytes then Some bytes else None) (option_and_then (hex_bytes 4096) (as_str d))
 
--- the elements of an array, and of the array at a key: none where there is no array
+-- the elements of an array, and of the array at a key: none if there is no array
 abbrev pub list_of : Items → List Data
 list_of no_items = []
 list_of (item d ds) = d ∷ list_of ds
@@ -102,7 +102,7 @@ elements_in d = unwrap_or (array_in d) []
 abbrev pub elements : List ℕ → Data → List Data
 elements key d = elim (get key d) [ None ↦ [] | Some value ↦ elements_in value ]
 
--- from low to high of them
+-- from low to high elements
 abbrev pub has_length : ℕ → ℕ → List Data → Bool
 has_length low high ds = nat_le low (length ds) && nat_le (length ds) high
 
@@ -113,7 +113,7 @@ is_table d = is_some (as_table d)
 abbrev pub are_tables : ℕ → ℕ → Data → Bool
 are_tables low high d = elim (array_in d) [ None ↦ false | Some ds ↦ has_length low high ds && list_all is_table ds ]
 
--- the same at a key, with what holds where the key is absent
+-- the same at a key; `absent` is the answer if the key is absent
 abbrev pub tables_at : Bool → List ℕ → ℕ → ℕ → Data → Bool
 tables_at absent key low high d = elim (get key d) [ None ↦ absent | Some value ↦ are_tables low high value ]
 
@@ -127,7 +127,7 @@ are_sections d = elim (array_in d) [ None ↦ false | Some ds ↦ has_length 1 8
 abbrev pub sections_at : List ℕ → Data → Bool
 sections_at key d = elim (get key d) [ None ↦ false | Some value ↦ are_sections value ]
 
--- no number stands in the list twice
+-- no number is in the list twice
 abbrev pub is_distinct : List ℕ → Bool
 is_distinct [] = true
 is_distinct (n ∷ ns) = not (list_any (λ m. m == n) ns) && is_distinct ns

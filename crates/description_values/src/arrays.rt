@@ -19,7 +19,7 @@ pub fn array_in(value: &Value) -> Option<&[Value]>
     }
 }
 
-/// Returns the elements of an array, none where the value is no array.
+/// Returns the elements of an array, none if the value is no array.
 pub fn elements_in(value: &Value) -> &[Value]
     ensures { map view result.now ≡ elements_in (view value.now) }
 {
@@ -29,7 +29,7 @@ pub fn elements_in(value: &Value) -> &[Value]
     }
 }
 
-/// Returns the elements of the array at a key, none where there is no array.
+/// Returns the elements of the array at a key, none if there is no array.
 pub fn elements<'a>(table: &'a Value, key: &str) -> &'a [Value]
     ensures { map view result.now ≡ elements key.now (view table.now) }
 {
@@ -81,7 +81,7 @@ fn has_length(values: &[Value], low: usize, high: usize) -> bool
     low <= values.len() && values.len() <= high
 }
 
-// Whether a value is an array of `low` to `high` tables.
+// Returns whether a value is an array of `low` to `high` tables.
 fn are_tables(value: &Value, low: usize, high: usize) -> bool
     ensures { result ≡ are_tables low high (view value.now) }
 {
@@ -91,7 +91,7 @@ fn are_tables(value: &Value, low: usize, high: usize) -> bool
     }
 }
 
-/// Returns whether there is an array of `low` to `high` tables at a key; `absent` where the key is absent.
+/// Returns whether there is an array of `low` to `high` tables at a key; `absent` if the key is absent.
 pub fn tables_at(absent: bool, table: &Value, key: &str, low: usize, high: usize) -> bool
     ensures { result ≡ tables_at absent key.now low high (view table.now) }
 {
@@ -101,7 +101,7 @@ pub fn tables_at(absent: bool, table: &Value, key: &str, low: usize, high: usize
     }
 }
 
-// Whether a value is an array of 1 to 8 sections.
+// Returns whether a value is an array of 1 to 8 sections.
 fn are_sections(value: &Value) -> bool
     ensures { result ≡ are_sections (view value.now) }
 {

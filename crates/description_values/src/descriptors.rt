@@ -52,7 +52,7 @@ fn descriptors_of(value: &Value) -> Option<DescriptorLoop>
     }
 }
 
-/// Returns the descriptors at a key, none where it is absent.
+/// Returns the descriptors at a key, none if it is absent.
 pub fn descriptors_or_none(table: &Value, key: &str) -> Option<DescriptorLoop>
     ensures { result ≡ descriptors_or_none key.now (view table.now) }
 {

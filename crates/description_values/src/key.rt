@@ -14,7 +14,7 @@ pub trait Key: Copy {
 
     ghost refuses: { Self → Data → Data → Bool };
 
-    /// Returns whether a table has no keys but those of this kind.
+    /// Returns whether a table has only keys of this kind.
     fn knows(part: &Value) -> bool
         ensures { result ≡ knows_keys names (view part.now) };
 
@@ -30,14 +30,14 @@ pub fn refused_key<K: Key>(keys: &[K], document: &Value, part: &Value) -> Option
     keys.iter().copied().find(|key| key.refuses(document, part))
 }
 
-// The place of the first part that a key refuses.
+// Returns the place of the first part that a key refuses.
 fn position_of_refused<K: Key>(key: K, document: &Value, parts: &[Value]) -> Option<usize>
     ensures { result ≡ position (λ v. K.refuses key (view document.now) (view v)) parts.now }
 {
     parts.iter().position(|part| key.refuses(document, part))
 }
 
-// The same, in words of what the parts stand for.
+// Returns the same place, in terms of the parts' values.
 fn first_place<K: Key>(key: K, document: &Value, parts: &[Value]) -> Option<usize>
     ensures { result ≡ position (K.refuses key (view document.now)) (map view parts.now) }
 {

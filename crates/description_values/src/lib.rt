@@ -17,7 +17,7 @@ pub mod arrays;
 // Bytes in hexadecimal.
 mod hexadecimal;
 
-// Keys in their order, and those that a table may have.
+// Keys in their order, and the keys that a table may have.
 pub mod key;
 pub mod known_keys;
 

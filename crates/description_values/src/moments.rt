@@ -36,7 +36,7 @@ fn two_digits(text: &[u8], place: usize) -> u8
     10 * (text[place] - b'0') + (text[place + 1] - b'0')
 }
 
-// Whether a text of 19 bytes is YYYY-MM-DDThh:mm:ss with digits in their places.
+// Returns whether a text of 19 bytes is YYYY-MM-DDThh:mm:ss with digits in their places.
 fn has_time_shape(text: &[u8]) -> bool
     ensures { result ≡ has_time_shape text.now }
 {
@@ -48,7 +48,7 @@ fn has_time_shape(text: &[u8]) -> bool
         && (text[16] == b':' && are_two_digits(text, 17))
 }
 
-// The seconds since 1970 of a civil date and time, if there is such a one.
+// Returns the seconds since 1970 of a civil date and time, if the date and time exist.
 fn civil_seconds(year: u16, month: u8, day: u8, hour: u8, minute: u8, second: u8) -> Option<i64>
     requires year { year ≤ 9999 }
     requires month { month ≤ 99 }
@@ -72,7 +72,7 @@ fn civil_seconds(year: u16, month: u8, day: u8, hour: u8, minute: u8, second: u8
     }
 }
 
-// The seconds since 1970 that a text of the right shape names.
+// Returns the seconds since 1970 that a text of the right shape names.
 fn text_seconds(text: &[u8]) -> Option<i64>
     requires { has_time_shape text.now ≡ true }
     ensures { result ≡ text_seconds text.now }

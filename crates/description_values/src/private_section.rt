@@ -32,7 +32,7 @@ impl PrivateSection {
     }
 }
 
-// Whether the bytes are exactly one section.
+// Returns whether the bytes are exactly one section.
 fn is_one_section(bytes: &[u8]) -> bool
     ensures { result ≡ is_one_section bytes.now }
 {

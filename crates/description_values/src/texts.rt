@@ -10,7 +10,7 @@ ghost use Rattle.description_values.specs.Values.{language_at, optional_language
 use dvb_tables::Text;
 use toml::Value;
 
-// Each byte is an octet.
+// States that each byte is an octet.
 fn holds_octets(bytes: &[u8])
     ensures { list_all is_octet bytes.now ≡ true }
 {
@@ -51,7 +51,7 @@ pub fn empty_text<const N: usize>() -> Text<N>
     }
 }
 
-/// Returns the text at a key, empty where it is absent.
+/// Returns the text at a key, empty if it is absent.
 pub fn text_or_empty<const N: usize>(table: &Value, key: &str) -> Option<Text<N>>
     ensures { result ≡ text_or N key.now (view table.now) }
 {
@@ -61,7 +61,7 @@ pub fn text_or_empty<const N: usize>(table: &Value, key: &str) -> Option<Text<N>
     }
 }
 
-// Three letters.
+// Returns the language, if the text is three letters.
 fn language_of(text: &[u8]) -> Option<[u8; 3]>
     ensures { result ≡ language_of text.now }
 {

@@ -14,26 +14,26 @@ pub record DescriptorView : Type 0 where
 abbrev pub descriptor_view : Descriptor → DescriptorView
 descriptor_view d = record { tag = d.tag; size = d.size; body = d.body.now }
 
--- the descriptor at the front, and what follows it; none where it is not whole
+-- the descriptor at the front, and what follows it; none if it is not complete
 unfoldable pub first_descriptor : List ℕ → Option (DescriptorView × List ℕ)
 first_descriptor [] = None
 first_descriptor (tag ∷ []) = None
 first_descriptor (tag ∷ size ∷ rest) =
     if nat_lt (length rest) size then None else Some (record { tag = tag; size = size; body = take size rest }, drop size rest)
 
--- at most n descriptors, up to the first one that is not whole
+-- at most n descriptors, up to the first incomplete descriptor
 unfoldable pub descriptors_from : ℕ → List ℕ → List DescriptorView
 descriptors_from zero bytes = []
 descriptors_from (suc n) bytes = option_map_or (λ p. p.0 ∷ descriptors_from n p.1) (first_descriptor bytes) []
 
--- the descriptors that are whole, up to the first one that is not
+-- the complete descriptors, up to the first incomplete descriptor
 unfoldable pub descriptors_in : List ℕ → List DescriptorView
 descriptors_in bytes = descriptors_from (length bytes) bytes
 
 unfoldable pub descriptors_of : Descriptors → List DescriptorView
 descriptors_of d = descriptors_in d.bytes.now
 
--- one of them has a tag
+-- a descriptor has a tag
 unfoldable pub is_tagged : ℕ → DescriptorView → Bool
 is_tagged tag d = d.tag == tag
 
@@ -47,15 +47,15 @@ is_ca d = is_tagged 9 d
 unfoldable pub has_ca : List ℕ → Bool
 has_ca bytes = has_tag 9 bytes
 
--- 2. Descriptors of a multiplex: what they say of rates and buffers holds of the multiplex that they stand in, and of no other
+-- 2. Descriptors of a multiplex: their rates and buffers apply to the multiplex that contains them, and to no other
 
--- an STD_descriptor (2.6.32): where leak_valid_flag, the last bit of its byte, is 0, bytes go from the multiplexing buffer into the
+-- an STD_descriptor (2.6.32): if leak_valid_flag, the last bit of its byte, is 0, bytes go from the multiplexing buffer into the
 -- elementary stream buffer at the times that vbv_delay says
 unfoldable pub is_by_vbv_delay : List ℕ → Bool
 is_by_vbv_delay [] = false
 is_by_vbv_delay (b ∷ rest) = b % 2 == 0
 
--- an AVC_timing_and_HRD_descriptor (2.6.66): where hrd_management_valid_flag, its first bit, is 1, they go at the times of the HRD
+-- an AVC_timing_and_HRD_descriptor (2.6.66): if hrd_management_valid_flag, its first bit, is 1, they go at the times of the HRD
 unfoldable pub is_by_hrd : List ℕ → Bool
 is_by_hrd [] = false
 is_by_hrd (b ∷ rest) = b / 128 == 1
@@ -76,12 +76,12 @@ is_of_multiplex d =
 unfoldable pub has_of_multiplex : List ℕ → Bool
 has_of_multiplex bytes = list_any is_of_multiplex (descriptors_in bytes)
 
--- 3. What is kept of a loop
+-- 3. The bytes that are kept of a loop
 
--- a descriptor's bytes, but for those of conditional access and of a multiplex
+-- a descriptor's bytes; none for a descriptor of conditional access or of a multiplex
 unfoldable pub kept_bytes : DescriptorView → List ℕ
 kept_bytes d = if is_ca d || is_of_multiplex d then [] else d.tag ∷ d.size ∷ d.body
 
--- the whole descriptors of a loop but for these
+-- the complete descriptors of a loop without these descriptors
 unfoldable pub kept_descriptors : List ℕ → List ℕ
 kept_descriptors bytes = flat_map kept_bytes (descriptors_in bytes)

@@ -6,7 +6,7 @@ ghost use Rattle.descriptor_loops.specs.Descriptors as spec;
 /// A descriptor.
 #[derive(Clone, Copy)]
 pub struct Descriptor<'a> {
-    /// descriptor_tag: what the descriptor says.
+    /// descriptor_tag: the kind of the descriptor.
     pub tag: u8,
     /// descriptor_length: the number of the bytes after it.
     pub size: u8,
@@ -14,14 +14,14 @@ pub struct Descriptor<'a> {
     pub body: &'a [u8],
 }
 
-/// The descriptors of a loop, in order, up to the first one that is not whole: an iterator over its bytes.
+/// The descriptors of a loop, in order, up to the first incomplete descriptor: an iterator over its bytes.
 #[derive(Clone, Copy)]
 pub struct Descriptors<'a> {
     bytes: &'a [u8],
 }
 
 impl<'a> Descriptors<'a> {
-    /// Returns the descriptors that stand in these bytes.
+    /// Returns the descriptors in these bytes.
     #[tactic(auto, unfolding(crate::specs::Descriptors::descriptors_of))]
     pub fn of(bytes: &'a [u8]) -> Descriptors<'a>
         ensures { spec.descriptors_of result ≡ spec.descriptors_in bytes.now }
@@ -52,7 +52,7 @@ impl<'a> Iterator for Descriptors<'a> {
     }
 }
 
-// The descriptor at the front, and those after it.
+// Returns the descriptor at the front, and the bytes after it.
 #[tactic(auto, using(crate::proofs::DescriptorParts::next_descriptor, crate::proofs::DescriptorParts::no_descriptor))]
 fn first(bytes: &[u8]) -> Option<(Descriptor<'_>, &[u8])>
     ensures next { IfSome result (λ p. spec.descriptors_in bytes.now
@@ -62,7 +62,7 @@ fn first(bytes: &[u8]) -> Option<(Descriptor<'_>, &[u8])>
     first_descriptor(bytes)
 }
 
-/// Returns the descriptor at the front, and what follows it; `None` where it is not whole.
+/// Returns the descriptor at the front, and what follows it; `None` if it is not complete.
 #[tactic(auto, unfolding(crate::specs::Descriptors::first_descriptor))]
 pub fn first_descriptor(bytes: &[u8]) -> Option<(Descriptor<'_>, &[u8])>
     ensures { option_map (λ p. (spec.descriptor_view p.0, p.1.now)) result ≡ spec.first_descriptor bytes.now }

@@ -8,7 +8,7 @@ use crate::multiplex::is_of_multiplex;
 use crate::tags::is_ca;
 use std::alloc::{AllocError, Allocator};
 
-// A descriptor, unless it is of conditional access or of a multiplex.
+// Appends a descriptor, unless it is of conditional access or of a multiplex.
 #[tactic(auto, unfolding(crate::specs::Descriptors::kept_bytes))]
 fn append_kept<A: Allocator>(
     descriptor: Descriptor<'_>,
@@ -24,7 +24,8 @@ fn append_kept<A: Allocator>(
     out.extend_from_slice(descriptor.body)
 }
 
-/// Returns the bytes of the whole descriptors, in order, but for those of conditional access and of a multiplex.
+/// Returns the bytes of the complete descriptors, in order, without descriptors of conditional access and of a
+/// multiplex.
 #[tactic(auto, unfolding(crate::specs::Descriptors::kept_descriptors))]
 pub fn kept_descriptors<A: Allocator>(alloc: A, bytes: &[u8]) -> Result<Vec<u8, A>, AllocError>
     ensures { IfOk result (λ kept. kept.items ≡ spec.kept_descriptors bytes.now) }

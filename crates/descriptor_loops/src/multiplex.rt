@@ -1,4 +1,4 @@
-//! Descriptors that speak of the rates and buffers of the multiplex in which they stand.
+//! Descriptors of the rates and buffers of the multiplex that contains them.
 
 ghost use Rattle.std.specs.Prelude.{◌≡◌};
 ghost use Rattle.descriptor_loops.specs.Descriptors as spec;
@@ -21,7 +21,7 @@ const EXTENSION: u8 = 63;
 // descriptor_tag_extension (table 2-108).
 const HEVC_TIMING_AND_HRD: u8 = 3;
 
-// Whether leak_valid_flag is 0.
+// Returns whether leak_valid_flag is 0.
 #[tactic(auto, unfolding(crate::specs::Descriptors::is_by_vbv_delay))]
 fn is_by_vbv_delay(body: &[u8]) -> bool
     ensures { result ≡ spec.is_by_vbv_delay body.now }
@@ -32,7 +32,7 @@ fn is_by_vbv_delay(body: &[u8]) -> bool
     }
 }
 
-// Whether hrd_management_valid_flag is 1.
+// Returns whether hrd_management_valid_flag is 1.
 #[tactic(auto, unfolding(crate::specs::Descriptors::is_by_hrd))]
 fn is_by_hrd(body: &[u8]) -> bool
     ensures { result ≡ spec.is_by_hrd body.now }
@@ -43,7 +43,7 @@ fn is_by_hrd(body: &[u8]) -> bool
     }
 }
 
-// Whether descriptor_tag_extension is the number of HEVC_timing_and_HRD, and hrd_management_valid_flag 1.
+// Returns whether descriptor_tag_extension is the number of HEVC_timing_and_HRD, and hrd_management_valid_flag 1.
 #[tactic(auto, unfolding(crate::specs::Descriptors::is_by_hevc_hrd))]
 fn is_by_hevc_hrd(body: &[u8]) -> bool
     ensures { result ≡ spec.is_by_hevc_hrd body.now }
@@ -67,7 +67,7 @@ pub(crate) fn is_of_multiplex(descriptor: Descriptor<'_>) -> bool
         || (descriptor.tag == EXTENSION && is_by_hevc_hrd(descriptor.body))
 }
 
-/// Returns whether one of the whole descriptors in these bytes speaks of a multiplex.
+/// Returns whether these bytes have a complete descriptor of a multiplex.
 #[tactic(auto, unfolding(crate::specs::Descriptors::has_of_multiplex))]
 pub fn has_of_multiplex(bytes: &[u8]) -> bool
     ensures { result ≡ spec.has_of_multiplex bytes.now }

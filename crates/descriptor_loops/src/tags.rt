@@ -23,7 +23,7 @@ fn is_tagged(tag: u8, descriptor: Descriptor<'_>) -> bool
     descriptor.tag == tag
 }
 
-/// Returns whether one of the whole descriptors in these bytes has this tag.
+/// Returns whether these bytes have a complete descriptor with this tag.
 #[tactic(auto, unfolding(crate::specs::Descriptors::has_tag))]
 pub fn has_tag(tag: u8, bytes: &[u8]) -> bool
     ensures { result ≡ spec.has_tag tag bytes.now }
@@ -36,7 +36,7 @@ pub fn has_tag(tag: u8, bytes: &[u8]) -> bool
     false
 }
 
-/// Returns whether one of the whole descriptors in these bytes is of conditional access (a CA descriptor, 2.6.16).
+/// Returns whether these bytes have a complete descriptor of conditional access (a CA descriptor, 2.6.16).
 #[tactic(auto, unfolding(crate::specs::Descriptors::has_ca))]
 pub fn has_ca(bytes: &[u8]) -> bool
     ensures { result ≡ spec.has_ca bytes.now }

@@ -3,8 +3,7 @@ use Rattle.std.specs.Prelude.{◌≡◌, ℕ, List, Option}
 use Rattle.std.specs.Io.KnownBytes.{Appends}
 use Rattle.counted_io.specs.Device.{Failed}
 
--- a reader or a writer at a moment: the bytes that it still gives, or has taken, where they are known, and the number of
--- its calls that failed
+-- a reader or a writer at a moment: the bytes that it still gives, or has taken, if known, and the number of its calls that failed
 pub record Port : Type 0 where
   pub bytes : Option (List ℕ)
   pub failed : ℕ
@@ -40,6 +39,6 @@ IsClean device = device.after.failed ≡ device.before.failed
 abbrev pub HasFailed : Device → Type 0
 HasFailed device = Failed device.before.failed device.after.failed
 
--- the writer took these bytes, after those that it had
+-- the writer took these bytes, after its earlier bytes
 abbrev pub Takes : Device → List ℕ → Type 0
 Takes device bytes = Appends device.before.bytes device.after.bytes bytes

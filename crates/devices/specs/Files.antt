@@ -1,8 +1,8 @@
--- Files by their names: what is known of them.
+-- Files by their names: their known bytes, and whether they open.
 use Rattle.std.specs.Prelude.{◌≡◌, ◌⊎◌, ℕ, Bool, true, false, List, Option, Some, None, ⊤}
 use Rattle.devices.specs.WholeInput.{IsLong}
 
--- the bytes of each and whether it can be opened, where that is known; and whether it is known that no read of any of them fails
+-- the bytes of each file and whether it can be opened, if known; and whether it is known that no read of a file fails
 pub record Files : Type 0 where
   pub contents : List ℕ → Option (List ℕ)
   pub opens : List ℕ → Option Bool
@@ -11,7 +11,7 @@ pub record Files : Type 0 where
 abbrev pub files_of : (List ℕ → Option (List ℕ)) → (List ℕ → Option Bool) → Bool → Files
 files_of contents opens never_fails = record { contents = contents; opens = opens; never_fails = never_fails }
 
--- it is so, where it is known whether it is
+-- the answer is as known, if it is known
 abbrev pub IsAsKnown : Option Bool → Bool → Type 0
 IsAsKnown None is = ⊤
 IsAsKnown (Some known) is = is ≡ known

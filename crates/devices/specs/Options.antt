@@ -23,14 +23,14 @@ flag_rule name = record (new_rule name) { long = Some name; action = Some SetTru
 abbrev pub within : ℕ → ℕ → ℕ → Option ℕ
 within low high n = if nat_le low n && nat_le n high then Some n else None
 
--- the value of decimal digits: one at least, and nothing else
+-- the value of decimal digits: at least one, and nothing besides
 abbrev pub is_decimal : Text → Bool
 is_decimal text = nat_lt 0 (length text) && list_all is_ascii_digit text
 
 unfoldable pub decimal : Text → Option ℕ
 decimal text = if is_decimal text then Some (digits_value 10 text) else None
 
--- an option's number, its default where the option is not given
+-- an option's number, its default if the option is not given
 unfoldable pub number_option : ℕ → ℕ → ℕ → Option Text → Option ℕ
 number_option low high default None = Some default
 number_option low high default (Some text) = option_and_then (within low high) (decimal text)
@@ -40,7 +40,7 @@ unfoldable pub number_given : ℕ → ℕ → Option Text → Option ℕ
 number_given low high None = None
 number_given low high (Some text) = option_and_then (within low high) (decimal text)
 
--- the number of an option that need not be given, none where it is out of its range
+-- the number of an option that need not be given, none if it is out of its range
 unfoldable pub number_if_given : ℕ → ℕ → Option Text → Option (Option ℕ)
 number_if_given low high None = Some None
 number_if_given low high (Some text) = option_map Some (option_and_then (within low high) (decimal text))

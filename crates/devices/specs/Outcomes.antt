@@ -1,10 +1,10 @@
--- What a subcommand leaves behind: bytes on its two writers, and its status.
+-- The outcome of a subcommand: bytes on its two writers, and its status.
 use Rattle.std.specs.Prelude.{ℕ, List, [], codes}
 use Rattle.devices.specs.Lines.{line_text}
 use Rattle.devices.specs.declared.halt.Halt.{Halt}
 use Rattle.devices.specs.declared.halt.Halt.TheVariants.{Read, Write, Memory}
 
--- what an input leads to: the bytes on the output, the bytes on the second writer, and the status
+-- the outcome for an input: the bytes on the output, the bytes on the second writer, and the status
 pub record Outcome : Type 0 where
   pub output : List ℕ
   pub report : List ℕ

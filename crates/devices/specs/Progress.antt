@@ -1,5 +1,4 @@
--- How far a reader has come, told on a terminal: CR, a text, and the control sequence that erases what stands after it on the line
--- (ECMA-48, 8.3.41).
+-- The progress of a reader on a terminal: CR, a text, and the control sequence that erases the rest of the line (ECMA-48, 8.3.41).
 use Rattle.std.specs.Prelude.{ℕ, ◌+◌, ◌-◌, ◌*◌, ◌/◌, ◌^◌, ◌==◌, nat_le, max, min, Bool, if◌then◌else◌, List, [], ◌∷◌, ◌++◌, Option, Some, None, codes, decimal}
 use Rattle.devices.specs.declared.meter.Meter.{Meter}
 
@@ -9,7 +8,7 @@ use Rattle.devices.specs.declared.meter.Meter.{Meter}
 abbrev pub speed : ℕ → ℕ → ℕ
 speed taken ms = taken * 1000 / max ms 1
 
--- the seconds in which the rest comes at this speed, where the size is known
+-- the seconds for the rest at this speed, if the size is known
 unfoldable pub seconds_left : Option ℕ → ℕ → ℕ → Option ℕ
 seconds_left None taken speed = None
 seconds_left (Some size) taken speed = if speed == 0 then None else Some ((size - taken) / speed)
@@ -46,7 +45,7 @@ end_text taken = read_text taken None ++ erase_text ++ codes "\n"
 
 -- 2. After a read of n bytes, ms milliseconds after the beginning
 
--- the bytes so far are told once a second
+-- the bytes so far are shown once a second
 abbrev pub is_due : Meter → ℕ → Bool
 is_due m ms = nat_le 1000 (ms - m.told)
 

@@ -1,4 +1,4 @@
--- A subcommand that reads its whole input: what it does where no device fails, and what where one does.
+-- A subcommand that reads its whole input: its outcome if no device fails, and if a device does.
 use Rattle.std.specs.Prelude.{◌≡◌, ◌⊎◌, ℕ, List, take, Some}
 use Rattle.devices.specs.Devices.{Device, HasFailed, IsClean, IsUntouched, Takes}
 use Rattle.devices.specs.Lines.{Reports}
@@ -6,7 +6,7 @@ use Rattle.devices.specs.Outcomes.{Outcome, halt_line}
 use Rattle.devices.specs.WholeInput.{IsAllRead, IsLong}
 use Rattle.devices.specs.declared.halt.Halt.TheVariants.{Read, Write, Memory}
 
--- the outcome is one to which the input leads, where its bytes are known
+-- the input leads to this outcome, if its bytes are known
 abbrev pub IsLedTo : (List ℕ → Outcome → Type 0) → Device → Outcome → Type 0
 IsLedTo Leads input outcome = (xs : List ℕ) → input.before.bytes ≡ Some xs → Leads xs outcome
 

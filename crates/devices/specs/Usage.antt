@@ -1,4 +1,4 @@
--- How the program ends where the words are a usage error.
+-- The end of the program if the words are a usage error.
 use Rattle.std.specs.Prelude.{◌≡◌, ◌++◌, ℕ, List, codes, decimal}
 use Rattle.devices.specs.Devices.{Device, IsUntouched}
 use Rattle.devices.specs.Lines.{Reports}
@@ -9,7 +9,7 @@ pub record IsUsage (input output : Device) (status : ℕ) : Type 0 where
   pub unwritten : IsUntouched output
   pub status_is : status ≡ 2
 
--- and this text is told, as far as the second writer takes it
+-- a usage error with this text, as far as the second writer takes it
 pub record TellsUsage (text : List ℕ) (input output faults : Device) (status : ℕ) : Type 0 where
   pub is : IsUsage input output status
   pub reports : Reports faults text

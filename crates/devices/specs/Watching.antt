@@ -1,4 +1,4 @@
--- A reader that tells how far it has come, on a writer of its own.
+-- A reader that shows its progress on a writer of its own.
 use Rattle.std.specs.Prelude.{◌≡◌, ℕ, Option, Some, None, Result, Ok, Err}
 use Rattle.devices.specs.Devices.{Device, IsUntouched}
 use Rattle.devices.specs.Lines.{Reports}
@@ -14,7 +14,7 @@ inner_of watched = watched.inner
 abbrev pub writer_of : {R W C : Type 0} → Watched R W C → W
 writer_of watched = watched.to
 
--- how far it has come; none where nothing is told, or no more
+-- its progress; none if it shows none, or shows no more
 abbrev pub meter_of : {R W C : Type 0} → Watched R W C → Option Meter
 meter_of watched = watched.meter
 
@@ -22,18 +22,18 @@ meter_of watched = watched.meter
 abbrev pub first : Option ℕ → Meter
 first size = record { taken = 0; size = size; told = 0 }
 
--- the bytes of a read: none of one that failed
+-- the bytes of a read; 0 if it failed
 abbrev pub bytes_read : {E : Type 0} → Result ℕ E → ℕ
 bytes_read (Ok n) = n
 bytes_read (Err e) = 0
 
--- at some moment after a read of n bytes what is due was told
+-- at some moment after a read of n bytes the text that is due was shown
 pub record ToldAt (m : Meter) (after : Option Meter) (n : ℕ) (to : Device) : Type 0 where
   pub ms : ℕ
   pub meter : after ≡ meter_after m n ms
   pub text : Reports to (text_after m n ms)
 
--- nothing was told, where nothing is to be told
+-- the text after a read of n bytes; nothing without a meter
 abbrev pub Tells : Option Meter → Option Meter → ℕ → Device → Type 0
 Tells None after n to = (after ≡ None) × IsUntouched to
 Tells (Some m) after n to = ToldAt m after n to

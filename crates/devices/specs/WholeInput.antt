@@ -41,7 +41,7 @@ pub record IsReadAs (input : Device) (Is : List ℕ → Type 0) : Type 0 where
   pub read : ReadsInput input (Ok bytes)
   pub is : Is bytes
 
--- the next n bytes of the input stand at the front of a piece, fewer than it holds only where the input ended
+-- the next n bytes of the input are at the front of a piece, fewer than it holds only if the input ended
 pub record ReadsFront (input : Device) (piece : List ℕ) (n : ℕ) : Type 0 where
   pub fits : n ≤ length piece
   pub known : (xs : List ℕ) → input.before.bytes ≡ Some xs → (n ≡ min (length piece) (length xs)) × IsFront xs input.after.bytes piece n

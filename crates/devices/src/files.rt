@@ -10,16 +10,16 @@ use std::fs::File;
 pub trait NamedFiles {
     type Reader: Source + Drop;
 
-    // The bytes of the file of a name, where they are known.
+    // The bytes of the file of a name, if known.
     ghost contents_of: { Self → List ℕ → Option (List ℕ) };
 
-    // Whether it can be opened, where that is known.
+    // Whether it can be opened, if known.
     ghost opens: { Self → List ℕ → Option Bool };
 
     // Whether it is known that no read of a file fails.
     ghost never_fails: { Bool };
 
-    /// Opens a file before its first byte; none where it can't be opened.
+    /// Opens a file before its first byte; none if it can't be opened.
     fn open_named(&self, name: &str) -> Option<Self::Reader>
         ensures reader { IfSome result (λ reader. Self.Reader.remaining reader ≡ contents_of self.now name.now) }
         ensures opens { IsAsKnown (opens self.now name.now) (is_some result) };

@@ -17,8 +17,8 @@ use std::fs::metadata;
 use std::io::{self, BufReader, Error, ErrorKind, IsTerminal, Stderr, Stdin, Stdout, Write};
 use std::process::ExitCode;
 
-/// The room of the input's buffer, in bytes: what one call gives of a pipe. A read of as many bytes or more goes past
-/// the buffer.
+/// The room of the input's buffer, in bytes: as much as one call reads from a pipe. A read of as many bytes or more
+/// bypasses the buffer.
 const INPUT_ROOM: usize = 1 << 16;
 
 /// A program over any files, a reader that shows which bytes it holds, and two writers.
@@ -102,15 +102,14 @@ fn is_broken(written: &io::Result<usize>) -> bool {
     }
 }
 
-/// Returns the code with which a process ends, of a status.
+/// Returns the exit code of a process for a status.
 fn exit_code(status: u8) -> ExitCode
     ensures { exit_status result ≡ status }
 {
     ExitCode::from(status)
 }
 
-/// Returns the status where the command line can't be read: out of memory, or a word is not UTF-8, which is a usage
-/// error.
+/// Returns the status if the command line can't be read: out of memory, or a word is not UTF-8, which is a usage error.
 fn without_words<P: Program, E: Sink>(error: Error, faults: &mut E) -> u8
     ensures { (result ≡ 2) ⊎ (result ≡ 3) }
 {
@@ -127,7 +126,7 @@ fn ask_for_progress(words: &[&str]) -> bool
     words.iter().any(|word| *word == "--progress")
 }
 
-/// Returns the bytes of the input, where it is a file.
+/// Returns the number of the input's bytes, if it is a file.
 fn input_size(rt: &HostRuntime) -> Option<u64> {
     let known = metadata(rt, "/dev/stdin").ok()?;
     if known.is_file() {
@@ -137,7 +136,7 @@ fn input_size(rt: &HostRuntime) -> Option<u64> {
     }
 }
 
-/// Standard input, which tells how far it has come where the words ask for it and standard error is a terminal.
+/// Returns standard input, which shows its progress if the words ask for it and standard error is a terminal.
 fn input_of<'a>(
     rt: &'a HostRuntime,
     words: &[&str],

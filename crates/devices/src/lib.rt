@@ -1,14 +1,14 @@
 //! What a program does with the reader and the two writers that it is given.
 //!
 //! A `Device` (`specs/Devices`) is a reader or a writer before a call and after it: the bytes that it still gives or
-//! has taken, where they are known, and the number of its calls that failed. An input is read to its end piece by
-//! piece, and a `PieceTaker` takes each piece: a vector of all bytes (`read_whole`), or a type of the caller's. `lines`
-//! writes bytes, a text, and lines of a name and numbers; `halt` is why a program ends early, with the line and the
-//! status. `specs/Runs` says what a program does that reads its whole input and takes all its memory before the first
-//! byte that it writes: to its end, or until a device fails or memory runs out. `options` are the numbers and flags of
-//! a command line. `files` opens a file by its name, `output_files` writes one; `host` runs a program over the real
-//! reader, writers and files. A `Watched` reader reports on a writer of its own how far it has read, in the text of
-//! `meter` (`specs/Progress`): `host` uses it if the words ask for it.
+//! has taken, if known, and the number of its calls that failed. An input is read to its end piece by piece, and a
+//! `PieceTaker` takes each piece: a vector of all bytes (`read_whole`), or a type of the caller's. `lines` writes
+//! bytes, a text, and lines of a name and numbers; `halt` is why a program ends early, with the line and the status.
+//! `specs/Runs` says what a program does that reads its whole input and takes all its memory before the first byte that
+//! it writes: to its end, or until a device fails or memory runs out. `options` are the numbers and flags of a command
+//! line. `files` opens a file by its name, `output_files` writes one; `host` runs a program over the real reader,
+//! writers and files. A `Watched` reader reports on a writer of its own how far it has read, in the text of `meter`
+//! (`specs/Progress`): `host` uses it if the words ask for it.
 #![tactic(auto)]
 
 mod files;

@@ -33,7 +33,7 @@ pub(crate) fn append_number(line: &mut ArrayVec<u8, ROOM>, number: u128)
 }
 
 #[tactic(auto, unfolding(crate::specs::Lines::numbers_text))]
-/// A line of a name of up to 40 bytes and up to five numbers.
+/// Returns a line of a name of up to 40 bytes and up to five numbers.
 fn line(name: &str, numbers: &[u128]) -> ArrayVec<u8, ROOM>
     requires name { length name.now ≤ 40 }
     requires numbers { length numbers.now ≤ 5 }

@@ -1,4 +1,4 @@
-//! How far a reader has come, as a text for a terminal.
+//! The progress of a reader, as a text for a terminal.
 ghost use Rattle.std.specs.Prelude.{◌≡◌, ◌≤◌, ◌+◌, ◌++◌, ℕ, option_map};
 ghost use Rattle.arrayvec.specs.ArrayVec.{array_vec_len};
 ghost use Rattle.devices.specs.Progress as spec;
@@ -9,25 +9,25 @@ use arrayvec::ArrayVec;
 /// The least time between two texts, in ms.
 const APART: u64 = 1000;
 
-/// How far a reader has come.
+/// The progress of a reader.
 #[derive(Clone, Copy)]
 pub struct Meter {
     /// The bytes that were read; the count stops at `u64::MAX`.
     pub taken: u64,
-    /// The bytes of the whole input, where they are known.
+    /// The number of the whole input's bytes, if known.
     pub size: Option<u64>,
     /// When it was last reported, in ms after the beginning.
     pub told: u64,
 }
 
-// Bytes a second.
+// Returns the bytes a second.
 fn speed(taken: u64, ms: u64) -> u128
     ensures { result ≡ spec.speed taken ms }
 {
     u128::from(taken) * 1000 / u128::from(ms.max(1))
 }
 
-// The seconds in which the rest comes at this speed, where the size is known.
+// Returns the seconds for the rest at this speed, if the size is known.
 #[tactic(auto, unfolding(crate::specs::Progress::seconds_left))]
 fn seconds_left(size: Option<u64>, taken: u64, speed: u128) -> Option<u128>
     ensures { result ≡ spec.seconds_left size taken speed }
@@ -40,7 +40,7 @@ fn seconds_left(size: Option<u64>, taken: u64, speed: u128) -> Option<u128>
     }
 }
 
-// Appends the size of the whole, where it is known.
+// Appends the size of the whole, if known.
 #[tactic(auto, unfolding(crate::specs::Progress::size_text))]
 fn append_size(line: &mut ArrayVec<u8, ROOM>, size: Option<u64>)
     requires { array_vec_len line.old + 44 ≤ 256 }
@@ -53,7 +53,7 @@ fn append_size(line: &mut ArrayVec<u8, ROOM>, size: Option<u64>)
     }
 }
 
-// Appends the time left, where it is known.
+// Appends the time left, if known.
 #[tactic(auto, unfolding(crate::specs::Progress::left_text))]
 fn append_left(line: &mut ArrayVec<u8, ROOM>, seconds: Option<u128>)
     requires { array_vec_len line.old + 49 ≤ 256 }
@@ -67,7 +67,7 @@ fn append_left(line: &mut ArrayVec<u8, ROOM>, seconds: Option<u128>)
     }
 }
 
-// How many bytes were read, of how many.
+// Returns the text of the bytes read, and of the size.
 fn read_text(taken: u64, size: Option<u64>) -> ArrayVec<u8, ROOM>
     ensures items { result.items ≡ spec.read_text taken size }
     ensures len { array_vec_len result ≤ 96 }
@@ -80,7 +80,7 @@ fn read_text(taken: u64, size: Option<u64>) -> ArrayVec<u8, ROOM>
     text
 }
 
-// The text of a reader that goes on.
+// Returns the text of a reader that is not at its end.
 #[tactic(auto, unfolding(crate::specs::Progress::progress_text))]
 fn progress_text(taken: u64, size: Option<u64>, ms: u64) -> ArrayVec<u8, ROOM>
     ensures { result.items ≡ spec.progress_text taken size ms }
@@ -95,7 +95,7 @@ fn progress_text(taken: u64, size: Option<u64>, ms: u64) -> ArrayVec<u8, ROOM>
     text
 }
 
-// The text of a reader at its end.
+// Returns the text of a reader at its end.
 #[tactic(auto, unfolding(crate::specs::Progress::end_text))]
 fn end_text(taken: u64) -> ArrayVec<u8, ROOM>
     ensures { result.items ≡ spec.end_text taken }
@@ -106,21 +106,21 @@ fn end_text(taken: u64) -> ArrayVec<u8, ROOM>
 }
 
 impl Meter {
-    // Whether a text is due.
+    // Returns whether a text is due.
     fn is_due(self, ms: u64) -> bool
         ensures { result ≡ spec.is_due self ms }
     {
         ms.saturating_sub(self.told) >= APART
     }
 
-    // The bytes after a read.
+    // Returns the bytes after a read.
     fn taken_after(self, n: usize) -> u64
         ensures { result ≡ spec.taken_after self n }
     {
         self.taken.saturating_add(n as u64)
     }
 
-    /// Returns the meter after a read of `n` bytes, `ms` after the beginning; none where it was the last.
+    /// Returns the meter after a read of `n` bytes, `ms` after the beginning; none if it was the last.
     #[tactic(auto, unfolding(crate::specs::Progress::meter_after))]
     pub(crate) fn after(self, n: usize, ms: u64) -> Option<Meter>
         ensures { result ≡ spec.meter_after self n ms }
@@ -135,7 +135,7 @@ impl Meter {
         })
     }
 
-    /// Returns what is told after it.
+    /// Returns the text after a read.
     #[tactic(auto, unfolding(crate::specs::Progress::text_after))]
     pub(crate) fn text_after(self, n: usize, ms: u64) -> ArrayVec<u8, ROOM>
         ensures { result.items ≡ spec.text_after self n ms }

@@ -73,7 +73,7 @@ pub fn text_of<'a>(matches: &ArgMatches<'a>, id: &str) -> Option<&'a str>
     matches.get_str(id)
 }
 
-/// Returns the number of an option, `default` where it is not given.
+/// Returns the number of an option, `default` if it is not given.
 #[tactic(auto, unfolding(crate::specs::Options::number_option))]
 pub fn number_option(text: Option<&str>, low: u64, high: u64, default: u64) -> Option<u64>
     requires { default ≤ high }
@@ -99,7 +99,7 @@ pub fn number_given(text: Option<&str>, low: u64, high: u64) -> Option<u64>
     }
 }
 
-/// Returns the number of an option that need not be given; none where it is out of these limits.
+/// Returns the number of an option that need not be given; none if it is out of these limits.
 #[tactic(auto, unfolding(crate::specs::Options::number_if_given))]
 pub fn number_if_given(text: Option<&str>, low: u64, high: u64) -> Option<Option<u64>>
     ensures { result ≡ stated.number_if_given low high (option_map (λ s. s.now) text.entry) }

@@ -14,6 +14,9 @@ pub trait OutputFiles {
     // Whether a file of a name can be created, if that is known.
     ghost creates: { Self → List ℕ → Option Bool };
 
+    // Whether a new file can be given a name, if that is known.
+    ghost keeps: { Self → List ℕ → Option Bool };
+
     // Whether standard output is a terminal, if that is known.
     ghost shows: { Self → Option Bool };
 
@@ -23,7 +26,8 @@ pub trait OutputFiles {
         ensures creates { IsAsKnown (creates self.now name.now) (is_some result) };
 
     /// Gives a new file its name, in place of a file that had it. Returns whether it has the name now.
-    fn keep_file(&self, writer: Self::Writer) -> bool;
+    fn keep_file(&self, name: &str, writer: Self::Writer) -> bool
+        ensures { IsAsKnown (keeps self.now name.now) result };
 
     /// Removes a new file.
     fn discard_file(&self, writer: Self::Writer);
@@ -71,7 +75,7 @@ fn new_names(alloc: Global, path: &str) -> Option<NewNames> {
     Some(NewNames { unfinished, wanted })
 }
 
-/// Returns a new file beside the one that has this name, or that is to have it.
+/// Returns a new file in the same folder as `path`, the file that has or will have this name.
 fn create_beside(rt: &HostRuntime, path: &str) -> Option<NewFile> {
     let names = new_names(rt.alloc(), path)?;
     let file = File::create(rt, names.unfinished.as_str()).ok()?;
@@ -81,7 +85,8 @@ fn create_beside(rt: &HostRuntime, path: &str) -> Option<NewFile> {
     })
 }
 
-/// Returns a new file beside the plain file of this name; where the name is a link, beside the file to which it leads.
+/// Returns a new file in the same folder as the plain file of this name; if the name is a link, as the file that it
+/// leads to.
 fn create_in_place_of(rt: &HostRuntime, name: &str) -> Option<NewFile> {
     let path = canonicalize(rt, name).ok()?;
     create_beside(rt, path.as_str())
@@ -115,6 +120,8 @@ impl OutputFiles for HostRuntime {
 
     ghost creates = { λ _ _. None };
 
+    ghost keeps = { λ _ _. None };
+
     ghost shows = { λ _. None };
 
     fn create_named(&self, name: &str) -> Option<Counted<NewFile>> {
@@ -124,7 +131,7 @@ impl OutputFiles for HostRuntime {
         }
     }
 
-    fn keep_file(&self, writer: Counted<NewFile>) -> bool {
+    fn keep_file(&self, _name: &str, writer: Counted<NewFile>) -> bool {
         let NewFile { file, names } = writer.into_inner();
         drop(file);
         match names {

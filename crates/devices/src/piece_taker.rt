@@ -10,7 +10,7 @@ use std::alloc::Global;
 /// The greatest number of bytes of an input.
 pub const LONGEST_INPUT: usize = 1 << 40;
 
-/// What takes the bytes of an input, piece by piece.
+/// A type that takes the bytes of an input, piece by piece.
 pub trait PieceTaker {
     // Each piece but the last has a multiple of this number of bytes.
     ghost unit: { ℕ };
@@ -36,7 +36,7 @@ pub fn new_piece(alloc: Global, size: usize) -> Result<Vec<u8>, Halt>
     }
 }
 
-/// Reads the next bytes of the input into a piece, fewer than it holds only where the input ends, and returns their
+/// Reads the next bytes of the input into a piece, fewer than it holds only if the input ends, and returns their
 /// number.
 pub fn read_piece<R: Source>(input: &mut R, piece: &mut [u8]) -> Result<usize, Halt>
     ensures { ReadsNext (reads R.Source input.old input.new) piece.new result }

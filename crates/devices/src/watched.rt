@@ -21,7 +21,7 @@ pub struct Watched<R, W, C> {
     meter: Option<Meter>,
 }
 
-// The time since a moment in ms; where the clock can't be read, that of the last text.
+// Returns the time since a moment in ms; if the clock can't be read, the time of the last text.
 fn ms_since<C: Clock>(begun: Option<Instant>, clock: &C, told: u64) -> u64 {
     let Some(begun) = begun else {
         return told;
@@ -69,7 +69,7 @@ impl<R, W: Sink, C: Clock> Watched<R, W, C> {
         }
     }
 
-    // Tells what is due after a read of `n` bytes.
+    // Writes the text that is due after a read of `n` bytes.
     fn tell(&mut self, n: usize)
         ensures inner { spec.inner_of self.new ≡ spec.inner_of self.old }
         ensures tells { spec.Tells (spec.meter_of self.old) (spec.meter_of self.new) n

@@ -43,7 +43,7 @@ abbrev pub row_like : EqualKeys → Option (List ℕ) → ℕ → List (List ℕ
 row_like keys None n lines = None
 row_like keys (Some value) n lines = row_with keys value n lines
 
--- the first line whose value comes again, and the first line on which it does
+-- the first line whose value occurs again, and the next line that has it
 abbrev pub paired : ℕ × List ℕ → Option (ℕ × List ℕ) → Option ((ℕ × List ℕ) × (ℕ × List ℕ)) → Option ((ℕ × List ℕ) × (ℕ × List ℕ))
 paired row None later = later
 paired row (Some other) later = Some (row, other)
@@ -52,7 +52,7 @@ unfoldable pub equal_rows : EqualKeys → ℕ → List (List ℕ) → Option ((�
 equal_rows keys n [] = None
 equal_rows keys n (l ∷ ls) = paired (n, l) (row_like keys (value_on keys l) (n + 1) ls) (equal_rows keys (n + 1) ls)
 
--- 3. What is said of them
+-- 3. The lines for equal values
 
 unfoldable pub equal_words : EqualKeys → List ℕ
 equal_words Pids = codes "two PIDs are equal\n"
@@ -62,6 +62,6 @@ unfoldable pub both_places : Option ((ℕ × List ℕ) × (ℕ × List ℕ)) →
 both_places None = []
 both_places (Some rows) = row_words (Some rows.0) ++ row_words (Some rows.1)
 
--- where they stand, if both stand on lines of their own
+-- the places of both keys, if each is on a line of its own, and the sentence
 abbrev pub equal_line : List (List ℕ) → EqualKeys → List ℕ
 equal_line lines keys = both_places (equal_rows keys 1 lines) ++ equal_words keys

@@ -1,4 +1,4 @@
--- What is said of a description, or of a description and a plan for it.
+-- The explanation of a description, or of a description and its plan.
 use Rattle.std.specs.Prelude.{◌≡◌, ℕ, ◌==◌, List, [], ◌++◌, length, Option, Some, None, Result, Ok, Err, codes, decimal, if◌then◌else◌}
 use Rattle.std.specs.Str.{is_utf8}
 use Rattle.description_parts.specs.Described.{Described}
@@ -22,8 +22,7 @@ text_lines bytes = if is_utf8 bytes then lines_of bytes else []
 unfoldable pub bad_line_words : ℕ → List ℕ
 bad_line_words line = codes "line " ++ decimal line ++ codes " of the plan is not as a plan has it\n"
 
--- of a plan: the first line that is none of a plan's text, or the conditions that it does not keep
--- lines of conditions, and what to do if there are any
+-- for a plan: its first line with a syntax error; otherwise lines of the conditions that it does not keep, and what to do if there are any
 abbrev pub remedy_line : List ℕ
 remedy_line = codes "the plan is of another description, or it was changed: tsmux plan makes a plan for this one\n"
 
@@ -37,18 +36,18 @@ unfoldable pub plan_words : Described → Result (Planned × List ℕ) ℕ → L
 plan_words d (Err line) = bad_line_words line
 plan_words d (Ok read) = served_words d read.0
 
--- of a description without a plan: the numbers that no plan can keep
+-- for a description without a plan: the numbers that no plan can meet
 unfoldable pub with_description : Option (List ℕ) → Described → List ℕ
 with_description None d = reason_lines d
 with_description (Some plan) d = plan_words d (planned plan)
 
--- why a description is refused: where it is not valid TOML, what the reader says of it; or the first word that no description has
+-- why a description is refused: the TOML reader's message, if it is not valid TOML; the first word that no description has; or the fault's line
 unfoldable pub refusal_words : TomlNoteView → List (List ℕ) → DescFault → List ℕ
 refusal_words note lines Text = note_line lines note
 refusal_words note lines UnknownKey = unknown_line lines
 refusal_words note lines fault = fault_line lines fault
 
--- that, else what is said of the description and the plan
+-- why the description is refused; otherwise the explanation of the description and the plan
 unfoldable pub description_words : TomlNoteView → List ℕ → Option (List ℕ) → Result Described DescError → List ℕ
 description_words note bytes plan (Err (Refused fault)) = refusal_words note (text_lines bytes) fault
 description_words note bytes plan (Err Memory) = []
@@ -62,6 +61,6 @@ parts_words note bytes (Some parts) = description_words note parts.0 (Some parts
 abbrev pub explained : TomlNoteView → List ℕ → List ℕ
 explained note bytes = parts_words note bytes (parts_of bytes)
 
--- whatever the TOML reader says
+-- for any message of the TOML reader
 abbrev pub IsExplained : List ℕ → List ℕ → Type 0
 IsExplained bytes text = (note : TomlNoteView) × (text ≡ explained note bytes)

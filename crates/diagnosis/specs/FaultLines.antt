@@ -18,7 +18,7 @@ rule_words name values = name ++ codes " has to be " ++ values ++ codes "\n"
 unfoldable pub missing_words : List ℕ → List ℕ → List ℕ
 missing_words name values = name ++ codes " is missing, or not on a line of its own: it has to be " ++ values ++ codes "\n"
 
--- the same where there is no text
+-- the same if there is no text
 abbrev pub absent_words : Bool → List ℕ → List ℕ → List ℕ
 absent_words textless name values = if textless then rule_words name values else missing_words name values
 

@@ -1,4 +1,4 @@
--- Where a key of a description stands in its text: on a line of its own, below the head of its table in brackets (TOML 1.0).
+-- The place of a description's key in its text: on a line of its own, below the head of its table in brackets (TOML 1.0).
 use Rattle.std.specs.Prelude.{ℕ, ◌+◌, ◌-◌, ◌==◌, ◌&&◌, ◌||◌, Bool, true, false, List, [], ◌∷◌, ◌++◌, length, drop, Option, Some, None, codes, decimal, nat_eq}
 use Rattle.std.specs.Prelude.{if◌then◌else◌}
 use Rattle.std.specs.List.{slice_split, starts_with}
@@ -23,8 +23,7 @@ begins line word = starts_with nat_eq (unindented line) word
 abbrev pub has_key : List ℕ → List ℕ → Bool
 has_key key line = begins line key && begins (drop (length key) (unindented line)) (codes "=")
 
--- after a head of this name or another, where so many of this name were still to come: whether it is the last of them, and how
--- many are still to come
+-- after a head, which has the name if `own`, with `left` heads of the name to go: whether it is the last one, and how many heads of the name follow
 abbrev pub is_last : Bool → ℕ → Bool
 is_last own left = left == 1 && own
 
@@ -35,15 +34,14 @@ heads_after own left = if own then left - 1 else left
 abbrev pub is_found : Bool → List ℕ → List ℕ → Bool
 is_found inside key line = inside && has_key key line
 
--- the number of the line of a key, and the line, of lines numbered from n on: inside its table, or where so many heads of that name
--- are still to come, of which the last is its own
+-- the number of a key's line, and the line, among lines numbered from n on: inside the key's table, or after `left` heads of its name, the last of them its own
 unfoldable pub key_row : List ℕ → List ℕ → Bool → ℕ → ℕ → List (List ℕ) → Option (ℕ × List ℕ)
 key_row head key inside left n [] = None
 key_row head key inside left n (l ∷ ls) =
     if begins l (codes "[") then key_row head key (is_last (begins l head) left) (heads_after (begins l head) left) (n + 1) ls
     else (if is_found inside key l then Some (n, l) else key_row head key inside left (n + 1) ls)
 
--- of a key of the document, which stands before all heads; of one of a table of that number
+-- the line of a key of the document, which is before all heads; the line of a key in the table of this number
 abbrev pub top_row : List ℕ → List (List ℕ) → Option (ℕ × List ℕ)
 top_row key lines = key_row [] key true 0 1 lines
 

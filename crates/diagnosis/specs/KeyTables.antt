@@ -1,4 +1,4 @@
--- The tables of a description in which keys stand.
+-- The tables of a description that have keys.
 use Rattle.std.specs.Prelude.{ℕ, List, [], ◌++◌, Option, codes, decimal}
 use Rattle.diagnosis.specs.declared.key_tables.KeyTable.{KeyTable}
 use Rattle.diagnosis.specs.declared.key_tables.KeyTable.TheVariants.{Document, Network, Program, Stream, Event, Private}
@@ -22,7 +22,7 @@ row_of (Stream i) key lines = table_row (head_of (Stream i)) i key lines
 row_of (Event i) key lines = table_row (head_of (Event i)) i key lines
 row_of (Private i) key lines = table_row (head_of (Private i)) i key lines
 
--- its head, and of one of an array its number there, from 0
+-- its head, and for an element of an array its number in the array, from 0
 abbrev pub head_words : List ℕ → List ℕ
 head_words head = head ++ codes " "
 

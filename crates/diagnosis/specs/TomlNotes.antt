@@ -1,13 +1,13 @@
--- What the TOML reader says of a text that is not valid TOML, and where.
+-- The TOML reader's message on a text that is not valid TOML, and its place.
 use Rattle.std.specs.Prelude.{ℕ, ◌+◌, ◌-◌, List, [], ◌∷◌, ◌++◌, length, Option, Some, None, codes, nat_le, if◌then◌else◌}
 use Rattle.diagnosis.specs.KeyPlaces.{place_words}
 
--- what it says, and how many bytes are before the fault
+-- its message, and the number of bytes before the fault
 pub record TomlNoteView : Type 0 where
   pub place : ℕ
   pub message : List ℕ
 
--- the line with the byte at a place: its number, of lines numbered from n on, what of the place is in it, and the line
+-- the line with the byte at a place: its number, among lines numbered from n on, the place in it, and the line
 unfoldable pub row_at : ℕ → ℕ → List (List ℕ) → Option (ℕ × (ℕ × List ℕ))
 row_at place n [] = None
 row_at place n (l ∷ ls) = if nat_le place (length l) then Some (n, (place, l)) else row_at (place - length l - 1) (n + 1) ls

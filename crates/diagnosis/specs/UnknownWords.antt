@@ -18,7 +18,7 @@ use Rattle.diagnosis.specs.declared.unknown_words.Head.TheVariants.{Document, Ne
 abbrev pub document : Head
 document = Document
 
--- 1. What a description has
+-- 1. The tables and keys of a description
 
 abbrev pub head_names : List (List ℕ)
 head_names = codes "[network]" ∷ codes "[[program]]" ∷ codes "[[stream]]" ∷ codes "[[event]]" ∷ codes "[[table]]" ∷ []
@@ -45,7 +45,7 @@ abbrev pub is_unknown_head : Head → Bool
 is_unknown_head Unknown = true
 is_unknown_head head = false
 
--- 2. The word with which a line begins
+-- 2. The first word of a line
 
 abbrev pub before_equals : List ℕ → Option (List ℕ)
 before_equals line = if nat_lt (position_or_len (λ b. b == 61) line) (length line) then Some (before_first (λ b. b == 61) line) else None
@@ -54,7 +54,7 @@ abbrev pub key_in : Option (List ℕ) → List ℕ
 key_in None = []
 key_in (Some front) = first_word (unindented front)
 
--- a head, or a key before an equals sign; else none
+-- a head, or a key before an equals sign; otherwise empty
 abbrev pub word_on : List ℕ → List ℕ
 word_on line = if begins line (codes "[") then first_word (unindented line) else key_in (before_equals line)
 
@@ -79,7 +79,7 @@ unknown_row head n (l ∷ ls) =
     (n + 1) ls)
     else (if has_unknown_key head (word_on l) then Some (n, (l, head)) else unknown_row head (n + 1) ls)
 
--- 4. What is said of it
+-- 4. The line for an unknown word
 
 abbrev pub kind_of : Head → List ℕ
 kind_of head = if is_unknown_head head then codes "unknown table " else codes "unknown key "

@@ -18,7 +18,7 @@ pub enum EqualKeys {
 /// The number of a line, from 1, and the line.
 type Row<'a> = (usize, &'a str);
 
-// Whether a value ends before this byte.
+// Returns whether a value ends before this byte.
 fn ends_value(byte: u8) -> bool
     ensures { result ≡ spec.ends_value byte }
 {
@@ -37,7 +37,7 @@ pub fn first_word(bytes: &[u8]) -> &[u8]
     bytes
 }
 
-// The value after an equals sign.
+// Returns the value after an equals sign.
 fn after_equals(bytes: &[u8]) -> Option<&[u8]>
     ensures { option_map (λ s. s.now) result ≡ spec.after_equals bytes.entry.now }
 {
@@ -45,7 +45,7 @@ fn after_equals(bytes: &[u8]) -> Option<&[u8]>
     Some(first_word(unindented(value)))
 }
 
-// The value of a key on its line.
+// Returns the value of a key on its line.
 fn key_value<'a>(key: &[u8], line: &'a [u8]) -> Option<&'a [u8]>
     ensures { option_map (λ s. s.now) result ≡ spec.key_value key.now line.entry.now }
 {
@@ -56,7 +56,7 @@ fn key_value<'a>(key: &[u8], line: &'a [u8]) -> Option<&'a [u8]>
     }
 }
 
-// The value of one of these keys on its line.
+// Returns the value on a line with a key of this kind.
 #[tactic(auto, unfolding(crate::specs::EqualKeys::value_on))]
 fn value_on(keys: EqualKeys, line: &str) -> Option<&[u8]>
     ensures { option_map (λ s. s.now) result ≡ spec.value_on keys line.entry.now }
@@ -70,7 +70,7 @@ fn value_on(keys: EqualKeys, line: &str) -> Option<&[u8]>
     }
 }
 
-// Whether this is a value, and that one.
+// Returns whether `other` is a value and equals `value`.
 fn is_value(value: &[u8], other: Option<&[u8]>) -> bool
     ensures { result ≡ spec.is_value value.now (option_map (λ s. s.now) other.entry) }
 {
@@ -80,7 +80,7 @@ fn is_value(value: &[u8], other: Option<&[u8]>) -> bool
     }
 }
 
-// The first line with this value from one of an index on.
+// Returns the first line with this value, from the line at an index on.
 fn row_with<'a>(keys: EqualKeys, value: &[u8], first: usize, lines: &[&'a str]) -> Option<Row<'a>>
     ensures { option_map (λ row. (row.0, row.1.now)) result
         ≡ spec.row_with keys value.now (first + 1) (map (λ s. s.now) (drop first lines.now)) }
@@ -94,7 +94,7 @@ fn row_with<'a>(keys: EqualKeys, value: &[u8], first: usize, lines: &[&'a str]) 
     None
 }
 
-// The same, where there is a value.
+// Returns the first line with this value, if there is a value.
 fn row_like<'a>(
     keys: EqualKeys,
     value: Option<&[u8]>,
@@ -110,7 +110,7 @@ fn row_like<'a>(
     }
 }
 
-// The first line whose value comes again, and the first line on which it does.
+// Returns the first line whose value occurs again, and the next line that has it.
 fn equal_rows<'a>(keys: EqualKeys, lines: &[&'a str]) -> Option<(Row<'a>, Row<'a>)>
     ensures { option_map (λ rows. ((rows.0.0, rows.0.1.now), (rows.1.0, rows.1.1.now))) result
         ≡ spec.equal_rows keys 1 (map (λ s. s.now) lines.now) }
@@ -123,7 +123,7 @@ fn equal_rows<'a>(keys: EqualKeys, lines: &[&'a str]) -> Option<(Row<'a>, Row<'a
     None
 }
 
-// Appends where they stand.
+// Appends the places of both lines.
 #[tactic(auto, unfolding(crate::specs::EqualKeys::both_places))]
 fn write_places(rows: Option<(Row<'_>, Row<'_>)>, text: &mut String) -> Result<(), AllocError>
     ensures { OnOk result (string_bytes text.new ≡ string_bytes text.old ++ spec.both_places
@@ -138,7 +138,7 @@ fn write_places(rows: Option<(Row<'_>, Row<'_>)>, text: &mut String) -> Result<(
     }
 }
 
-// What is said of them.
+// Returns the sentence for equal values.
 #[tactic(auto, unfolding(crate::specs::EqualKeys::equal_words))]
 fn equal_words(keys: EqualKeys) -> &'static str
     ensures { result.now ≡ spec.equal_words keys }

@@ -17,7 +17,7 @@ use std::alloc::{AllocError, Global};
 use std::fmt::Write;
 use std::str;
 
-// The lines of a text; bytes that are no UTF-8 have none.
+// Returns the lines of a text; bytes that are no UTF-8 have none.
 fn text_lines(alloc: Global, bytes: &[u8]) -> Result<Vec<&str>, AllocError>
     ensures { IfOk result (λ lines. map (λ s. s.now) lines.items ≡ spec.text_lines bytes.entry.now) }
 {
@@ -27,7 +27,7 @@ fn text_lines(alloc: Global, bytes: &[u8]) -> Result<Vec<&str>, AllocError>
     }
 }
 
-// Appends the number of a line that is none of a plan's text.
+// Appends the number of a plan's line with a syntax error.
 fn write_bad_line(line: u32, text: &mut String) -> Result<(), AllocError>
     ensures { OnOk result (string_bytes text.new ≡ string_bytes text.old ++ spec.bad_line_words line) }
 {
@@ -63,7 +63,7 @@ fn write_served(
     write_remedied(lines.as_str(), text)
 }
 
-// Appends what is said of a plan.
+// Appends the lines for a plan.
 #[tactic(auto, unfolding(crate::specs::Explained::plan_words))]
 fn write_plan(
     alloc: Global,
@@ -81,7 +81,7 @@ fn write_plan(
     }
 }
 
-// Appends what is said of a description, and of a plan where there is one.
+// Appends the lines for a description, and for its plan, if there is one.
 #[tactic(auto, unfolding(crate::specs::Explained::with_description))]
 fn write_description(
     alloc: Global,
@@ -117,7 +117,7 @@ fn write_refusal(
     }
 }
 
-// Appends what is said of the bytes of a description, and of a plan.
+// Appends the lines for the bytes of a description and of a plan.
 #[tactic(auto, unfolding(crate::specs::Explained::description_words))]
 fn write_parts(
     alloc: Global,
@@ -138,7 +138,7 @@ fn write_parts(
     }
 }
 
-// The bytes of the description in those of a job.
+// Returns the description's bytes, from the bytes of a job.
 fn description_part(bytes: &[u8]) -> &[u8] {
     match parts_of(bytes) {
         None => bytes,
@@ -146,7 +146,7 @@ fn description_part(bytes: &[u8]) -> &[u8] {
     }
 }
 
-// The faults of a description, or of a plan after it, if the TOML reader says this of the description.
+// Returns the faults of a description, or of the plan after it, with the TOML reader's note on the description.
 #[tactic(auto, unfolding(crate::specs::Explained::parts_words))]
 fn explain_with(alloc: Global, note: &TomlNote, bytes: &[u8]) -> Result<String, AllocError>
     ensures { IfOk result (λ text. string_bytes text ≡ spec.explained note.now bytes.now) }

@@ -30,7 +30,7 @@ fn write_missing(name: &str, values: &str, text: &mut String) -> Result<(), Allo
     )
 }
 
-// Appends what a key has to be that is on none of the lines of a text; or of a description that has no text.
+// Appends what a key has to be, if it is on no line of the text, or the description has no text.
 fn write_absent(
     textless: bool,
     name: &str,

@@ -14,7 +14,7 @@ pub fn lines_of<'a>(alloc: Global, text: &'a str) -> Result<Vec<&'a str>, AllocE
     text.split('\n').collect(alloc)
 }
 
-/// Returns a space or a tab.
+/// Returns whether a byte is a space or a tab.
 pub fn is_blank(byte: u8) -> bool
     ensures { result ≡ spec.is_blank byte }
 {
@@ -51,28 +51,29 @@ pub fn has_key(key: &[u8], line: &[u8]) -> bool
     line.starts_with(key) && begins(&line[key.len()..], b"=")
 }
 
-// Whether a table of this name or another is the last of so many of this name.
+// Returns whether a table is the last of its name: `own` if it has this name, `left` tables of this name to go.
 fn is_last(own: bool, left: u128) -> bool
     ensures { result ≡ spec.is_last own left }
 {
     left == 1 && own
 }
 
-// How many are still to come after one of this name or another.
+// Returns how many tables of this name follow a table; `own` if it has this name.
 fn heads_after(own: bool, left: u128) -> u128
     ensures { result ≡ spec.heads_after own left }
 {
     if own { left.saturating_sub(1) } else { left }
 }
 
-// Whether a line of a table is the one of a key of this table.
+// Returns whether a line has this key, inside its table.
 fn is_found(inside: bool, key: &[u8], line: &[u8]) -> bool
     ensures { result ≡ spec.is_found inside key.now line.now }
 {
     inside && has_key(key, line)
 }
 
-// The number of the line of a key, and the line: inside its table, or where so many heads are still to come.
+// Returns a key's line and its number: `at_once` if the lines begin inside its table, otherwise after `heads` heads of
+// its name.
 fn key_row<'a>(
     head: &[u8],
     key: &[u8],
@@ -105,7 +106,7 @@ pub fn top_row<'a>(key: &str, lines: &[&'a str]) -> Option<(usize, &'a str)>
     key_row(b"", key.as_bytes(), true, 0, lines)
 }
 
-/// Returns the line of a key of the table of that number.
+/// Returns the line of a key of the table with this number.
 pub fn table_row<'a>(
     head: &str,
     item: usize,
@@ -137,7 +138,7 @@ pub fn write_place(
     write!(text, "line {number}, column {column}: {line}: ")
 }
 
-// The column at which a line begins.
+// Returns the column at which a line begins.
 fn column_of(line: &[u8]) -> u128
     ensures { result ≡ spec.column_of line.now }
 {

@@ -18,7 +18,7 @@ pub enum KeyTable {
     Private(usize),
 }
 
-// The head before the keys of a table.
+// Returns the head before the keys of a table.
 #[tactic(auto, unfolding(crate::specs::KeyTables::head_of))]
 fn head_of(table: KeyTable) -> &'static str
     ensures { result.now ≡ spec.head_of table }
@@ -62,7 +62,7 @@ fn write_item(head: &str, item: usize, text: &mut String) -> Result<(), AllocErr
     write!(text, "{head} {item} ")
 }
 
-/// Appends which table it is.
+/// Appends the name of a table.
 #[tactic(auto, unfolding(crate::specs::KeyTables::table_words))]
 pub fn write_table(table: KeyTable, text: &mut String) -> Result<(), AllocError>
     ensures { OnOk result (string_bytes text.new ≡ string_bytes text.old ++ spec.table_words table) }

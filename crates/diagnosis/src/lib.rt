@@ -1,10 +1,10 @@
-//! What is wrong with a description or its plan, in words.
+//! Explains in words why a description or its plan is refused.
 //!
-//! `explaining` says the first fault of a job (`specs/Explained`): why the description is refused, by `fault_lines`,
-//! with the names of keys and the values that they may have (`key_words`), their tables (`key_tables`), the place of a
-//! key in the text (`key_places`) and the lines of equal values (`equal_keys`); where a text is not valid TOML
-//! (`toml_note`), and which key or table is unknown (`unknown_words`); the conditions that the plan does not keep,
-//! or without a plan the numbers of the description that no plan can keep, by `plan_diagnosis`.
+//! `explaining` names the first fault of a job (`specs/Explained`): why the description is refused (`fault_lines`),
+//! with the names of keys and their allowed values (`key_words`), their tables (`key_tables`), the place of a key in
+//! the text (`key_places`) and the lines of equal values (`equal_keys`); where a text is not valid TOML (`toml_note`),
+//! and which key or table is unknown (`unknown_words`); the conditions that the plan breaks, or without a plan the
+//! numbers of the description that no plan can meet, by `plan_diagnosis`.
 #![tactic(auto)]
 
 mod equal_keys;

@@ -1,4 +1,4 @@
-//! What the TOML reader says of a text that is not valid TOML, and where.
+//! The TOML reader's message on a text that is not valid TOML, and its place.
 
 ghost use Rattle.std.specs.Prelude.{◌≡◌, ◌+◌, ◌++◌, IfOk, OnOk, drop, map, option_map, string_bytes};
 ghost use Rattle.diagnosis.specs.TomlNotes as spec;
@@ -8,7 +8,7 @@ use std::alloc::{AllocError, Global};
 use std::fmt::Write;
 use std::marker::Model;
 
-/// What the reader says of a text, and how many bytes are before the fault.
+/// The reader's message on a text, and the number of bytes before the fault.
 #[derive(Drop)]
 pub(crate) struct TomlNote {
     pub place: usize,
@@ -25,7 +25,7 @@ impl Model for TomlNote {
     ghost view = { λ note. record { place = note.place; message = string_bytes note.message } };
 }
 
-/// Returns what the reader says of a text; of valid TOML, nothing.
+/// Returns the reader's note on a text; nothing for valid TOML.
 pub(crate) fn note_of(alloc: Global, bytes: &[u8]) -> Result<TomlNote, AllocError> {
     let mut message = String::new(alloc);
     match toml::table_from_slice(alloc, bytes) {
@@ -42,7 +42,7 @@ pub(crate) fn note_of(alloc: Global, bytes: &[u8]) -> Result<TomlNote, AllocErro
     }
 }
 
-// The number of the line with the byte at a place, what of the place is in the line, and the line.
+// Returns the number of the line with the byte at a place, the place in the line, and the line.
 #[tactic(auto, unfolding(crate::specs::TomlNotes::row_at))]
 fn row_at<'a>(place: usize, lines: &[&'a str]) -> Option<(usize, usize, &'a str)>
     ensures { option_map (λ row. (row.0, (row.1, row.2.now))) result
@@ -59,7 +59,7 @@ fn row_at<'a>(place: usize, lines: &[&'a str]) -> Option<(usize, usize, &'a str)
     None
 }
 
-// Appends the place of the fault, and the line on which it is.
+// Appends the place of the fault, and its line.
 #[tactic(auto, unfolding(crate::specs::TomlNotes::fault_place))]
 fn write_row(row: Option<(usize, usize, &str)>, text: &mut String) -> Result<(), AllocError>
     ensures { OnOk result (string_bytes text.new ≡ string_bytes text.old
@@ -71,7 +71,7 @@ fn write_row(row: Option<(usize, usize, &str)>, text: &mut String) -> Result<(),
     }
 }
 
-// Appends what the reader says.
+// Appends the reader's message.
 fn write_message(message: &str, text: &mut String) -> Result<(), AllocError>
     ensures { OnOk result (string_bytes text.new ≡ string_bytes text.old ++ spec.message_words message.now) }
 {

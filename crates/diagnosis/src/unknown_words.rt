@@ -25,10 +25,10 @@ pub(crate) enum Head {
     Unknown,
 }
 
-/// The number of a line, from 1, the line, and the table in which it is; a head itself is in no table.
+/// The number of a line, from 1, the line, and the table that it is in; a head itself is in no table.
 type UnknownRow<'a> = (usize, &'a str, Head);
 
-// The keys of a table.
+// Returns the keys of a table.
 #[tactic(auto, unfolding(crate::specs::UnknownWords::names_of))]
 fn names_of(head: Head) -> &'static [&'static str]
     ensures { map (λ s. s.now) result.now ≡ spec.names_of head }
@@ -105,7 +105,7 @@ fn names_of(head: Head) -> &'static [&'static str]
     }
 }
 
-// The table of a head.
+// Returns the table of a head.
 fn head_on(word: &[u8]) -> Head
     ensures { result ≡ spec.head_on word.now }
 {
@@ -124,7 +124,7 @@ fn head_on(word: &[u8]) -> Head
     }
 }
 
-// Whether a head is none of a description.
+// Returns whether no description has this head.
 fn is_unknown_head(head: Head) -> bool
     ensures { result ≡ spec.is_unknown_head head }
 {
@@ -134,7 +134,7 @@ fn is_unknown_head(head: Head) -> bool
     }
 }
 
-// The bytes before an equals sign; none if there is none.
+// Returns the bytes before an equals sign; none if there is none.
 fn before_equals(line: &str) -> Option<&[u8]>
     ensures { option_map (λ s. s.now) result ≡ spec.before_equals line.entry.now }
 {
@@ -144,7 +144,7 @@ fn before_equals(line: &str) -> Option<&[u8]>
     }
 }
 
-// The word with which a line begins: a head, or a key before an equals sign; of any other line an empty one.
+// Returns the first word of a line: a head, or a key before an equals sign; empty for any other line.
 fn word_on(line: &str) -> &[u8]
     ensures { result.now ≡ spec.word_on line.entry.now }
 {
@@ -158,7 +158,7 @@ fn word_on(line: &str) -> &[u8]
     }
 }
 
-// Whether a word is a bare key: not empty, and without quotation marks before it.
+// Returns whether a word is a bare key: not empty, and without quotation marks before it.
 fn is_bare(word: &[u8]) -> bool
     ensures { result ≡ spec.is_bare word.now }
 {
@@ -174,21 +174,21 @@ fn is_one_of(names: &[&str], word: &[u8]) -> bool
     names.iter().any(|name| name.as_bytes() == word)
 }
 
-// Whether a word is one of these names.
+// Returns whether a word is among these names.
 fn is_among(names: &[&str], word: &[u8]) -> bool
     ensures { result ≡ spec.is_among (map (λ s. s.now) names.now) word.now }
 {
     is_one_of(names, word)
 }
 
-// Whether a line of a table has a key that the table has not.
+// Returns whether a line of a table has a key that is unknown in the table.
 fn has_unknown_key(head: Head, word: &[u8]) -> bool
     ensures { result ≡ spec.has_unknown_key head word.now }
 {
     is_bare(word) && !is_among(names_of(head), word)
 }
 
-// The first line with a key or a head that no description has, of lines in the table of a head.
+// Returns the first line with a key or a head that no description has, of lines in the table of a head.
 #[tactic(auto, unfolding(crate::specs::UnknownWords::unknown_row))]
 fn unknown_row<'a>(lines: &[&'a str]) -> Option<UnknownRow<'a>>
     ensures { option_map (λ row. (row.0, (row.1.now, row.2))) result
@@ -249,7 +249,7 @@ fn write_near(
     write_meant(nearest(alloc, &names, word)?, text)
 }
 
-// What is unknown: a table, or a key.
+// Returns the kind of an unknown word: a table, or a key.
 fn kind_of(head: Head) -> &'static str
     ensures { result.now ≡ spec.kind_of head }
 {
@@ -283,7 +283,7 @@ fn write_unnamed(text: &mut String) -> Result<(), AllocError>
     text.push_str("unknown key\n")
 }
 
-// Appends what is said of the bytes of an unknown word.
+// Appends the line for the bytes of an unknown word.
 fn write_word(alloc: Global, head: Head, word: &[u8], text: &mut String) -> Result<(), AllocError>
     ensures { OnOk result (string_bytes text.new ≡ string_bytes text.old ++ spec.word_words head word.now) }
 {

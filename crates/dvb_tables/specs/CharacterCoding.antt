@@ -17,7 +17,7 @@ is_plain text = list_all is_plain_character text
 abbrev pub text_bytes : List ℕ → List ℕ
 text_bytes text = if is_plain text then text else 0x15 ∷ text
 
--- the text that coded bytes are: UTF-8 after 0x15, else the bytes as they are
+-- the text that coded bytes are: UTF-8 after 0x15, otherwise the bytes as they are
 unfoldable pub decoded : List ℕ → List ℕ
 decoded [] = []
 decoded (b ∷ bytes) = if b == 0x15 then bytes else b ∷ bytes

@@ -10,7 +10,7 @@ use Rattle.dvb_tables.specs.declared.running_status.RunningStatus.{RunningStatus
 use Rattle.dvb_tables.specs.declared.event_entry.EventEntry.{EventEntry}
 use Rattle.dvb_tables.specs.declared.event_entry.EventEntries.{EventEntries}
 
--- what an entry says of an event; start_time and duration as the bytes that they are
+-- the content of an event; start_time and duration as the bytes that they are
 pub record EventView : Type 0 where
   pub event_id : ℕ
   pub start_time : List ℕ
@@ -45,7 +45,7 @@ pub record IsEvent (bytes : List ℕ) (e : EventView) : Type 0 where
   pub event_id : e.event_id < 2 ^ 16
   pub descriptors_loop_length : length e.descriptors < 2 ^ 12
 
--- the event that an entry of a loop says
+-- the event that an entry of a loop encodes
 unfoldable pub event_of : EntryView → EventView
 event_of e = record {
   event_id = slice_index e.head 0 * 256 + slice_index e.head 1;
@@ -60,11 +60,11 @@ event_of e = record {
 unfoldable pub events_in : List ℕ → List EventView
 events_in bytes = map event_of (entries_in 12 bytes)
 
--- the events of a loop; Body where it ends within an entry
+-- the events of a loop; Body if it ends within an entry
 unfoldable pub events_at : List ℕ → Result (List EventView) SectionError
 events_at bytes = if is_some (loop_at 12 bytes) then Ok (events_in bytes) else Err Body
 
--- the events that are left of an iterator over a loop
+-- the remaining events of an iterator over a loop
 unfoldable pub events_of : EventEntries → List EventView
 events_of e = events_in e.bytes.now
 

@@ -13,7 +13,7 @@ use Rattle.dvb_tables.specs.EventEntries.{EventView, IsEvent, events_at, events_
 use Rattle.dvb_tables.specs.declared.event_loop.EventLoop.{EventLoop}
 use Rattle.dvb_tables.specs.declared.event_information.EitPf.{EitPf}
 
--- what an event information section says
+-- the content of an event information section
 pub record EitView : Type 0 where
   pub header : LongHeader
   pub transport_stream_id : ℕ
@@ -22,7 +22,7 @@ pub record EitView : Type 0 where
   pub last_table_id : ℕ
   pub events : List EventView
 
--- a section is an event information section that says this: transport_stream_id, original_network_id,
+-- a section is an event information section with this content: transport_stream_id, original_network_id,
 -- segment_last_section_number, last_table_id, the events
 pub record IsEit (s : SectionView) (t : EitView) : Type 0 where
   pub table_id : s.header.table_id ≡ 0x4E
@@ -40,7 +40,7 @@ pub record IsEit (s : SectionView) (t : EitView) : Type 0 where
   pub last_table_id : t.last_table_id < 2 ^ 8
   pub events : IsSequence IsEvent loop t.events
 
--- the table whose body begins with these six bytes and goes on with a loop of events
+-- the table whose body begins with these six bytes and continues with a loop of events
 unfoldable pub eit_after : LongHeader → List ℕ → List ℕ → Result EitView SectionError
 eit_after header front loop = events_at loop >>= λ events. Ok (record {
   header = header;
@@ -55,7 +55,7 @@ eit_after header front loop = events_at loop >>= λ events. Ok (record {
 unfoldable pub eit_body_at : LongHeader → List ℕ → Result EitView SectionError
 eit_body_at header body = if nat_lt (length body) 6 then Err Body else eit_after header (take 6 body) (drop 6 body)
 
--- reading: Syntax, Length, then Body where the section ends within the front or an entry
+-- reading: Syntax, Length, then Body if the section ends within the front or an entry
 unfoldable pub eit_at : SectionView → Result EitView SectionError
 eit_at s = table_header_at 0x4E 4093 s >>= λ header. eit_body_at header s.body
 
@@ -76,7 +76,7 @@ eit_section t = record { header = record { table_id = 0x4E; private_indicator = 
 unfoldable pub event_loop_of : EventLoop → List EventView
 event_loop_of e = events_in e.bytes.items
 
--- what an event information table says
+-- the content of an event information table
 abbrev pub eit_view : EitPf → EitView
 eit_view t = record {
   header = t.header;

@@ -32,7 +32,7 @@ pub record NitFits (t : NitView) : Type 0 where
   pub transport_streams : All TransportStreamFits t.transport_streams
   pub section_length : 9 + length (nit_body t) ≤ 1021
 
--- its section can be written, says the same, and is read again as it
+-- its section can be written, has the same content, and is read again as it
 pub record NitIsRead (t : NitView) : Type 0 where
   pub writable : IsWritable (nit_section t)
   pub table : IsNit (nit_section t) t
@@ -48,7 +48,7 @@ pub record SdtFits (t : SdtView) : Type 0 where
   pub services : All ServiceFits t.services
   pub section_length : 9 + length (sdt_body t) ≤ 1021
 
--- its section can be written, says the same, and is read again as it
+-- its section can be written, has the same content, and is read again as it
 pub record SdtIsRead (t : SdtView) : Type 0 where
   pub writable : IsWritable (sdt_section t)
   pub table : IsSdt (sdt_section t) t
@@ -67,7 +67,7 @@ pub record EitFits (t : EitView) : Type 0 where
   pub events : All EventFits t.events
   pub section_length : 9 + length (eit_body t) ≤ 4093
 
--- its section can be written, says the same, and is read again as it
+-- its section can be written, has the same content, and is read again as it
 pub record EitIsRead (t : EitView) : Type 0 where
   pub writable : IsWritable (eit_section t)
   pub table : IsEit (eit_section t) t
@@ -76,7 +76,7 @@ pub record EitIsRead (t : EitView) : Type 0 where
 abbrev pub EitsAreReadAgain : Type 0
 EitsAreReadAgain = (t : EitView) → EitFits t → EitIsRead t
 
--- the section of a time and date table can be written, says the same, and is read again as it
+-- the section of a time and date table can be written, has the same content, and is read again as it
 pub record TdtIsRead (t : Tdt) : Type 0 where
   pub writable : IsWritable (tdt_section t)
   pub table : IsTdt (tdt_section t) t

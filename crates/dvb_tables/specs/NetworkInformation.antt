@@ -12,7 +12,7 @@ use Rattle.dvb_tables.specs.Sequences.{IsSequence}
 use Rattle.dvb_tables.specs.TransportStreams.{TransportStreamView, IsTransportStream, transport_streams_at, transport_streams_of, transport_streams_bytes}
 use Rattle.dvb_tables.specs.declared.network_information.Nit.{Nit}
 
--- what a network information section says
+-- the content of a network information section
 pub record NitView : Type 0 where
   pub header : LongHeader
   pub network_descriptors : List ℕ
@@ -26,7 +26,7 @@ pub record IsLoopLength (bytes : List ℕ) (n : ℕ) : Type 0 where
   pub four_bits : reserved < 2 ^ 4
   pub twelve_bits : n < 2 ^ 12
 
--- a section is a network information section that says this: network_descriptors_length and the descriptors,
+-- a section is a network information section with this content: network_descriptors_length and the descriptors,
 -- transport_stream_loop_length and the transport streams
 pub record IsNit (s : SectionView) (t : NitView) : Type 0 where
   pub table_id : s.header.table_id ≡ 0x40
@@ -54,7 +54,7 @@ nit_after header (Some p) = to_the_end (entry_at 2 p.1) >>= λ loop. transport_s
   transport_streams = streams;
 })
 
--- reading: Syntax, Length, then Body where a length does not fit, the loop is not all that is left, or it ends within an entry
+-- reading: Syntax, Length, then Body if a length does not fit, the loop is not all that is left, or it ends within an entry
 unfoldable pub nit_at : SectionView → Result NitView SectionError
 nit_at s = table_header_at 0x40 1021 s >>= λ header. nit_after header (entry_at 2 s.body)
 
@@ -72,6 +72,6 @@ nit_body t =
 unfoldable pub nit_section : NitView → SectionView
 nit_section t = record { header = record { table_id = 0x40; private_indicator = true; long = Some t.header }; body = nit_body t }
 
--- what a network information table says
+-- the content of a network information table
 abbrev pub nit_view : Nit → NitView
 nit_view t = record { header = t.header; network_descriptors = t.network_descriptors.now; transport_streams = transport_streams_of t.transport_streams }

@@ -12,13 +12,13 @@ use Rattle.dvb_tables.specs.Sequences.{IsSequence}
 use Rattle.dvb_tables.specs.Services.{ServiceView, IsService, services_at, services_of, services_bytes}
 use Rattle.dvb_tables.specs.declared.service_description.Sdt.{Sdt}
 
--- what a service description section says
+-- the content of a service description section
 pub record SdtView : Type 0 where
   pub header : LongHeader
   pub original_network_id : ℕ
   pub services : List ServiceView
 
--- a section is a service description section that says this: original_network_id, eight reserved bits, the services
+-- a section is a service description section with this content: original_network_id, eight reserved bits, the services
 pub record IsSdt (s : SectionView) (t : SdtView) : Type 0 where
   pub table_id : s.header.table_id ≡ 0x42
   pub long : s.header.long ≡ Some t.header
@@ -33,7 +33,7 @@ pub record IsSdt (s : SectionView) (t : SdtView) : Type 0 where
   pub eight_bits : reserved < 2 ^ 8
   pub services : IsSequence IsService loop t.services
 
--- the table whose body begins with these three bytes and goes on with a loop of services
+-- the table whose body begins with these three bytes and continues with a loop of services
 unfoldable pub sdt_after : LongHeader → List ℕ → List ℕ → Result SdtView SectionError
 sdt_after header front loop = services_at loop >>= λ services. Ok (record {
   header = header;
@@ -45,7 +45,7 @@ sdt_after header front loop = services_at loop >>= λ services. Ok (record {
 unfoldable pub sdt_body_at : LongHeader → List ℕ → Result SdtView SectionError
 sdt_body_at header body = if nat_lt (length body) 3 then Err Body else sdt_after header (take 3 body) (drop 3 body)
 
--- reading: Syntax, Length, then Body where the section ends within the front or an entry
+-- reading: Syntax, Length, then Body if the section ends within the front or an entry
 unfoldable pub sdt_at : SectionView → Result SdtView SectionError
 sdt_at s = table_header_at 0x42 1021 s >>= λ header. sdt_body_at header s.body
 
@@ -57,6 +57,6 @@ sdt_body t = ((t.original_network_id / 256) ∷ (t.original_network_id % 256) �
 unfoldable pub sdt_section : SdtView → SectionView
 sdt_section t = record { header = record { table_id = 0x42; private_indicator = true; long = Some t.header }; body = sdt_body t }
 
--- what a service description table says
+-- the content of a service description table
 abbrev pub sdt_view : Sdt → SdtView
 sdt_view t = record { header = t.header; original_network_id = t.original_network_id; services = services_of t.services }

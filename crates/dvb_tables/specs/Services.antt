@@ -11,7 +11,7 @@ use Rattle.dvb_tables.specs.declared.service.Service.{Service}
 use Rattle.dvb_tables.specs.declared.service.Services.{Services}
 use Rattle.dvb_tables.specs.declared.service_loop.ServiceLoop.{ServiceLoop}
 
--- what an entry says of a service
+-- the content of a service
 pub record ServiceView : Type 0 where
   pub service_id : ℕ
   pub eit_schedule : Bool
@@ -44,7 +44,7 @@ pub record IsService (bytes : List ℕ) (s : ServiceView) : Type 0 where
   pub six_bits : reserved < 2 ^ 6
   pub descriptors_loop_length : length s.descriptors < 2 ^ 12
 
--- the service that an entry of a loop says
+-- the service that an entry of a loop encodes
 unfoldable pub service_of : EntryView → ServiceView
 service_of e = record {
   service_id = slice_index e.head 0 * 256 + slice_index e.head 1;
@@ -59,11 +59,11 @@ service_of e = record {
 unfoldable pub services_in : List ℕ → List ServiceView
 services_in bytes = map service_of (entries_in 5 bytes)
 
--- the services of a loop; Body where it ends within an entry
+-- the services of a loop; Body if it ends within an entry
 unfoldable pub services_at : List ℕ → Result (List ServiceView) SectionError
 services_at bytes = if is_some (loop_at 5 bytes) then Ok (services_in bytes) else Err Body
 
--- the services that are left of an iterator over a loop
+-- the remaining services of an iterator over a loop
 unfoldable pub services_of : Services → List ServiceView
 services_of s = services_in s.bytes.now
 

@@ -6,7 +6,7 @@ use Rattle.psi_tables.specs.declared.error.SectionError.TheVariants.{Syntax, Bod
 use Rattle.psi_tables.specs.declared.section.LongHeader.{LongHeader}
 use Rattle.dvb_tables.specs.declared.time_and_date.Tdt.{Tdt}
 
--- a section is a time and date section that says this: the short form, with UTC_time alone
+-- a section is a time and date section with this content: the short form, with UTC_time alone
 pub record IsTdt (s : SectionView) (t : Tdt) : Type 0 where
   pub table_id : s.header.table_id ≡ 0x70
   pub short : s.header.long ≡ None

@@ -9,7 +9,7 @@ use Rattle.dvb_tables.specs.declared.transport_stream.TransportStream.{Transport
 use Rattle.dvb_tables.specs.declared.transport_stream.TransportStreams.{TransportStreams}
 use Rattle.dvb_tables.specs.declared.transport_stream_loop.TransportStreamLoop.{TransportStreamLoop}
 
--- what an entry says of a transport stream
+-- the content of a transport stream
 pub record TransportStreamView : Type 0 where
   pub transport_stream_id : ℕ
   pub original_network_id : ℕ
@@ -36,7 +36,7 @@ pub record IsTransportStream (bytes : List ℕ) (t : TransportStreamView) : Type
   pub four_bits : reserved < 2 ^ 4
   pub transport_descriptors_length : length t.descriptors < 2 ^ 12
 
--- the transport stream that an entry of a loop says
+-- the transport stream that an entry of a loop encodes
 unfoldable pub transport_stream_of : EntryView → TransportStreamView
 transport_stream_of e = record {
   transport_stream_id = slice_index e.head 0 * 256 + slice_index e.head 1;
@@ -48,11 +48,11 @@ transport_stream_of e = record {
 unfoldable pub transport_streams_in : List ℕ → List TransportStreamView
 transport_streams_in bytes = map transport_stream_of (entries_in 6 bytes)
 
--- the transport streams of a loop; Body where it ends within an entry
+-- the transport streams of a loop; Body if it ends within an entry
 unfoldable pub transport_streams_at : List ℕ → Result (List TransportStreamView) SectionError
 transport_streams_at bytes = if is_some (loop_at 6 bytes) then Ok (transport_streams_in bytes) else Err Body
 
--- the transport streams that are left of an iterator over a loop
+-- the remaining transport streams of an iterator over a loop
 unfoldable pub transport_streams_of : TransportStreams → List TransportStreamView
 transport_streams_of t = transport_streams_in t.bytes.now
 

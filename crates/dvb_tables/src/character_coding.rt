@@ -43,7 +43,7 @@ impl<const N: usize> Model for Text<N> {
 }
 
 impl<const N: usize> Text<N> {
-    /// Returns the coded text, or 1 TooLong where it takes more than `N` bytes.
+    /// Returns the coded text, or 1 TooLong if it takes more than `N` bytes.
     pub fn new(text: &str) -> Result<Self, TextError>
         ensures fits { IsOk result ↔ (length (text_bytes text.now) ≤ N) }
         ensures value { IfOk result (λ t. t ≡ text_bytes text.now) }
@@ -76,7 +76,7 @@ pub fn is_plain(bytes: &[u8]) -> bool
     bytes.iter().all(|byte| is_plain_character(*byte))
 }
 
-// An ASCII letter, a digit or a space.
+// Returns whether a byte is an ASCII letter, a digit or a space.
 #[tactic(auto, unfolding(crate::specs::CharacterCoding::is_plain_character))]
 fn is_plain_character(byte: u8) -> bool
     ensures { result ≡ is_plain_character byte }

@@ -30,7 +30,7 @@ pub fn duration_digits(seconds: u32) -> [u8; 3]
     ]
 }
 
-// Two decimal digits in one byte, the tens in its upper half.
+// Returns two decimal digits in one byte, the tens in its upper half.
 fn coded_decimal(number: u8) -> u8
     requires { number < 100 }
     ensures { result ≡ coded_decimal number }

@@ -21,7 +21,7 @@ pub fn are_whole_descriptors(bytes: &[u8]) -> bool
     true
 }
 
-// The descriptor at the front, and what follows it: these are whole descriptors where all bytes are.
+// Returns the descriptor at the front, and what follows it: whole descriptors if all bytes are.
 #[tactic(auto, using(crate::proofs::WholeParts::front_shorter, crate::proofs::WholeParts::front_some, crate::proofs::WholeParts::front_none))]
 fn first(bytes: &[u8]) -> Option<(Descriptor<'_>, &[u8])>
     ensures shorter { IfSome result (λ p. length p.1.now < length bytes.now) }

@@ -34,7 +34,7 @@ impl<'a> EventEntries<'a> {
     ghost use Rattle.bit_fields.specs.Reading.{Gives};
     ghost use Rattle.dvb_tables.specs.EventEntries.{events_at, events_in, events_of};
 
-    // The events of a whole loop.
+    // Returns the events of a whole loop.
     #[tactic(auto, unfolding(crate::specs::EventEntries::events_of))]
     pub(crate) fn of_whole(bytes: &'a [u8]) -> EventEntries<'a>
         requires { is_some (loop_at 12 bytes.now) ≡ true }
@@ -43,7 +43,7 @@ impl<'a> EventEntries<'a> {
         EventEntries { bytes }
     }
 
-    /// Returns the events that bytes are; `Body` where they end within an entry.
+    /// Returns the events that bytes are; `Body` if they end within an entry.
     #[tactic(auto, unfolding(crate::specs::EventEntries::events_at, crate::specs::EventEntries::events_of))]
     pub fn read(bytes: &'a [u8]) -> Result<EventEntries<'a>, SectionError>
         ensures { Gives events_of result (events_at bytes.now) }
@@ -84,7 +84,7 @@ impl<'a> EventEntry<'a> {
     ghost use Rattle.psi_tables.specs.Loops.{entry_view};
     ghost use Rattle.dvb_tables.specs.EventEntries.{event_view, event_of, event_status, event_bytes};
 
-    // The event that an entry of the loop says.
+    // Returns the event that an entry of the loop encodes.
     #[tactic(auto, unfolding(crate::specs::EventEntries::event_of))]
     fn of_entry(from: Entry<'a>) -> EventEntry<'a>
         requires { length from.head.now ≡ 12 }
@@ -117,7 +117,7 @@ impl<'a> EventEntry<'a> {
         append(out, self.descriptors);
     }
 
-    // The two bytes before the descriptors.
+    // Returns the two bytes before the descriptors.
     #[tactic(auto, unfolding(crate::specs::EventEntries::event_status))]
     fn status(&self) -> [u8; 2]
         requires { length self.now.descriptors.now < 4096 }

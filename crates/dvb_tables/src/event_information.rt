@@ -40,14 +40,14 @@ impl EitPf {
     /// Reads a section as an EIT of present and following events.
     ///
     /// Refusals: `Syntax` for another table_id or the short form; `Length` for a section_length over
-    /// 4,093; `Body` where the section ends before the loop or within an event. Times and descriptors are
+    /// 4,093; `Body` if the section ends before the loop or within an event. Times and descriptors are
     /// kept as bytes, digits or not, whole or not; the bit after section_syntax_indicator and the
     /// reserved bits are not looked at.
     pub fn read(section: &Section<'_>) -> Result<EitPf, SectionError>
-        // What is read is what the section says.
+        // The section encodes this EIT.
         ensures found { IfOk result (λ eit. IsEit (section_view section.now) (eit_view eit)) }
 
-        // What the section says is read.
+        // Any EIT that the section encodes is returned.
         ensures only { (t : EitView) → IsEit (section_view section.now) t → Gives eit_view result (Ok t) }
 
         // Which refusal it is.
@@ -138,7 +138,7 @@ impl EitPf {
     }
 }
 
-// The identifiers before the events.
+// Returns the identifiers before the events.
 #[tactic(auto, unfolding(crate::specs::EventInformation::two_numbers))]
 fn front(transport_stream_id: u16, original_network_id: u16) -> [u8; 4]
     ensures { result ≡ two_numbers transport_stream_id original_network_id }

@@ -37,7 +37,7 @@ impl EventLoop {
         }
     }
 
-    /// Returns the events that bytes are; `Body` where they end within an entry.
+    /// Returns the events that bytes are; `Body` if they end within an entry.
     #[tactic(auto, unfolding(crate::specs::EventInformation::event_loop_of, crate::specs::EventEntries::events_at))]
     pub fn read(bytes: &[u8]) -> Result<EventLoop, SectionError>
         requires { length bytes.now ≤ GREATEST_EVENT_LOOP }
@@ -80,7 +80,7 @@ impl EventLoop {
         append(out, bytes);
     }
 
-    /// Appends an event, or refuses it as `TooLong` where the section has no room for it.
+    /// Appends an event, or refuses it as `TooLong` if the section has no room for it.
     #[tactic(auto, unfolding(crate::specs::EventInformation::event_loop_of))]
     pub fn push(&mut self, event: &EventEntry<'_>) -> Result<(), SectionError>
         ensures variant { IsOk result ↔ (length (events_bytes (event_loop_of self.old ++ event_view event.now ∷ []))

@@ -38,14 +38,14 @@ impl<'a> Nit<'a> {
     /// Reads a section as a NIT.
     ///
     /// Refusals: `Syntax` for another table_id or the short form; `Length` for a section_length over
-    /// 1,021; `Body` where network_descriptors_length passes the end, transport_stream_loop_length does
+    /// 1,021; `Body` if network_descriptors_length passes the end, transport_stream_loop_length does
     /// not end the section, or the loop ends within a transport stream. Descriptors are kept as bytes,
     /// whole or not; reserved bits and the bit after section_syntax_indicator are not looked at.
     pub fn read(section: &Section<'a>) -> Result<Nit<'a>, SectionError>
-        // What is read is what the section says.
+        // The section encodes this NIT.
         ensures found { IfOk result (λ nit. IsNit (section_view section.now) (nit_view nit)) }
 
-        // What the section says is read.
+        // Any NIT that the section encodes is returned.
         ensures only { (t : NitView) → IsNit (section_view section.now) t → Gives nit_view result (Ok t) }
 
         // Which refusal it is.
@@ -87,7 +87,7 @@ impl<'a> Nit<'a> {
 }
 
 impl Nit<'_> {
-    /// Leaves exactly the section in `out`, or, where section_length would be over 1,021 (`TooLong`),
+    /// Leaves exactly the section in `out`, or, if section_length would be over 1,021 (`TooLong`),
     /// `out` as it was. Reserved bits are written 1. It takes no memory.
     #[tactic(auto, using(crate::proofs::BodyLengths::nit_body_length), unfolding(psi_tables::specs::Encoding::section_bytes, crate::specs::NetworkInformation::nit_section))]
     pub fn write_to(&self, out: &mut ArrayVec<u8, 4096>) -> Result<(), SectionError>
@@ -147,14 +147,14 @@ impl Nit<'_> {
     }
 }
 
-// Whether descriptors and transport streams of these lengths pass section_length's greatest.
+// Returns whether descriptors and transport streams of these lengths pass section_length's greatest.
 fn is_too_long(network: usize, streams: usize) -> bool
     ensures { IsTrue result ↔ (GREATEST_TABLE_LENGTH < 13 + network + streams) }
 {
     network > GREATEST_TABLE_LENGTH - 13 || streams > GREATEST_TABLE_LENGTH - 13 - network
 }
 
-// A number of bytes after four reserved bits.
+// Returns a number of bytes after four reserved bits.
 #[tactic(auto, unfolding(crate::specs::NetworkInformation::loop_length_bytes))]
 fn loop_length_bytes(count: usize) -> [u8; 2]
     requires { count < 4096 }
@@ -164,7 +164,7 @@ fn loop_length_bytes(count: usize) -> [u8; 2]
     [0xf0 + high, low]
 }
 
-// The bytes that two bytes count, which have to be all that is left.
+// Returns the bytes that two bytes count, which have to be all that is left.
 #[tactic(auto, unfolding(crate::specs::NetworkInformation::to_the_end))]
 fn to_the_end(bytes: &[u8]) -> Result<&[u8], SectionError>
     ensures { Gives (λ s. s.now) result (to_the_end (entry_at 2 bytes.now)) }

@@ -1,4 +1,4 @@
-//! Which event of a service is present, and which follows (EN 300 468, 5.2.4).
+//! The present and the following event of a service (EN 300 468, 5.2.4).
 
 ghost use Rattle.std.specs.Prelude.{◌≡◌, position};
 ghost use Rattle.dvb_tables.specs.Schedule.{is_present, is_following};
@@ -30,7 +30,7 @@ fn following_place(events: &[Event], moment: u64) -> Option<usize>
     events.iter().position(|event| is_following(moment, event))
 }
 
-// Whether an event is on at a moment.
+// Returns whether an event is on at a moment.
 #[tactic(auto, unfolding(crate::specs::Schedule::is_present))]
 fn is_present(moment: u64, event: &Event) -> bool
     ensures { result ≡ is_present moment event.now }
@@ -38,7 +38,7 @@ fn is_present(moment: u64, event: &Event) -> bool
     event.start <= moment && moment - event.start < event.duration as u64
 }
 
-// Whether an event begins after a moment.
+// Returns whether an event begins after a moment.
 #[tactic(auto, unfolding(crate::specs::Schedule::is_following))]
 fn is_following(moment: u64, event: &Event) -> bool
     ensures { result ≡ is_following moment event.now }

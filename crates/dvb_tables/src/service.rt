@@ -34,7 +34,7 @@ impl<'a> Services<'a> {
     ghost use Rattle.bit_fields.specs.Reading.{Gives};
     ghost use Rattle.dvb_tables.specs.Services.{services_at, services_in, services_of};
 
-    // The services of a whole loop.
+    // Returns the services of a whole loop.
     #[tactic(auto, unfolding(crate::specs::Services::services_of))]
     pub(crate) fn of_whole(bytes: &'a [u8]) -> Services<'a>
         requires { is_some (loop_at 5 bytes.now) ≡ true }
@@ -43,7 +43,7 @@ impl<'a> Services<'a> {
         Services { bytes }
     }
 
-    /// Returns the services that bytes are; `Body` where they end within an entry.
+    /// Returns the services that bytes are; `Body` if they end within an entry.
     #[tactic(auto, unfolding(crate::specs::Services::services_at, crate::specs::Services::services_of))]
     pub fn read(bytes: &'a [u8]) -> Result<Services<'a>, SectionError>
         ensures { Gives services_of result (services_at bytes.now) }
@@ -108,7 +108,7 @@ impl<'a> Service<'a> {
     ghost use Rattle.psi_tables.specs.Loops.{entry_view};
     ghost use Rattle.dvb_tables.specs.Services.{service_view, service_of, service_front, service_bytes};
 
-    // The service that an entry of the loop says.
+    // Returns the service that an entry of the loop encodes.
     #[tactic(auto, unfolding(crate::specs::Services::service_of))]
     fn of_entry(from: Entry<'a>) -> Service<'a>
         requires { length from.head.now ≡ 5 }
@@ -139,7 +139,7 @@ impl<'a> Service<'a> {
         append(out, self.descriptors);
     }
 
-    // The five bytes before the descriptors.
+    // Returns the five bytes before the descriptors.
     #[tactic(auto, unfolding(crate::specs::Services::service_front))]
     fn front(&self) -> [u8; 5]
         requires { length self.now.descriptors.now < 4096 }

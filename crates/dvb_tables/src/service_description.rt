@@ -36,13 +36,13 @@ impl<'a> Sdt<'a> {
     /// Reads a section as an SDT.
     ///
     /// Refusals: `Syntax` for another table_id or the short form; `Length` for a section_length over
-    /// 1,021; `Body` where the section ends before the loop or within a service. Descriptors are kept as
+    /// 1,021; `Body` if the section ends before the loop or within a service. Descriptors are kept as
     /// bytes, whole or not; reserved bits and the bit after section_syntax_indicator are not looked at.
     pub fn read(section: &Section<'a>) -> Result<Sdt<'a>, SectionError>
-        // What is read is what the section says.
+        // The section encodes this SDT.
         ensures found { IfOk result (λ sdt. IsSdt (section_view section.now) (sdt_view sdt)) }
 
-        // What the section says is read.
+        // Any SDT that the section encodes is returned.
         ensures only { (t : SdtView) → IsSdt (section_view section.now) t → Gives sdt_view result (Ok t) }
 
         // Which refusal it is.
@@ -82,7 +82,7 @@ impl<'a> Sdt<'a> {
 }
 
 impl Sdt<'_> {
-    /// Leaves exactly the section in `out`, or, where section_length would be over 1,021 (`TooLong`),
+    /// Leaves exactly the section in `out`, or, if section_length would be over 1,021 (`TooLong`),
     /// `out` as it was. Reserved bits are written 1. It takes no memory.
     #[tactic(auto, using(crate::proofs::BodyLengths::sdt_body_length), unfolding(psi_tables::specs::Encoding::section_bytes, crate::specs::ServiceDescription::sdt_section))]
     pub fn write_to(&self, out: &mut ArrayVec<u8, 4096>) -> Result<(), SectionError>

@@ -41,7 +41,7 @@ impl ServiceLoop {
         Services::of_whole(self.bytes.as_slice())
     }
 
-    /// Adds one at the end, or refuses it as `TooLong` where the section has no room for it.
+    /// Adds a service at the end, or refuses it as `TooLong` if the section has no room for it.
     #[tactic(auto, unfolding(crate::specs::Services::service_loop_of))]
     pub fn push(&mut self, service: &Service<'_>) -> Result<(), SectionError>
         ensures variant { IsOk result ↔ (length (services_bytes (service_loop_of self.old ++ service_view service.now

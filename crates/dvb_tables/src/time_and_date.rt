@@ -26,10 +26,10 @@ impl Tdt {
     /// Refusals: `Syntax` for another table_id or the long form; `Body` for a section_length other than
     /// 5. The bit after section_syntax_indicator is not looked at.
     pub fn read(section: &Section<'_>) -> Result<Tdt, SectionError>
-        // What is read is what the section says.
+        // The section encodes this TDT.
         ensures found { IfOk result (λ tdt. IsTdt (section_view section.now) tdt) }
 
-        // What the section says is read.
+        // Any TDT that the section encodes is returned.
         ensures only { (t : Tdt) → IsTdt (section_view section.now) t → result ≡ Ok t }
 
         // Which refusal it is.

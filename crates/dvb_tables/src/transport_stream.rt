@@ -27,7 +27,7 @@ impl<'a> TransportStreams<'a> {
     ghost use Rattle.dvb_tables.specs.TransportStreams.{transport_streams_at, transport_streams_in};
     ghost use Rattle.dvb_tables.specs.TransportStreams.{transport_streams_of};
 
-    // The transport streams of a whole loop.
+    // Returns the transport streams of a whole loop.
     #[tactic(auto, unfolding(crate::specs::TransportStreams::transport_streams_of))]
     pub(crate) fn of_whole(bytes: &'a [u8]) -> TransportStreams<'a>
         requires { is_some (loop_at 6 bytes.now) ≡ true }
@@ -36,7 +36,7 @@ impl<'a> TransportStreams<'a> {
         TransportStreams { bytes }
     }
 
-    /// Returns the transport streams that bytes are; `Body` where they end within an entry.
+    /// Returns the transport streams that bytes are; `Body` if they end within an entry.
     #[tactic(auto, unfolding(crate::specs::TransportStreams::transport_streams_at, crate::specs::TransportStreams::transport_streams_of))]
     pub fn read(bytes: &'a [u8]) -> Result<TransportStreams<'a>, SectionError>
         ensures { Gives transport_streams_of result (transport_streams_at bytes.now) }
@@ -103,7 +103,7 @@ impl<'a> TransportStream<'a> {
     ghost use Rattle.dvb_tables.specs.TransportStreams.{transport_stream_view, transport_stream_of};
     ghost use Rattle.dvb_tables.specs.TransportStreams.{transport_stream_front, transport_stream_bytes};
 
-    // The transport stream that an entry of the loop says.
+    // Returns the transport stream that an entry of the loop encodes.
     #[tactic(auto, unfolding(crate::specs::TransportStreams::transport_stream_of))]
     fn of_entry(from: Entry<'a>) -> TransportStream<'a>
         requires { length from.head.now ≡ 6 }
@@ -129,7 +129,7 @@ impl<'a> TransportStream<'a> {
         append(out, self.descriptors);
     }
 
-    // The six bytes before the descriptors.
+    // Returns the six bytes before the descriptors.
     #[tactic(auto, unfolding(crate::specs::TransportStreams::transport_stream_front))]
     fn front(&self) -> [u8; 6]
         requires { length self.now.descriptors.now < 4096 }

@@ -42,7 +42,7 @@ impl TransportStreamLoop {
         TransportStreams::of_whole(self.bytes.as_slice())
     }
 
-    /// Adds one at the end, or refuses it as `TooLong` where the section has no room for it.
+    /// Adds a transport stream at the end, or refuses it as `TooLong` if the section has no room for it.
     #[tactic(auto, unfolding(crate::specs::TransportStreams::transport_stream_loop_of))]
     pub fn push(&mut self, transport_stream: &TransportStream<'_>) -> Result<(), SectionError>
         ensures variant { IsOk result ↔ (length (transport_streams_bytes (transport_stream_loop_of self.old

@@ -5,24 +5,24 @@ use Rattle.dvb_texts.specs.declared.character_tables.TheConstants.{ISO_6937, ISO
 use Rattle.dvb_texts.specs.declared.character_tables.TheConstants.{ISO_8859_7, ISO_8859_8, ISO_8859_9, ISO_8859_10, ISO_8859_11, ISO_8859_13, ISO_8859_14}
 use Rattle.dvb_texts.specs.declared.character_tables.TheConstants.{ISO_8859_15}
 
--- what stands for a character that can't be read: U+FFFD
+-- the replacement for a character that can't be read: U+FFFD
 abbrev pub unread : ℕ
 unread = 0xFFFD
 
 -- 1. One byte a character
 
--- a byte of a table of 0xA0 to 0xFF: those below are ASCII and control codes
+-- a byte of a table of 0xA0 to 0xFF: bytes below 0xA0 are ASCII and control codes
 unfoldable pub table_character : List ℕ → ℕ → ℕ
 table_character table b = if nat_lt b 0xA0 then b else slice_index table (b - 0xA0)
 
 abbrev pub by_table : List ℕ → List ℕ → List ℕ
 by_table table bytes = map (table_character table) bytes
 
--- of a table that is not read ASCII and control codes
+-- a byte of a table that is not read: only ASCII and control codes are known
 unfoldable pub unread_character : ℕ → ℕ
 unread_character b = if nat_lt b 0xA0 then b else unread
 
--- of part 1 of ISO/IEC 8859 each byte is its character
+-- by part 1 of ISO/IEC 8859 each byte is its character
 unfoldable pub latin_character : ℕ → ℕ
 latin_character b = b
 
@@ -59,7 +59,7 @@ marked (p ∷ ps) mark letter = if is_pair p mark letter then p.1 else marked ps
 unfoldable pub wide_character : ℕ → ℕ → ℕ
 wide_character high low = if nat_le 0xD8 high && nat_lt high 0xE0 then unread else high * 256 + low
 
--- whether a byte and the one after it are a character: UTF-16, if wide, else a mark of ISO/IEC 6937
+-- whether a byte and the next byte are one character: UTF-16, if wide, otherwise a mark of ISO/IEC 6937
 unfoldable pub is_double : Bool → ℕ → Bool
 is_double wide b = if wide then true else nat_le 0xC1 b && nat_lt b 0xD0
 
@@ -69,7 +69,7 @@ double_character wide b c = if wide then wide_character b c else marked ISO_6937
 unfoldable pub single_character : Bool → ℕ → ℕ
 single_character wide b = if wide then unread else table_character ISO_6937 b
 
--- ISO/IEC 10646 in two bytes each, if wide, else ISO/IEC 6937
+-- ISO/IEC 10646 in two bytes each, if wide, otherwise ISO/IEC 6937
 unfoldable pub in_doubles : Bool → List ℕ → List ℕ
 in_doubles wide [] = []
 in_doubles wide (b ∷ []) = single_character wide b ∷ []

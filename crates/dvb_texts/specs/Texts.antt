@@ -8,11 +8,11 @@ use Rattle.dvb_texts.specs.CharacterTables.{unread, unread_character, by_part, i
 
 -- 1. Characters
 
--- of UTF-8, where all bytes are
+-- the characters of UTF-8, if all bytes are UTF-8
 unfoldable pub by_utf8 : List ℕ → List ℕ
 by_utf8 bytes = if is_utf8 bytes then chars bytes else map unread_character bytes
 
--- of a text that names no table: UTF-8 where all bytes are, which is written so too, else the default table, ISO/IEC 6937
+-- a text that names no table: UTF-8 if all bytes are UTF-8, as texts are also written; otherwise the default table, ISO/IEC 6937
 unfoldable pub by_default_table : List ℕ → List ℕ
 by_default_table bytes = if is_utf8 bytes then chars bytes else in_doubles false bytes
 
@@ -21,8 +21,7 @@ unfoldable pub by_named_part : List ℕ → List ℕ
 by_named_part (first ∷ part ∷ bytes) = if first == 0 then by_part part bytes else map unread_character bytes
 by_named_part bytes = map unread_character bytes
 
--- after a first byte that names a table (table A.3): 0x15 UTF-8, 0x11 ISO/IEC 10646, 1 to 11 the parts 5 to 15 of ISO/IEC 8859,
--- of which there is no part 12
+-- after a first byte that names a table (table A.3): 0x15 UTF-8, 0x11 ISO/IEC 10646, 1 to 11 the parts 5 to 15 of ISO/IEC 8859, without a part 12
 unfoldable pub by_selected_table : ℕ → List ℕ → List ℕ
 by_selected_table selector bytes =
     if selector == 0x15 then by_utf8 bytes
@@ -36,7 +35,7 @@ unfoldable pub read_characters : List ℕ → List ℕ
 read_characters [] = []
 read_characters (b ∷ bytes) = if nat_lt b 0x20 then by_selected_table b bytes else by_default_table (b ∷ bytes)
 
--- a control code of two bytes, 0xE080 to 0xE09F, is that of one byte, and a question mark stands for what can't be read
+-- a control code of two bytes, 0xE080 to 0xE09F, becomes the code of one byte, and a character that can't be read a question mark
 unfoldable pub shown_character : ℕ → ℕ
 shown_character c = if nat_le 0xE080 c && nat_lt c 0xE0A0 then c - 0xE000 else (if c == unread then 0x3F else c)
 
@@ -47,7 +46,7 @@ characters bytes = map shown_character (read_characters bytes)
 unfoldable pub has_unread : List ℕ → Bool
 has_unread bytes = list_any (λ c. c == unread) (read_characters bytes)
 
--- those that are no control characters
+-- the characters that are no control characters
 abbrev pub printable : List ℕ → List ℕ
 printable cs = filter (λ c. not (is_control c)) cs
 

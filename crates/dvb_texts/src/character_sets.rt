@@ -10,10 +10,10 @@ use crate::character_tables::{
 };
 use std::alloc::{AllocError, Allocator};
 
-/// What stands for a character that can't be read.
+/// The replacement for a character that can't be read.
 pub(crate) const UNREAD: char = '\u{fffd}';
 
-// A byte of a table.
+// Returns the character of a byte, by a table.
 #[tactic(auto, unfolding(crate::specs::CharacterTables::table_character))]
 fn table_character(table: &[char; 96], byte: u8) -> char
     ensures { result ≡ spec.table_character table.now byte }
@@ -39,7 +39,7 @@ fn by_table<A: Allocator>(
     Ok(characters)
 }
 
-// A byte of ISO/IEC 8859-1.
+// Returns the character of a byte of ISO/IEC 8859-1.
 #[tactic(auto, unfolding(crate::specs::CharacterTables::latin_character))]
 fn latin_character(byte: u8) -> char
     ensures { result ≡ spec.latin_character byte }
@@ -56,7 +56,7 @@ fn latin_characters<A: Allocator>(alloc: A, bytes: &[u8]) -> Result<Vec<char, A>
         .collect(alloc)
 }
 
-// A byte of a table that is not read.
+// Returns the character of a byte by a table that is not read.
 #[tactic(auto, unfolding(crate::specs::CharacterTables::unread_character))]
 fn unread_character(byte: u8) -> char
     ensures { result ≡ spec.unread_character byte }
@@ -105,14 +105,14 @@ pub(crate) fn by_part<A: Allocator>(
     }
 }
 
-// Whether it is this mark and letter.
+// Returns whether a pair has this mark and this letter.
 fn is_pair(pair: &((u8, u8), char), mark: u8, letter: u8) -> bool
     ensures { result ≡ spec.is_pair pair.now mark letter }
 {
     pair.0.0 == mark && pair.0.1 == letter
 }
 
-// The character of a diacritical mark and a letter.
+// Returns the character of a diacritical mark and a letter.
 fn marked(pairs: &[((u8, u8), char)], mark: u8, letter: u8) -> char
     ensures { result ≡ spec.marked pairs.now mark letter }
 {
@@ -124,7 +124,7 @@ fn marked(pairs: &[((u8, u8), char)], mark: u8, letter: u8) -> char
     UNREAD
 }
 
-// Two bytes of UTF-16.
+// Returns the character of two bytes of UTF-16.
 #[tactic(auto, unfolding(crate::specs::CharacterTables::wide_character))]
 fn wide_character(high: u8, low: u8) -> char
     ensures { result ≡ spec.wide_character high low }
@@ -138,7 +138,7 @@ fn wide_character(high: u8, low: u8) -> char
     }
 }
 
-// Whether a byte and the one after it are a character.
+// Returns whether a byte and the next byte are one character.
 #[tactic(auto, unfolding(crate::specs::CharacterTables::is_double))]
 fn is_double(wide: bool, byte: u8) -> bool
     ensures { result ≡ spec.is_double wide byte }
@@ -172,7 +172,7 @@ fn single_character(wide: bool, byte: u8) -> char
     }
 }
 
-// The character that begins with a byte, and the bytes after it.
+// Returns the character that begins with a byte, and the bytes after it.
 #[tactic(auto, unfolding(crate::specs::CharacterTables::next_character))]
 fn next_character(wide: bool, first: u8, rest: &[u8]) -> (char, &[u8])
     ensures value { (result.0, result.1.now) ≡ spec.next_character wide first rest.now }
@@ -190,7 +190,7 @@ fn next_character(wide: bool, first: u8, rest: &[u8]) -> (char, &[u8])
     }
 }
 
-/// Returns the characters of ISO/IEC 10646 in two bytes each, if `wide`, else those of ISO/IEC 6937.
+/// Returns the characters of ISO/IEC 10646 in two bytes each, if `wide`; otherwise the characters of ISO/IEC 6937.
 pub(crate) fn in_doubles<A: Allocator>(
     alloc: A,
     wide: bool,

@@ -1,7 +1,7 @@
 //! The texts of service information as characters (EN 300 468, annex A).
 //!
-//! The first bytes of a text name its character table (`specs/CharacterTables`), by which `decode_text` reads its
-//! characters, as UTF-8 (`specs/Texts`).
+//! The first bytes of a text name its character table (`specs/CharacterTables`); `decode_text` reads its characters by
+//! this table, as UTF-8 (`specs/Texts`).
 #![tactic(auto)]
 
 mod character_sets;

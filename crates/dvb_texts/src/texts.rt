@@ -20,7 +20,7 @@ const NAMED_PART: u8 = 0x10;
 // The least first byte that names no character table.
 const FIRST_CHARACTER: u8 = 0x20;
 
-// A text whose bytes are UTF-8.
+// Returns the characters of a text whose bytes are UTF-8.
 fn utf8_text(bytes: &[u8]) -> Option<&str>
     ensures { option_map (λ text. text.now) result ≡ (if is_utf8 bytes.now then Some bytes.now else None) }
 {
@@ -36,7 +36,7 @@ fn utf8_characters<A: Allocator>(alloc: A, text: &str) -> Result<Vec<char, A>, A
     text.chars().collect(alloc)
 }
 
-// The characters of UTF-8.
+// Returns the characters of UTF-8.
 #[tactic(auto, unfolding(crate::specs::Texts::by_utf8))]
 fn by_utf8<A: Allocator>(alloc: A, bytes: &[u8]) -> Result<Vec<char, A>, AllocError>
     ensures { IfOk result (λ cs. cs.items ≡ spec.by_utf8 bytes.now) }
@@ -47,7 +47,7 @@ fn by_utf8<A: Allocator>(alloc: A, bytes: &[u8]) -> Result<Vec<char, A>, AllocEr
     }
 }
 
-// The characters of a text that names no table: UTF-8 where its bytes are, else of the default table.
+// Returns the characters of a text that names no table: UTF-8 if its bytes are, otherwise the default table.
 #[tactic(auto, unfolding(crate::specs::Texts::by_default_table))]
 fn by_default_table<A: Allocator>(alloc: A, bytes: &[u8]) -> Result<Vec<char, A>, AllocError>
     ensures { IfOk result (λ cs. cs.items ≡ spec.by_default_table bytes.now) }
@@ -58,7 +58,7 @@ fn by_default_table<A: Allocator>(alloc: A, bytes: &[u8]) -> Result<Vec<char, A>
     }
 }
 
-// The characters of the part of ISO/IEC 8859 that two bytes name.
+// Returns the characters of the part of ISO/IEC 8859 that two bytes name.
 #[tactic(auto, unfolding(crate::specs::Texts::by_named_part))]
 fn by_named_part<A: Allocator>(alloc: A, bytes: &[u8]) -> Result<Vec<char, A>, AllocError>
     ensures { IfOk result (λ cs. cs.items ≡ spec.by_named_part bytes.now) }
@@ -114,7 +114,8 @@ fn read_characters<A: Allocator>(alloc: A, bytes: &[u8]) -> Result<Vec<char, A>,
     }
 }
 
-// A character as it is shown: a control code of two bytes as that of one, and a question mark for what can't be read.
+// Returns a character as it is shown: a control code of two bytes as the code of one byte, and a question mark for an
+// unreadable character.
 #[tactic(auto, unfolding(crate::specs::Texts::shown_character))]
 fn shown_character(character: char) -> char
     ensures { result ≡ spec.shown_character character }
@@ -145,7 +146,8 @@ pub fn has_unread<A: Allocator>(alloc: A, bytes: &[u8]) -> Result<bool, AllocErr
     Ok(read.iter().any(|character| *character == UNREAD))
 }
 
-// Whether a text has at most `max_bytes` bytes as it is written: one more than its own where it is marked as UTF-8.
+// Returns whether a text has at most `max_bytes` bytes as it is written: one more than its own if it is marked as
+// UTF-8.
 #[tactic(auto, unfolding(crate::specs::Texts::fits))]
 fn fits(max_bytes: usize, text: &[u8]) -> bool
     ensures { result ≡ spec.fits max_bytes text.now }
@@ -176,7 +178,7 @@ fn push_fitting<A: Allocator>(
     Ok(has_room)
 }
 
-// The first characters, as many as fit.
+// Returns the first characters, as many as fit.
 fn fitting<A: Allocator>(
     alloc: A,
     max_bytes: usize,

@@ -18,7 +18,7 @@ declared_rate rate = min rate 200_000_000
 abbrev pub declared_bytes : ℕ → ℕ
 declared_bytes bits = min (bits / 8) 10_000_000
 
--- of video the main buffer is EB
+-- the buffers of video; the main buffer is EB
 abbrev pub elementary : VideoBuffers → Buffers
 elementary v = record { rx = declared_rate v.rx; main = declared_bytes v.ebs }
 
@@ -34,8 +34,7 @@ aac_buffers channels =
 abbrev pub pcm_buffers : ℕ → Buffers
 pcm_buffers pairs = record { rx = declared_rate (3_225_600 * pairs); main = 65_536 }
 
--- JPEG 2000: 1.2 times its greatest rate, and the buffer that it says, in bytes; the greatest that a description can declare where it
--- says none
+-- JPEG 2000: 1.2 times its greatest rate, and its buffer size, in bytes; the greatest values that a description can declare if it has none
 unfoldable pub j2k_buffers : J2kLimits → Buffers
 j2k_buffers l = record {
   rx = if l.max_bit_rate == 0 then 200_000_000 else declared_rate (max (l.max_bit_rate * 12 / 10) 2_000_000);
@@ -69,16 +68,16 @@ joined_size main before = min (main + option_map_or (λ m. m.size) before 0) 10_
 abbrev pub joined_buffers_of : Coding → Buffers
 joined_buffers_of coding = record { rx = (buffers_of coding).rx; main = joined_size (buffers_of coding).main (multiplexing_of coding) }
 
--- what is said of its coding by a stream that keeps to no size of a buffer: its level's greatest
+-- the coding of a stream that keeps to no buffer size: with the greatest size of its level
 unfoldable pub without_size : Coding → Coding
 without_size (Mpeg s) = Mpeg (record { profile_and_level = s.profile_and_level; bit_rate = s.bit_rate; vbv_buffer_size = 0 })
 without_size (Avc s) = Avc (record { level = s.level; cpb_br_nal_factor = s.cpb_br_nal_factor; cpb_size = 0 })
 without_size coding = coding
 
--- a stream with a unit of `size` bytes does not keep to a buffer that does not hold it
+-- the coding of a stream with a unit of `size` bytes: it does not keep to a buffer that does not hold the unit
 unfoldable pub coding_holding : ℕ → Coding → Coding
 coding_holding size coding = if nat_lt (buffers_of coding).main size then without_size coding else coding
 
--- those that are given for a PID, the first where there are more
+-- the buffers that are given for a PID, the first if there are several
 unfoldable pub given_buffers : List PidBuffers → ℕ → Option Buffers
 given_buffers given pid = option_map (λ one. one.buffers) (find (λ one. one.pid == pid) given)

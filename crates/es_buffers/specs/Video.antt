@@ -1,4 +1,4 @@
--- The buffers that a decoder has for video (ISO/IEC 13818-1, 2.4.2.3), by its level and what it says of itself.
+-- The buffers of a decoder for video (ISO/IEC 13818-1, 2.4.2.3), by the level and the headers of the stream.
 use Rattle.std.specs.Prelude.{ℕ, ◌+◌, ◌-◌, ◌*◌, ◌/◌, ◌%◌, ◌==◌, ◌&&◌, ◌||◌, nat_le, min, max, Bool, if◌then◌else◌, Option, Some, None}
 use Rattle.stream_coding.specs.declared.coding.Coding.{Coding}
 use Rattle.stream_coding.specs.declared.coding.Coding.TheVariants.{Mpeg, Avc, Hevc}
@@ -13,8 +13,8 @@ use Rattle.es_buffers.specs.declared.video_buffers.VideoBuffers.{VideoBuffers}
 abbrev pub mux_bits : ℕ → ℕ
 mux_bits rate = 4 * rate / 1000 + rate / 750
 
--- Rmax in bits a second and VBVmax in bits by profile_and_level_indication: ISO/IEC 13818-2, 8.1 to 8.3, tables 8-13 and 8-14
--- low, main, high-1440 and high level of the profiles without layers of another rate; main level where no table has the level
+-- Rmax in bits a second and VBVmax in bits by profile_and_level_indication: ISO/IEC 13818-2, 8.1 to 8.3, tables 8-13 and 8-14. Low, main, high-1440 and high
+-- level of the profiles without layers of another rate; main level if no table has the level
 unfoldable pub main_profile_limits : ℕ → ℕ × ℕ
 main_profile_limits level =
     if level == 10 then (4_000_000, 475_136)
@@ -96,23 +96,23 @@ main_tier_limits level =
     else (if level == 186 then (240_000, 240_000)
     else (12_000, 12_000))))))))))))
 
--- of level and tier; a level below 4 has the main tier alone
+-- MaxBR and MaxCPB by level and tier; a level below 4 has the main tier alone
 unfoldable pub hevc_limits : HevcSequence → ℕ × ℕ
 hevc_limits s =
     if s.high_tier && (nat_le 120 s.level || s.level == 0) then high_tier_limits s.level else main_tier_limits s.level
 
 -- 2. Video: bytes go at Rx bits a second into MB, of MBS bits, and from it at Rbx into EB, of EBS bits (2.4.2.3, 2.14.3.1, 2.17.2)
 
--- a buffer of a size that the stream says, 0 where it says none: at most the greatest of its level, and that where none is said
+-- the size of a buffer by the stream's headers, at most the greatest of its level; the greatest if they have none, 0
 unfoldable pub said_or_greatest : ℕ → ℕ → ℕ
 said_or_greatest said greatest = if said == 0 then greatest else min said greatest
 
--- MBS where MB has what EB does not take of the level's greatest buffer
+-- MBS if MB has the part of the level's greatest buffer that EB does not take
 abbrev pub shared_mbs : ℕ → ℕ → ℕ → ℕ
 shared_mbs rate greatest ebs = mux_bits rate + (greatest - ebs)
 
--- MPEG-2: EBS is vbv_buffer_size, Rx 1.2 Rmax. At low and main level Rbx is Rmax, and MBS what is left of VBVmax, with BSmux and BSoh;
--- at high-1440 and high level Rbx is 1.05 Res, Res the bit_rate that the stream says, at most Rmax, and MBS is BSmux and BSoh
+-- MPEG-2: EBS is vbv_buffer_size, Rx 1.2 Rmax. At low and main level Rbx is Rmax, and MBS the rest of VBVmax, with BSmux and BSoh; at high-1440 and high level
+-- Rbx is 1.05 Res, with Res the stream's bit_rate, at most Rmax, and MBS is BSmux and BSoh
 unfoldable pub is_high : ℕ → Bool
 is_high indication =
     if nat_le 128 indication then indication == 0x82 else (indication % 16 == 6 || indication % 16 == 4)
@@ -133,7 +133,7 @@ mpeg_mbs s =
 abbrev pub mpeg_buffers : MpegSequence → VideoBuffers
 mpeg_buffers s = record { rx = (mpeg_limits s.profile_and_level).0 * 12 / 10; ebs = mpeg_ebs s; rbx = mpeg_rbx s; mbs = mpeg_mbs s }
 
--- AVC and HEVC: EBS is the CpbSize that is said, Rx the level's greatest rate of its profile, at least 2,000,000, and Rbx the same
+-- AVC and HEVC: EBS is the stream's CpbSize, Rx the level's greatest rate of its profile, at least 2,000,000, and Rbx the same
 abbrev pub least_rate : ℕ → ℕ
 least_rate rate = max rate 2_000_000
 
@@ -151,7 +151,7 @@ avc_buffers s = level_buffers (s.cpb_br_nal_factor * (avc_limits s.level).0) (s.
 abbrev pub hevc_buffers : HevcSequence → VideoBuffers
 hevc_buffers s = level_buffers (s.br_nal_factor * (hevc_limits s).0) (s.cpb_nal_factor * (hevc_limits s).1) 0
 
--- of a coding, if it is of video
+-- the buffers of a coding, if it is of video
 unfoldable pub video_buffers : Coding → Option VideoBuffers
 video_buffers (Mpeg sequence) = Some (mpeg_buffers sequence)
 video_buffers (Avc sequence) = Some (avc_buffers sequence)

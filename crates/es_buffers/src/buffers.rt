@@ -22,7 +22,7 @@ pub struct PidBuffers {
     pub buffers: Buffers,
 }
 
-// By the number of channels.
+// Returns the buffers of ADTS audio, by the number of channels.
 #[tactic(auto, unfolding(crate::specs::Buffers::aac_buffers))]
 fn aac_buffers(channels: u8) -> Buffers
     ensures { result ≡ spec.aac_buffers channels }
@@ -39,14 +39,14 @@ fn aac_buffers(channels: u8) -> Buffers
     fixed(rx, main)
 }
 
-// One main buffer.
+// Returns one main buffer, and the rate into it.
 fn fixed(rx: u32, main: u32) -> Buffers
     ensures { result ≡ record { rx = rx; main = main } }
 {
     Buffers { rx, main }
 }
 
-// Bits a second and bytes, at most what a description can declare.
+// Returns bits a second, at most the greatest rate that a description can declare; `declared_bytes` does so for bytes.
 fn declared_rate(rate: u64) -> u32
     ensures { result ≡ spec.declared_rate rate }
 {
@@ -59,14 +59,14 @@ fn declared_bytes(bits: u64) -> u32
     (bits / 8).min(10_000_000) as u32
 }
 
-// By the number of pairs of channels.
+// Returns the buffers of SMPTE 302M audio, by its pairs of channels.
 fn pcm_buffers(pairs: u8) -> Buffers
     ensures { result ≡ spec.pcm_buffers pairs }
 {
     fixed(declared_rate(3_225_600 * u64::from(pairs)), 65_536)
 }
 
-// By what JPEG 2000 video says of itself.
+// Returns the buffers of JPEG 2000 video, by its limits.
 #[tactic(auto, unfolding(crate::specs::Buffers::j2k_buffers))]
 fn j2k_buffers(limits: J2kLimits) -> Buffers
     ensures { result ≡ spec.j2k_buffers limits }
@@ -84,7 +84,7 @@ fn j2k_buffers(limits: J2kLimits) -> Buffers
     fixed(rx, main)
 }
 
-// Of video the main buffer is the elementary stream buffer.
+// Returns the buffers of video; the main buffer is the elementary stream buffer.
 fn elementary(video: VideoBuffers) -> Buffers
     ensures { result ≡ spec.elementary video }
 {
@@ -136,7 +136,7 @@ pub fn multiplexing_of(coding: Coding) -> Option<MultiplexingBuffer>
 }
 
 /// Returns the buffers of a stream of this coding with the multiplexing buffer and the elementary stream buffer of
-/// video as one, for whoever keeps no two.
+/// video as one, for callers that keep one buffer.
 pub fn joined_buffers_of(coding: Coding) -> Buffers
     ensures { result ≡ spec.joined_buffers_of coding }
 {
@@ -151,7 +151,7 @@ pub fn joined_buffers_of(coding: Coding) -> Buffers
     }
 }
 
-// The coding with the greatest buffer of its level.
+// Returns the coding with the greatest buffer of its level.
 #[tactic(auto, unfolding(crate::specs::Buffers::without_size))]
 fn without_size(coding: Coding) -> Coding
     ensures { result ≡ spec.without_size coding }

@@ -1,7 +1,7 @@
 //! Buffers for an elementary stream, by its coding.
 //!
-//! The buffers of a decoder are those of the standards (`specs/Video`, `specs/Buffers`), or those that are given. `specs/Stays` says
-//! how long a byte of a stream may stay in a decoder.
+//! A decoder has the buffers of the standards (`specs/Video`, `specs/Buffers`), or the buffers that are given.
+//! `specs/Stays` says how long a byte of a stream may stay in a decoder.
 #![tactic(auto)]
 
 mod buffers;

@@ -14,7 +14,7 @@ const AVC_VIDEO: u8 = 40;
 
 const HEVC_VIDEO: u8 = 56;
 
-// Whether a byte has a bit, if there is the byte.
+// Returns whether there is a byte and it has a bit.
 #[tactic(auto, unfolding(crate::specs::Stays::has_bit))]
 fn has_bit(byte: Option<&u8>, unit: u8) -> bool
     requires { 0 < unit }

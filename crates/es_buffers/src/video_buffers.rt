@@ -15,7 +15,7 @@ pub(crate) struct VideoBuffers {
     pub mbs: u64,
 }
 
-// Rmax and VBVmax in bits: of a level of main profile, and of the others without layers of another rate.
+// Returns Rmax and VBVmax in bits for a level of main profile, and of all profiles without layers of another rate.
 #[tactic(auto, unfolding(crate::specs::Video::main_profile_limits))]
 fn main_profile_limits(level: u8) -> (u64, u64)
     ensures value { result ≡ spec.main_profile_limits level }
@@ -30,7 +30,7 @@ fn main_profile_limits(level: u8) -> (u64, u64)
     }
 }
 
-// Of a level of high profile.
+// Returns Rmax and VBVmax in bits for a level of high profile.
 #[tactic(auto, unfolding(crate::specs::Video::high_profile_limits))]
 fn high_profile_limits(level: u8) -> (u64, u64)
     ensures value { result ≡ spec.high_profile_limits level }
@@ -44,7 +44,7 @@ fn high_profile_limits(level: u8) -> (u64, u64)
     }
 }
 
-// Of a profile_and_level_indication with the escape bit.
+// Returns Rmax and VBVmax of a profile_and_level_indication with the escape bit.
 #[tactic(auto, unfolding(crate::specs::Video::escaped_limits))]
 fn escaped_limits(indication: u8) -> (u64, u64)
     ensures value { result ≡ spec.escaped_limits indication }
@@ -58,7 +58,7 @@ fn escaped_limits(indication: u8) -> (u64, u64)
     }
 }
 
-// Of a profile_and_level_indication.
+// Returns Rmax and VBVmax of a profile_and_level_indication.
 #[tactic(auto, unfolding(crate::specs::Video::mpeg_limits))]
 fn mpeg_limits(indication: u8) -> (u64, u64)
     ensures value { result ≡ spec.mpeg_limits indication }
@@ -74,7 +74,7 @@ fn mpeg_limits(indication: u8) -> (u64, u64)
     }
 }
 
-// MaxBR and MaxCPB of a level.
+// Returns MaxBR and MaxCPB of a level.
 #[tactic(auto, unfolding(crate::specs::Video::avc_limits))]
 fn avc_limits(level: u8) -> (u64, u64)
     ensures value { result ≡ spec.avc_limits level }
@@ -105,7 +105,7 @@ fn avc_limits(level: u8) -> (u64, u64)
     }
 }
 
-// The same in the high tier of ISO/IEC 23008-2.
+// Returns MaxBR and MaxCPB of a level in the high tier of ISO/IEC 23008-2.
 #[tactic(auto, unfolding(crate::specs::Video::high_tier_limits))]
 fn high_tier_limits(level: u8) -> (u64, u64)
     ensures value { result ≡ spec.high_tier_limits level }
@@ -124,7 +124,7 @@ fn high_tier_limits(level: u8) -> (u64, u64)
     }
 }
 
-// The same in the main tier.
+// Returns MaxBR and MaxCPB of a level in the main tier.
 #[tactic(auto, unfolding(crate::specs::Video::main_tier_limits))]
 fn main_tier_limits(level: u8) -> (u64, u64)
     ensures value { result ≡ spec.main_tier_limits level }
@@ -148,7 +148,7 @@ fn main_tier_limits(level: u8) -> (u64, u64)
     }
 }
 
-// By level and tier.
+// Returns MaxBR and MaxCPB by level and tier.
 #[tactic(auto, unfolding(crate::specs::Video::hevc_limits))]
 fn hevc_limits(sequence: HevcSequence) -> (u64, u64)
     ensures value { result ≡ spec.hevc_limits sequence }
@@ -163,7 +163,7 @@ fn hevc_limits(sequence: HevcSequence) -> (u64, u64)
     }
 }
 
-// The bits of 4 ms for multiplexing and of a 750th of a second for headers.
+// Returns the bits of 4 ms for multiplexing and of a 750th of a second for headers.
 fn mux_bits(rate: u64) -> u64
     requires { rate ≤ 2 ^ 53 }
     ensures value { result ≡ spec.mux_bits rate }
@@ -172,7 +172,7 @@ fn mux_bits(rate: u64) -> u64
     4 * rate / 1000 + rate / 750
 }
 
-// What is said, at most the greatest; that where nothing is said.
+// Returns the stream's value, at most the greatest; the greatest if the stream has no value.
 #[tactic(auto, unfolding(crate::specs::Video::said_or_greatest))]
 fn said_or_greatest(said: u64, greatest: u64) -> u64
     ensures value { result ≡ spec.said_or_greatest said greatest }
@@ -185,7 +185,7 @@ fn said_or_greatest(said: u64, greatest: u64) -> u64
     }
 }
 
-// What is left of a level's video buffer, with the bits for multiplexing and headers.
+// Returns the rest of a level's video buffer, with the bits for multiplexing and headers.
 fn shared_mbs(rate: u64, greatest: u64, ebs: u64) -> u64
     requires rate { rate ≤ 2 ^ 53 }
     requires greatest { greatest ≤ 2 ^ 53 }
@@ -250,7 +250,7 @@ pub(crate) fn mpeg_buffers(sequence: MpegSequence) -> VideoBuffers
     }
 }
 
-// By a level's rate and its buffer in bits, and the buffer that is said.
+// Returns the buffers by a level's rate and its buffer in bits, and the stream's buffer size.
 fn level_buffers(rate: u64, greatest: u64, said: u64) -> VideoBuffers
     requires rate { rate ≤ 2 ^ 53 }
     requires greatest { greatest ≤ 2 ^ 53 }

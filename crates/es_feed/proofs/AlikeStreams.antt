@@ -3,7 +3,7 @@ use Rattle.std.proofs.Common.{◌≡◌, ◌∙◌, ℕ, ◌++◌, OnOk, Option,
 use Rattle.demux.specs.FoundSoFar.{taken_all}
 use Rattle.demux.specs.KeptBodies.{all_but, bodies_left_out_but}
 use Rattle.demux.specs.Stream.{StreamState, finished, found_in, pushed, taken}
-use Rattle.demux.specs.Views.{FindingView}
+use Rattle.pid_findings.specs.Views.{FindingView}
 use Rattle.demux.proofs.KeptBodies.{ends_same, found_in_same, left_again, taken_same}
 use Rattle.packet_pcr.specs.PacketPcr.{pcr_at}
 use Rattle.fed_streams.specs.Feeding.{Fed, FeedView, after_all, fed_all, fed_ends}

@@ -8,7 +8,7 @@ use Rattle.std.proofs.lemmas.List.Elements.{All-cons, All-nil}
 use Rattle.ts_packet.specs.PidList.{cut_packets}
 use Rattle.demux.specs.Stream.{StreamState, finished, found_in, pushed, start, taken}
 use Rattle.demux.specs.FoundSoFar.{FoundSoFar, found_in_all, taken_all}
-use Rattle.demux.specs.Views.{FindingView}
+use Rattle.pid_findings.specs.Views.{FindingView}
 use Rattle.demux.proofs.FoundSoFar.{all_are_found, nothing_at_first, packets_add}
 use Rattle.packet_sync.specs.Slips.{carried}
 use Rattle.es_moments.specs.ApartUnits.{apart_from, apart_units}

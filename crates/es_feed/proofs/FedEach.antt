@@ -4,7 +4,7 @@ use Rattle.std.proofs.Common.{sym, ap, ap₂, subst, inl, inr, arith}
 use Rattle.std.specs.Option.{option_to_list}
 use Rattle.std.proofs.lemmas.Bool.Decides.{eqb_tells}
 use Rattle.demux.specs.Laws.{has_pid}
-use Rattle.demux.specs.Views.{FindingView}
+use Rattle.pid_findings.specs.Views.{FindingView}
 use Rattle.es_units.specs.ApartSteps.{place_past, set_apart}
 use Rattle.es_moments.specs.ApartUnits.{apart_from, is_same_next}
 use Rattle.es_units.specs.CarriedUnits.{role_of}

@@ -12,7 +12,7 @@ use Rattle.ts_packet.proofs.Listing.{first_cut}
 use Rattle.demux.specs.Stream.{StreamState, finished, found_in, pushed, taken}
 use Rattle.demux.specs.FoundSoFar.{found_in_all, taken_all}
 use Rattle.demux.specs.KeptBodies.{bodies_left_out_but}
-use Rattle.demux.specs.Views.{FindingView}
+use Rattle.pid_findings.specs.Views.{FindingView}
 use Rattle.packet_pcr.specs.PacketPcr.{is_on, pcr_at}
 use Rattle.fed_streams.specs.Maps.{MapView}
 use Rattle.packet_pcr.specs.declared.pcr_reading.FoundPcr.{FoundPcr}

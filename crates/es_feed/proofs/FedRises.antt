@@ -7,7 +7,7 @@ use Rattle.std.proofs.lemmas.Bool.Decides.{eqb_tells, nat_tests}
 use Rattle.std.proofs.lemmas.Grind.{flat_map-append}
 use Rattle.std.proofs.lemmas.List.{append_assoc, append-nil}
 use Rattle.pes_packet.specs.AccessUnits.{AccessUnit}
-use Rattle.demux.specs.Views.{FindingView}
+use Rattle.pid_findings.specs.Views.{FindingView}
 use Rattle.es_moments.specs.Stamps.{distance, dts_at, dts_not_increasing, dts_too_far, or_fault, pts_out_of_range, unit_at, unit_fault}
 use Rattle.es_units.specs.UnitSteps.{ended_unit}
 use Rattle.es_moments.specs.declared.stamps.StampFault.{StampFault}

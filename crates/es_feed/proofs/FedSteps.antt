@@ -7,7 +7,7 @@ use Rattle.std.proofs.lemmas.Bool.Decides.{eqb_tells, nat_tests}
 use Rattle.std.proofs.lemmas.Grind.{flat_map-append}
 use Rattle.std.proofs.lemmas.List.{append-nil}
 use Rattle.pes_packet.specs.AccessUnits.{AccessUnit}
-use Rattle.demux.specs.Views.{FindingView}
+use Rattle.pid_findings.specs.Views.{FindingView}
 use Rattle.es_moments.specs.Stamps.{distance, dts_after, moved, unit_at, unit_fault}
 use Rattle.es_units.specs.UnitSteps.{ended_unit}
 use Rattle.es_moments.specs.declared.stamps.StampFault.{StampFault}

@@ -3,7 +3,7 @@ use Rattle.std.proofs.Common.{◌≡◌, ◌∙◌, ◌<◌, ◌≤◌, ℕ, ◌
 use Rattle.std.proofs.Common.{ap₂, arith}
 use Rattle.pes_packet.specs.AccessUnits.{AccessUnit}
 use Rattle.pes_packet.specs.declared.marks.Marks.{Marks}
-use Rattle.demux.specs.Views.{FindingView}
+use Rattle.pid_findings.specs.Views.{FindingView}
 use Rattle.es_moments.specs.Stamps.{distance, dts_at, moved, unit_at}
 use Rattle.es_feed.specs.EachStream.{BeginsAt, fed_if, found_of_all, has_fault, have_fault, units_fed}
 use Rattle.fed_streams.specs.Feeding.{Fed, FedStreamView, feed_first}

@@ -7,7 +7,7 @@ use Rattle.std.proofs.lemmas.Bool.Decides.{nat_tests}
 use Rattle.std.proofs.lemmas.Grind.{flat_map-append}
 use Rattle.std.proofs.lemmas.List.{append_assoc, append-nil}
 use Rattle.pes_packet.specs.AccessUnits.{AccessUnit}
-use Rattle.demux.specs.Views.{FindingView}
+use Rattle.pid_findings.specs.Views.{FindingView}
 use Rattle.demux.specs.Laws.{has_pid}
 use Rattle.es_units.specs.ApartSteps.{place_past, set_apart}
 use Rattle.es_moments.specs.ApartUnits.{has_same}
@@ -23,7 +23,7 @@ use Rattle.fed_streams.specs.Origins.{base_for, no_origin, origin_with}
 use Rattle.fed_streams.specs.declared.due.Due.{Due}
 use Rattle.fed_streams.specs.declared.origin.Origin.{Origin}
 use Rattle.fed_streams.specs.Feeding.{FedStreamView, Fed, FeedView, ahead_of, unless_ahead, unless_fault, at_moment, last_dts, base_by, base_of, origin_after}
-use Rattle.fed_streams.specs.Feeding.{before_with, fed_with, stream_with, fed_by, whole_by, after_found, lost_by, told_by, told_of, fault_by, unit_after}
+use Rattle.fed_streams.specs.Feeding.{before_with, fed_with, stream_with, fed_by, whole_by, after_found, lost_by, stray_after, stray_of, told_by, told_fed, told_of, fault_by, unit_after}
 use Rattle.fed_streams.specs.Feeding.{follow_after, made_by, place_by, same_by, greatest_if, place_from, after_at, fed_at, after_place, fed_place, after_unit}
 use Rattle.fed_streams.specs.Feeding.{fed_unit, map_fed, after_one}
 use Rattle.fed_streams.specs.Feeding.{fed_one, after_all, fed_all, fed_last, fed_ends, fed_to_end, greatest_of, is_fallen, other_fed, packet_fault, packet_fed}
@@ -72,20 +72,28 @@ record IsQuiet (s : FedStreamView) (f : FindingView) : Type 0 where
   follows : s.follow ≡ is_some s.units.unit
   goes_on : (is_some s.units.unit && not (is_some (unit_after s f))) ≡ false
 
-same_follow : (follow before after told : Bool) → follow ≡ before → (before && not after) ≡ false → told ≡ false → (after || (follow && not told)) ≡ after
-same_follow follow before true told is on none = refl
-same_follow follow true false told is on none = absurd cc
-same_follow follow false false told is on none = rw is refl
+same_follow : (follow before after quiet : Bool) → follow ≡ before → (before && not after) ≡ false → (after || (follow && quiet)) ≡ after
+same_follow follow before true quiet is on = refl
+same_follow follow true false quiet is on = absurd cc
+same_follow follow false false quiet is on = rw is refl
 
 other_follow : (follow before told : Bool) → follow ≡ before → (before || (follow && told)) ≡ follow
 other_follow follow true told is = sym is
 other_follow follow false told is = rw is refl
 
-nothing_told : (s : FedStreamView) (f : FindingView) → IsQuiet s f → lost_by f.packet f.what ≡ None → told_by s f ≡ None
-unfolding fault_by
-nothing_told s f quiet lost =
+-- payload in no PES packet is all that may be reported
+only_stray : (s : FedStreamView) (f : FindingView) → IsQuiet s f → lost_by f.packet f.what ≡ None → told_by s f ≡ fault_by None None (stray_of s f)
+only_stray s f quiet lost =
     let cuts : (s.follow && not (is_some (unit_after s f))) ≡ false = ap (λ (b : Bool). b && not (is_some (unit_after s f))) quiet.follows ∙ quiet.goes_on in
     rw (lost, cuts) refl
+
+-- whether a run of it has come, after a finding of the stream's own PID or of another PID
+unfoldable stray_with : Bool → FedStreamView → FindingView → Bool
+stray_with true s f = stray_after s.stray f.what
+stray_with false s f = s.stray
+
+abbrev with_stray : Bool → FedStreamView → FedStreamView
+with_stray stray s = record s { stray = stray }
 
 no_loss : (own : Bool) (loss : Option Loss) → (own && is_loss loss) ≡ false → own ≡ true → loss ≡ None
 unfolding is_loss
@@ -94,18 +102,19 @@ no_loss true (Some loss) none is = absurd cc
 no_loss false (Some loss) none is = absurd cc
 
 other_after : (e : ℕ) (o : Origin) (s : FedStreamView) (f : FindingView) → s.follow ≡ is_some s.units.unit → role_of s.units.pid f ≡ Ignored →
-    single e o s ≡ single e o (stream_with (due_from e) o (after_found s f) None)
+    single e o s ≡ single e o (with_stray s.stray (stream_with (due_from e) o (after_found s f) None))
 unfolding before_with goes_on_as made_whole place_past
 other_after e o s f follows other =
-    let with_these = λ (u : UnitsSoFar) (b : Bool). single e o (record { number = s.number; before = s.before; units = u; follow = b; place = s.place }) in
+    let with_these = λ (u : UnitsSoFar) (b : Bool) (p : ℕ).
+    single e o (record { number = s.number; before = s.before; units = u; follow = b; stray = s.stray; place = p }) in
     let units : after_finding s.units f ≡ s.units = rw other refl in
     let same : follow_after s f ≡ s.follow =
     ap (λ (u : UnitsSoFar). is_some u.unit || (s.follow && not (is_some (told_by s f)))) units
     ∙ other_follow s.follow (is_some s.units.unit) (not (is_some (told_by s f))) follows in
     let placed : place_by s f ≡ s.place = rw other refl in
     let t = after_found s f in
-    sym (ap (λ (p : ℕ). single e o (record { number = s.number; before = s.before; units = t.units; follow = t.follow; place = p })) placed
-    ∙ ap (λ (b : Bool). with_these (after_finding s.units f) b) same ∙ ap (λ (u : UnitsSoFar). with_these u s.follow) units)
+    sym (ap (λ (p : ℕ). with_these t.units t.follow p) placed
+    ∙ ap (λ (b : Bool). with_these (after_finding s.units f) b s.place) same ∙ ap (λ (u : UnitsSoFar). with_these u s.follow s.place) units)
 
 calm : (e : ℕ) (o : Origin) (s : FedStreamView) (start : Option (ℕ × ℕ)) (x : Option Fed) → is_fallen x ≡ false →
     restarted (single e o s) (seen_of None start x) ≡ single e o s
@@ -126,8 +135,9 @@ single_seen e o s f own = rw own refl
 
 single_after_by : (e : ℕ) (o : Origin) (s : FedStreamView) (f : FindingView) (own : Bool) → s.follow ≡ is_some s.units.unit → has_pid s.units.pid f.pid ≡ own →
     is_fallen (fed_by (due_from e) o s (whole_by s f)) ≡ false →
-    after_one (single e o s) f ≡ single e (origin_after (due_from e) o (whole_by s f)) (stream_with (due_from e) o (after_found s f) (whole_by s f))
-unfolding map_from set_place place_from after_place origin_after before_with made_whole set_apart seen_place restart_of origin_by fallen_after
+    after_one (single e o s) f ≡ single e (origin_after (due_from e) o (whole_by s f))
+    (with_stray (stray_with own s f) (stream_with (due_from e) o (after_found s f) (whole_by s f)))
+unfolding map_from set_place place_from after_place origin_after before_with made_whole set_apart seen_place restart_of origin_by fallen_after stray_with
 single_after_by e o s f true follows own quiet =
     let t = stream_with (due_from e) o (after_found s f) (whole_by s f) in
     ap₂ restarted (single_unit_after e o s f own) (single_seen e o s f own)
@@ -142,23 +152,28 @@ neither : (a b : Bool) → (a || b) ≡ false → (a ≡ false) × (b ≡ false)
 neither true b none = absurd cc
 neither false b none = (refl, none)
 
-single_fed_by : (e : ℕ) (o : Origin) (s : FedStreamView) (f : FindingView) (own : Bool) → has_pid s.units.pid f.pid ≡ own → (own ≡ true → told_by s f ≡ None) →
+-- what is reported of a finding, if it is of the stream's own PID
+unfoldable told_if : Bool → FedStreamView → FindingView → List Fed
+told_if true s f = option_to_list (told_fed s f)
+told_if false s f = []
+
+single_fed_by : (e : ℕ) (o : Origin) (s : FedStreamView) (f : FindingView) (own : Bool) → has_pid s.units.pid f.pid ≡ own →
     is_fallen (fed_by (due_from e) o s (whole_by s f)) ≡ false →
-    fed_one (single e o s) f ≡ option_to_list (packet_fed (packet_fault f)) ++ option_to_list (fed_by (due_from e) o s (whole_by s f))
-unfolding map_from set_place change_place map_fed place_from fed_place fed_at fed_with made_whole set_apart greatest_if told_of seen_place restart_of
-    restart_fed
-    other_place other_fed
-single_fed_by e o s f true own none quiet =
+    fed_one (single e o s) f ≡ option_to_list (packet_fed (packet_fault f)) ++ (option_to_list (fed_by (due_from e) o s (whole_by s f)) ++ told_if own s f)
+unfolding map_from set_place change_place map_fed place_from fed_place fed_at fed_with made_whole set_apart greatest_if seen_place restart_of restart_fed
+    other_place other_fed told_if
+single_fed_by e o s f true own quiet =
     let unit = option_to_list (fed_by (due_from e) o s (whole_by s f)) in
+    let told = option_to_list (told_fed s f) in
     let packet = option_to_list (packet_fed (packet_fault f)) in
     let g = after_unit (watched (single e o s) f) f in
-    let here : fed_unit (watched (single e o s) f) f ≡ unit ++ [] = rw (own, none refl) refl in
+    let here : fed_unit (watched (single e o s) f) f ≡ unit ++ told = rw own refl in
     let calm : restart_in g (seen_in (watched (single e o s) f) f) ≡ None =
     ap (λ (seen : Seen). restart_in g seen) (single_seen e o s f own)
     ∙ no_restart (greatest_of g) g.fallen (start_of (whole_by s f)) (fed_by (due_from e) o s (whole_by s f)) quiet in
     ap₂ (λ (xs : List Fed) (r : Option Restart). packet ++ (xs ++ option_to_list (restart_fed r))) here calm
-    ∙ ap (λ (xs : List Fed). packet ++ xs) (append-nil (unit ++ []) ∙ append-nil unit)
-single_fed_by e o s f false own none quiet = rw (own, other_role s.units.pid f own) refl
+    ∙ ap (λ (xs : List Fed). packet ++ xs) (append-nil (unit ++ told))
+single_fed_by e o s f false own quiet = rw (own, other_role s.units.pid f own) refl
 
 -- 2. Beside packets that are not read
 
@@ -178,15 +193,31 @@ unfolding packet_fed unless_packet is_of_packet
 none_beside None = refl
 none_beside (Some fault) = refl
 
-single_beside : (e : ℕ) (o : Origin) (s : FedStreamView) (f : FindingView) → (has_pid s.units.pid f.pid ≡ true → told_by s f ≡ None) →
+stray_beside : (number : ℕ) (stray : Option ℕ) → beside_packets (option_to_list (told_of number (fault_by None None stray))) ≡ []
+unfolding fault_by told_of unless_packet is_of_packet
+stray_beside number None = refl
+stray_beside number (Some packet) = refl
+
+told_beside : (s : FedStreamView) (f : FindingView) (own : Bool) → (own ≡ true → told_by s f ≡ fault_by None None (stray_of s f)) →
+    beside_packets (told_if own s f) ≡ []
+unfolding told_if
+told_beside s f true silent =
+    ap (λ (o : Option FeedFault). beside_packets (option_to_list (told_of s.number o))) (silent refl) ∙ stray_beside s.number (stray_of s f)
+told_beside s f false silent = refl
+
+single_beside : (e : ℕ) (o : Origin) (s : FedStreamView) (f : FindingView) →
+    (has_pid s.units.pid f.pid ≡ true → told_by s f ≡ fault_by None None (stray_of s f)) →
     have_fault (option_to_list (fed_by (due_from e) o s (whole_by s f))) ≡ false →
     beside_packets (fed_one (single e o s) f) ≡ option_to_list (fed_by (due_from e) o s (whole_by s f))
 single_beside e o s f silent clear =
     let unit = option_to_list (fed_by (due_from e) o s (whole_by s f)) in
     let packet = option_to_list (packet_fed (packet_fault f)) in
-    ap beside_packets (single_fed_by e o s f (has_pid s.units.pid f.pid) refl silent (no_fall (fed_by (due_from e) o s (whole_by s f)) clear))
-    ∙ flat_map-append unless_packet packet unit
-    ∙ ap (λ (xs : List Fed). xs ++ beside_packets unit) (none_beside (packet_fault f)) ∙ clear_beside unit clear
+    let own = has_pid s.units.pid f.pid in
+    let told = told_if own s f in
+    ap beside_packets (single_fed_by e o s f own refl (no_fall (fed_by (due_from e) o s (whole_by s f)) clear))
+    ∙ flat_map-append unless_packet packet (unit ++ told)
+    ∙ ap (λ (xs : List Fed). xs ++ beside_packets (unit ++ told)) (none_beside (packet_fault f)) ∙ flat_map-append unless_packet unit told
+    ∙ ap (λ (xs : List Fed). beside_packets unit ++ xs) (told_beside s f own silent) ∙ append-nil (beside_packets unit) ∙ clear_beside unit clear
 
 fed_more : (feed : FeedView) (f : FindingView) (fs : List FindingView) → fed_to_end feed (f ∷ fs) ≡ fed_one feed f ++ fed_to_end (after_one feed f) fs
 unfolding fed_all after_all
@@ -199,26 +230,17 @@ record IsWhole (s : FedStreamView) (fs : List FindingView) : Type 0 where
   under : under_cut s.units.pid s.units.unit fs ≡ false
   follows : s.follow ≡ is_some s.units.unit
 
--- a finding of it: nothing is told, and it is so after it too
+-- a finding of it: at most payload in no PES packet is reported, and it is so after it too
 record IsStep (s : FedStreamView) (f : FindingView) (fs : List FindingView) : Type 0 where
-  silent : has_pid s.units.pid f.pid ≡ true → told_by s f ≡ None
+  silent : has_pid s.units.pid f.pid ≡ true → told_by s f ≡ fault_by None None (stray_of s f)
   uncut : has_cut s.units.pid fs ≡ false
   unlost : has_loss s.units.pid fs ≡ false
   under : under_cut s.units.pid (unit_after s f) fs ≡ false
   follows : follow_after s f ≡ is_some (unit_after s f)
 
-whole_step_by : (s : FedStreamView) (f : FindingView) (own : Bool) → IsQuiet s f → has_pid s.units.pid f.pid ≡ own → (own ≡ true → told_by s f ≡ None) →
-    follow_after s f ≡ is_some (unit_after s f)
-unfolding goes_on_as
-whole_step_by s f true quiet own none =
-    let silent : is_some (told_by s f) ≡ false = ap (λ (o : Option FeedFault). is_some o) (none refl) in
-    same_follow s.follow (is_some s.units.unit) (is_some (unit_after s f)) (is_some (told_by s f)) quiet.follows quiet.goes_on silent
-whole_step_by s f false quiet own none =
-    let other = other_role s.units.pid f own in
-    let same : unit_after s f ≡ s.units.unit = rw other refl in
-    let told = not (is_some (told_by s f)) in
-    ap (λ (u : Option CarriedUnit). is_some u || (s.follow && told)) same
-    ∙ other_follow s.follow (is_some s.units.unit) told quiet.follows ∙ quiet.follows ∙ ap (λ (u : Option CarriedUnit). is_some u) (sym same)
+still_follows : (s : FedStreamView) (f : FindingView) → IsQuiet s f → follow_after s f ≡ is_some (unit_after s f)
+still_follows s f quiet =
+    same_follow s.follow (is_some s.units.unit) (is_some (unit_after s f)) (not (is_some (told_by s f))) quiet.follows quiet.goes_on
 
 whole_step : (s : FedStreamView) (f : FindingView) (fs : List FindingView) → IsWhole s (f ∷ fs) → IsStep s f fs
 unfolding has_cut Uncut
@@ -228,9 +250,9 @@ whole_step s f fs whole =
     let lost = neither (has_pid pid f.pid && is_loss (lost_by f.packet f.what)) (has_loss pid fs) whole.unlost in
     let on = uncut_step pid s.units.unit (role_of pid f) fs (sym (past_here pid s.units.unit f fs) ∙ whole.under) cut.0 in
     let quiet : IsQuiet s f = record { follows = whole.follows; goes_on = on.1 } in
-    let silent : has_pid pid f.pid ≡ true → told_by s f ≡ None =
-    λ own. nothing_told s f quiet (no_loss (has_pid pid f.pid) (lost_by f.packet f.what) lost.0 own) in
-    record { silent = silent; uncut = cut.1; unlost = lost.1; under = on.0; follows = whole_step_by s f (has_pid pid f.pid) quiet refl silent }
+    let silent : has_pid pid f.pid ≡ true → told_by s f ≡ fault_by None None (stray_of s f) =
+    λ own. only_stray s f quiet (no_loss (has_pid pid f.pid) (lost_by f.packet f.what) lost.0 own) in
+    record { silent = silent; uncut = cut.1; unlost = lost.1; under = on.0; follows = still_follows s f quiet }
 
 -- the first of units that all have moments, and the others
 timed_clear : (d : Due) (o : Origin) (n : ℕ) (before : Option ℕ) (w : Option CarriedUnit) (ws vs : List CarriedUnit) →
@@ -259,7 +281,7 @@ single_timed e o s (f ∷ fs) whole alone clear =
     let none = not_apart s f fs (same_by s f) (made_by s f) refl refl step.under
     (ap has_same (sym (to_come_more s.units f fs)) ∙ alone) in
     let w = whole_by s f in
-    let t = stream_with d o (after_found s f) w in
+    let t = with_stray (stray_with (has_pid s.units.pid f.pid) s f) (stream_with d o (after_found s f) w) in
     let ends = option_to_list (ended_unit false (after_findings t.units fs).unit) in
     let later = given t.units fs ++ ends in
     let rest : IsWhole t fs = record { unlost = step.unlost; uncut = step.uncut; under = step.under; follows = step.follows } in
@@ -370,7 +392,7 @@ all_ok n (u ∷ us) = all_ok n us
 pub as_carried : FedAsCarried
 unfolding to_come
 as_carried earliest number pid fs u us uncut unlost is sound =
-    let s : FedStreamView = record { number = number; before = None; units = none_so_far pid true; follow = false; place = 0 } in
+    let s : FedStreamView = record { number = number; before = None; units = none_so_far pid true; follow = false; stray = false; place = 0 } in
     let base = distance earliest u.dts in
     let carried = uncut_carried true pid fs uncut in
     let alone : has_same (to_come s.units fs) ≡ false = ap has_same (sym carried)

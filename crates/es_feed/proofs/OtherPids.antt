@@ -6,14 +6,15 @@ use Rattle.std.specs.Option.{option_or, option_to_list}
 use Rattle.psi_tables.specs.ProgramMap.{PmtView}
 use Rattle.program_tables.specs.ProgramMaps.{pmt_found, pmt_in, program_map}
 use Rattle.program_tables.specs.Sections.{section_bytes, section_on}
-use Rattle.demux.specs.Bodies.{finding_without_body, without_body}
+use Rattle.pid_findings.specs.Bodies.{finding_without_body, without_body}
 use Rattle.demux.specs.KeptBodies.{all_but, finding_but, is_kept, is_of_kept}
 use Rattle.demux.specs.Laws.{has_pid}
-use Rattle.demux.specs.Views.{WhatView, IsDuplicate, BreaksCounter, IsScrambled, IsTruncated, IsSection, IsBadSection, IsPes, IsBadPes, IsBadPacket, IsErrored}
-use Rattle.demux.specs.Views.{IsStray}
-use Rattle.demux.specs.Views.{FindingView}
-use Rattle.demux.specs.declared.finding.Kind.{Kind}
-use Rattle.demux.specs.declared.finding.Kind.TheVariants as kinds
+use Rattle.pid_findings.specs.Views.{WhatView, IsDuplicate, BreaksCounter, IsScrambled, IsTruncated, IsSection, IsBadSection, IsPes, IsBadPes, IsBadPacket}
+use Rattle.pid_findings.specs.Views.{IsErrored}
+use Rattle.pid_findings.specs.Views.{IsStray}
+use Rattle.pid_findings.specs.Views.{FindingView}
+use Rattle.pid_findings.specs.declared.finding.Kind.{Kind}
+use Rattle.pid_findings.specs.declared.finding.Kind.TheVariants as kinds
 use Rattle.demux.proofs.EachPid.{turned_test}
 use Rattle.given_marks.specs.Marking.{MarkingView, all_marked, is_begin, marked, with_access, with_alignment}
 use Rattle.given_marks.specs.Marking as given

@@ -4,11 +4,11 @@ use Rattle.std.proofs.Common.{append_assoc}
 use Rattle.std.proofs.lemmas.Bool.Decides.{nat_tests}
 use Rattle.std.proofs.lemmas.List.{append-nil, drop_all}
 use Rattle.std.proofs.lemmas.Option.{slice_get_cases}
-use Rattle.demux.specs.Findings.{ended}
-use Rattle.demux.specs.Machine.{PidState}
-use Rattle.demux.specs.Shown.{with_pid}
+use Rattle.pid_findings.specs.Findings.{ended}
+use Rattle.pid_findings.specs.Machine.{PidState}
+use Rattle.pid_findings.specs.Shown.{with_pid}
 use Rattle.demux.specs.Stream.{States, StreamState, ended_found, finished, held_found, is_aligned, pushed}
-use Rattle.demux.specs.Views.{FindingView}
+use Rattle.pid_findings.specs.Views.{FindingView}
 use Rattle.demux.proofs.PushedBytes.{pushed_less}
 use Rattle.demux.proofs.StreamEnd.{ended_next}
 use Rattle.fed_streams.specs.Feeding.{Fed, FeedView, after_all, fed_all, fed_ends}

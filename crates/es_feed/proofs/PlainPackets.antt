@@ -1,7 +1,7 @@
 -- Packets in which nothing is found, that have a payload alone: they feed nothing.
 use Rattle.std.proofs.Common.{◌≡◌, ℕ, None, List, [], Ok, refl}
 use Rattle.ts_packet.specs.Reading.{packet_at}
-use Rattle.demux.specs.GoingOn.{plain_view}
+use Rattle.pid_findings.specs.GoingOn.{plain_view}
 use Rattle.demux.specs.Stream.{StreamState, found_in}
 use Rattle.packet_pcr.specs.PacketPcr.{pcr_at, pcr_in, pcr_read}
 use Rattle.fed_streams.specs.Feeding.{FeedView, after_all, fed_all}

@@ -1,11 +1,11 @@
--- What is fed of each stream of a description, where nothing is told.
+-- The units that are fed for each stream of a description, if no fault is reported.
 use Rattle.std.specs.Prelude.{◌≡◌, ◌≤◌, ◌<◌, ℕ, ◌^◌, ◌==◌, ◌&&◌, Bool, true, false, if◌then◌else◌, ⊤, IfSome, Option, Some, None, Ok, Err, List, [], ◌∷◌}
 use Rattle.std.specs.Prelude.{length, slice_get}
 use Rattle.std.specs.List.{flat_map, list_any}
 use Rattle.clock27.specs.Release.{release}
 use Rattle.pes_packet.specs.AccessUnits.{AccessUnit}
 use Rattle.demux.specs.Stream.{start, pushed, finished}
-use Rattle.demux.specs.Views.{FindingView}
+use Rattle.pid_findings.specs.Views.{FindingView}
 use Rattle.packet_sync.specs.Slips.{carried}
 use Rattle.es_units.specs.CarriedUnits.{RoleView, Ignored, Start, Continuation, Interruption, role_of, apart_wire_units}
 use Rattle.es_moments.specs.Stamps.{moved}
@@ -15,7 +15,7 @@ use Rattle.given_marks.specs.Marking.{MarkingView, all_marked}
 use Rattle.es_feed.specs.StreamFeeding.{fed_of}
 use Rattle.fed_streams.specs.Maps.{MapView}
 
--- 1. Among what is fed
+-- 1. The units among the fed records
 
 -- the units with the number of a stream, in order
 unfoldable pub fed_if : ℕ → Fed → List AccessUnit
@@ -35,7 +35,7 @@ have_fault fed = list_any has_fault fed
 
 -- 2. Units of one PES packet each
 
--- what follows a unit of a PID is the start of the next one, or nothing: no PES packet goes on with it, and nothing interrupts it
+-- after a unit of a PID the next unit starts, or nothing follows: no PES packet continues the unit, and nothing interrupts it
 unfoldable pub starts_next : RoleView → Bool → Bool
 starts_next Ignored later = later
 starts_next (Start u) later = true
@@ -52,7 +52,7 @@ if_start (Start u) next = next
 if_start (Continuation id body) next = true
 if_start (Interruption unstamped) next = true
 
--- so it is of all units of a PID
+-- this is true of all units of a PID
 unfoldable pub one_by_one : ℕ → List FindingView → Bool
 one_by_one pid [] = true
 one_by_one pid (f ∷ fs) = if_start (role_of pid f) (next_starts pid fs) && one_by_one pid fs
@@ -61,7 +61,7 @@ one_by_one pid (f ∷ fs) = if_start (role_of pid f) (next_starts pid fs) && one
 
 -- one with its number, before its first unit
 abbrev pub fed_stream : ℕ → ℕ → FedStreamView
-fed_stream number pid = record { number = number; before = None; units = none_so_far pid true; follow = false; place = 0 }
+fed_stream number pid = record { number = number; before = None; units = none_so_far pid true; follow = false; stray = false; place = 0 }
 
 -- streams before their first unit, numbered from 0 on, each with a PID of its own
 pub record AreFirst (streams : List FedStreamView) : Type 0 where
@@ -73,24 +73,24 @@ pub record AreFirst (streams : List FedStreamView) : Type 0 where
 abbrev pub found_of_all : List ℕ → List FindingView
 found_of_all bytes = (finished (pushed start (carried bytes))).found
 
--- what is fed first is a unit of one of so many streams, and due at a moment
+-- the first record is a unit of a stream with a number below `count`, and is due at a moment
 unfoldable pub BeginsAt : ℕ → ℕ → List Fed → Type 0
 BeginsAt moment count [] = ⊤
 BeginsAt moment count ((n, Ok u) ∷ fed) = (n < count) × (u.dts ≡ moment)
 BeginsAt moment count ((n, Err fault) ∷ fed) = ⊤
 
--- the units of each stream are those that its PID carries among these findings, each with a DTS of its own where several data units in a
--- row have one, moved by one constant
+-- the units of each stream are the units that its PID carries among these findings, moved by one constant, with distinct DTS if several data units in a
+-- row have the same
 pub record AreMovedByOne (earliest : ℕ) (streams : List FedStreamView) (findings : List FindingView) (fed : List Fed) : Type 0 where
-  -- it is one of all streams: with it the first unit of all is due at `earliest`
+  -- all streams share it: with it the first unit of all is due at `earliest`
   pub base : ℕ
   pub range : base < 2 ^ 33
   pub begins : BeginsAt earliest (length streams) fed
   pub moved_by : (k : ℕ) (s : FedStreamView) → slice_get streams k ≡ Some s → one_by_one s.units.pid findings ≡ true →
       units_fed k fed ≡ moved base None (apart_wire_units s.units.pid findings)
 
--- so it is, with the marks that are asked for, where nothing is told: no packet of the streams is lost, nothing cuts their units, no map changes, the clock
--- does not jump, and each unit has a moment
+-- this is true, with the marks that are asked for, if no fault is reported: no packet of the streams is lost, nothing cuts their units, no map changes,
+-- the clock does not jump, and each unit has a moment
 abbrev pub FedByOneConstant : Type 0
 FedByOneConstant = (earliest : ℕ) (marking : MarkingView) (maps : List MapView) (streams : List FedStreamView) (bytes : List ℕ) → earliest < 2 ^ 33 →
     AreFirst streams →
@@ -104,12 +104,12 @@ unfoldable pub RiseFrom : Option ℕ → List AccessUnit → Type 0
 RiseFrom before [] = ⊤
 RiseFrom before (u ∷ us) = IfSome before (λ dts. dts < u.dts) × RiseFrom (Some u.dts) us
 
--- so it is of the units of each stream, whatever comes: also where packets are lost, a clock jumps or a stamp is damaged
+-- the DTS of each stream's units rise, whatever the input is: even if packets are lost, a clock jumps or a stamp is damaged
 abbrev pub EachRises : Type 0
 EachRises = (earliest k : ℕ) (marking : MarkingView) (maps : List MapView) (streams : List FedStreamView) (bytes : List ℕ) → AreFirst streams →
     k < length streams →
     RiseFrom None (units_fed k (fed_of (feed_first earliest marking maps streams) bytes))
 
--- then none may be sent before the one before it, with whatever lead
+-- then no unit may be sent before the unit before it, with any lead
 abbrev pub ReleasesRise : Type 0
 ReleasesRise = (rate lead one other : ℕ) → one < other → release rate lead one ≤ release rate lead other

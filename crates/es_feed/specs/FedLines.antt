@@ -1,5 +1,5 @@
 -- What goes out of what a stream feeds: the records of its units and of ticks, and a line for each unit that has no moment, each loss of
--- packets, whatever else cuts units, each packet that is not read, each new map, each jump of the clock, each restart without one and each silence.
+-- packets, whatever else cuts units, payload in no PES packet, each packet that is not read, each new map, each jump of the clock, each restart without one and each silence.
 use Rattle.std.specs.Prelude.{ℕ, Bool, true, false, List, [], ◌∷◌, Ok, Err, codes, slice_get, unwrap_or}
 use Rattle.std.specs.List.{flat_map, list_any}
 use Rattle.unit_records.specs.Records.{record_bytes}
@@ -9,7 +9,7 @@ pub use Rattle.es_feed.specs.EachStream.{has_fault, have_fault}
 use Rattle.fed_streams.specs.Feeding.{Fed}
 use Rattle.fed_streams.specs.declared.feed_fault.FeedFault.{FeedFault}
 use Rattle.fed_streams.specs.declared.feed_fault.ClockJump.{ClockJump}
-use Rattle.fed_streams.specs.declared.feed_fault.FeedFault.TheVariants.{Stamp, Ahead, Lost, Cut, Map, Clock, Other, Packet, Restarted, Silent, Slipped}
+use Rattle.fed_streams.specs.declared.feed_fault.FeedFault.TheVariants.{Stamp, Ahead, Lost, Cut, Stray, Map, Clock, Other, Packet, Restarted, Silent, Slipped}
 use Rattle.fed_streams.specs.declared.feed_fault.CutCause.{CutCause}
 use Rattle.fed_streams.specs.declared.feed_fault.CutCause.TheVariants.{Scrambled, Truncated, Section, BadPes, NoPts}
 use Rattle.fed_streams.specs.declared.feed_fault.CutUnits.{CutUnits}
@@ -36,11 +36,11 @@ stamp_line pid (DtsNotIncreasing by) = line_text (codes "dts-falls") (pid ∷ by
 stamp_line pid (PtsOutOfRange after limit) = line_text (codes "pts-range") (pid ∷ after ∷ [])
 stamp_line pid DtsTooFar = line_text (codes "dts-far") (pid ∷ [])
 
--- packets of a PID are lost before a packet, whose counter is another than the one that was to come
+-- packets of a PID are lost before a packet: its counter differs from the expected one
 abbrev pub loss_line : ℕ → Loss → List ℕ
 loss_line pid loss = line_text (codes "lost") (pid ∷ loss.packet ∷ loss.expected ∷ loss.found ∷ [])
 
--- what cuts the units of a PID, with the packet of its first byte
+-- the cause that cuts the units of a PID, with the packet of its first byte
 unfoldable pub cut_name : CutCause → List ℕ
 cut_name Scrambled = codes "scrambled"
 cut_name Truncated = codes "truncated"
@@ -51,6 +51,10 @@ cut_name NoPts = codes "no-pts"
 abbrev pub cut_line : ℕ → CutUnits → List ℕ
 cut_line pid cut = line_text (cut_name cut.cause) (pid ∷ cut.packet ∷ [])
 
+-- the payload of a packet of a PID, the first of some, is in no PES packet
+abbrev pub stray_line : ℕ → ℕ → List ℕ
+stray_line pid packet = line_text (codes "stray") (pid ∷ packet ∷ [])
+
 -- the map of a program that is whole at a packet is of another version than the one before it
 abbrev pub map_line : NewMap → List ℕ
 map_line map = line_text (codes "map") (map.program ∷ map.packet ∷ map.before ∷ map.version ∷ [])
@@ -59,7 +63,7 @@ map_line map = line_text (codes "map") (map.program ∷ map.packet ∷ map.befor
 abbrev pub ahead_line : ℕ → ℕ → List ℕ
 ahead_line pid by = line_text (codes "dts-ahead") (pid ∷ by ∷ [])
 
--- the clock shows something else at a packet of a PID than what goes on from what it showed before
+-- the clock at a packet of a PID does not continue from its value before
 abbrev pub clock_line : ClockJump → List ℕ
 clock_line jump = line_text (codes "clock") (jump.pid ∷ jump.packet ∷ jump.before ∷ jump.after ∷ [])
 
@@ -73,11 +77,11 @@ packet_line (Bad packet) = line_text (codes "bad-packet") (packet ∷ [])
 packet_line (Errored packet) = line_text (codes "errored") (packet ∷ [])
 packet_line (Rest size) = line_text (codes "rest") (size ∷ [])
 
--- bytes that are in no packet, after so many packets
+-- bytes that are in no packet, with the number of packets before them
 abbrev pub slip_line : SlippedBytes → List ℕ
 slip_line bytes = line_text (codes "slip") (bytes.packet ∷ bytes.size ∷ [])
 
--- without a clock, stamps fall to one that a unit has which begins in a packet: that is taken to come at a moment
+-- without a clock, stamps fall to the stamp of a unit that begins in a packet: that unit is taken to come at a moment
 abbrev pub restart_line : Restart → List ℕ
 restart_line restart = line_text (codes "restart") (restart.packet ∷ restart.stamp ∷ restart.moment ∷ [])
 
@@ -90,6 +94,7 @@ fault_line pid (Stamp fault) = stamp_line pid fault
 fault_line pid (Ahead by) = ahead_line pid by
 fault_line pid (Lost loss) = loss_line pid loss
 fault_line pid (Cut cut) = cut_line pid cut
+fault_line pid (Stray packet) = stray_line pid packet
 fault_line pid (Map map) = map_line map
 fault_line pid (Clock jump) = clock_line jump
 fault_line pid (Other other) = other_line other
@@ -102,12 +107,13 @@ fault_line pid (Slipped bytes) = slip_line bytes
 abbrev pub pid_at : List ℕ → ℕ → ℕ
 pid_at pids n = unwrap_or (slice_get pids n) 0
 
--- it says that the description is of another stream
+-- whether a fault shows that the description belongs to another stream
 unfoldable pub is_other : FeedFault → Bool
 is_other (Stamp fault) = false
 is_other (Ahead by) = false
 is_other (Lost loss) = false
 is_other (Cut cut) = false
+is_other (Stray packet) = false
 is_other (Map map) = false
 is_other (Clock jump) = false
 is_other (Other other) = true
@@ -116,7 +122,7 @@ is_other (Restarted restart) = false
 is_other (Silent dts) = false
 is_other (Slipped bytes) = false
 
--- a line where it is no unit at its moment
+-- the line of a fault; none for a unit at its moment
 unfoldable pub lines_of : List ℕ → Fed → List (List ℕ)
 lines_of pids (n, Ok u) = []
 lines_of pids (n, Err fault) = fault_line (pid_at pids n) fault ∷ []

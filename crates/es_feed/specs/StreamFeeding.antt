@@ -6,7 +6,7 @@ use Rattle.demux.specs.Stream.{StreamState, start, pushed, finished, found_in, t
 use Rattle.demux.specs.FoundSoFar.{taken_all}
 use Rattle.demux.specs.KeptBodies.{bodies_left_out_but}
 use Rattle.packet_sync.specs.Slips.{carried}
-use Rattle.demux.specs.Views.{FindingView}
+use Rattle.pid_findings.specs.Views.{FindingView}
 use Rattle.fed_streams.specs.Feeding.{Fed, FedStreamView, FeedView, after_all, fed_all, fed_to_end}
 use Rattle.given_marks.specs.Marking.{all_marked}
 use Rattle.packet_pcr.specs.PacketPcr.{pcr_at}
@@ -14,7 +14,7 @@ use Rattle.fed_streams.specs.Ticks.{after_packet, after_packets, fed_packet, fed
 
 -- 1. Whole packets
 
--- what is kept of packets: the demultiplexer, the feed
+-- the state after packets: the demultiplexer and the feed
 pub record PacketFeedView : Type 0 where
   pub demux : StreamState
   pub feed : FeedView
@@ -30,7 +30,7 @@ AreAlike feed s t = bodies_left_out_but (stream_pids feed) s ≡ bodies_left_out
 abbrev pub is_packet : List ℕ → Type 0
 is_packet packet = length packet ≡ 188
 
--- a packet was taken: it is demultiplexed, and what is found in it is fed with the marks that are asked for, and then its clock reference
+-- a packet was taken: it is demultiplexed, and its findings are fed with the marks that are asked for, and then its clock reference
 abbrev pub TakesPacket : PacketFeedView → PacketFeedView → List ℕ → List Fed → List Fed → Type 0
 TakesPacket old new bytes before after = (new.demux ≡ taken old.demux bytes)
     × (new.feed ≡ after_packet old.feed (found_in old.demux bytes) (pcr_at old.demux.packets bytes))
@@ -47,20 +47,20 @@ pub record TakesPackets (old new : PacketFeedView) (bytes : List ℕ) (n : ℕ) 
   pub feed_is : new.feed ≡ after_packets old.demux old.feed packets
   pub fed_is : after ≡ before ++ fed_packets old.demux old.feed packets
 
--- after findings, with the marks that are asked for, and what these feed
+-- the feed after findings, with the marks that are asked for, and the records that they give
 abbrev pub after_marked : FeedView → List FindingView → FeedView
 after_marked feed found = after_all feed (all_marked feed.marking found)
 
 abbrev pub fed_marked : FeedView → List FindingView → List Fed
 fed_marked feed found = fed_all feed (all_marked feed.marking found)
 
--- what is fed where no more packets come, with these bytes of the next one
+-- the records at the end of the packets, with these bytes of an unfinished packet
 abbrev pub fed_rest : StreamState → FeedView → List ℕ → List Fed
 fed_rest demux feed rest = fed_to_end feed (all_marked feed.marking (finished (pushed demux rest)).found)
 
 -- 2. Bytes in pieces
 
--- what is kept of a stream: the bytes of which it is not known yet whether they are carried, and what is kept of the packets before
+-- the state of a stream: the bytes not yet known to be carried, and the state after the packets before
 pub record StreamFeedView : Type 0 where
   pub held : List ℕ
   pub packets : PacketFeedView
@@ -80,7 +80,7 @@ pub record IsFedBy (first : FeedView) (bytes : List ℕ) (ended : Bool) (s : Str
   pub feed_is : s.packets.feed ≡ after_packets start first packets
   pub fed_is : fed ≡ fed_packets start first packets
 
--- all that is fed of a stream: of the packets of the bytes that stand in step, and of the end
+-- all records of a stream: from the packets whose bytes are in step, and from the end
 abbrev pub fed_in : FeedView → List (List ℕ) → List ℕ → List Fed
 fed_in first packets rest = fed_packets start first packets ++ fed_rest (taken_all start packets) (after_packets start first packets) rest
 
@@ -90,7 +90,7 @@ after_cut bytes = drop (188 * length (cut_packets bytes)) bytes
 abbrev pub fed_of : FeedView → List ℕ → List Fed
 fed_of first bytes = fed_in first (cut_packets (carried bytes)) (after_cut (carried bytes))
 
--- what is fed so far is a beginning of what is fed of the whole stream, however it goes on
+-- the records so far are the beginning of the records of the whole stream, whatever bytes follow
 abbrev pub FedIsBeginning : Type 0
 FedIsBeginning = (first : FeedView) (bytes more : List ℕ) (s : StreamFeedView) (fed : List Fed) → IsFedBy first bytes false s fed →
     (rest : List Fed) × (fed_of first (bytes ++ more) ≡ fed ++ rest)

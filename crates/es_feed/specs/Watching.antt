@@ -25,11 +25,11 @@ abbrev pub slips_with : Stretch → StreamPlace → List Slip → List Slip
 slips_with s p found =
     if s.slipped == 0 then found else found ++ record { packet = p.packet + s.in_step / 188; start = p.start + s.in_step; size = s.slipped } ∷ []
 
--- what is said of slips, with any fields
+-- the notes with these slips, and any fields
 abbrev pub notes_at : List FieldLeftOut → List Slip → StreamPlace → NotesView
 notes_at fields found p = record { slips = found; fields = fields; packet = p.packet; start = p.start }
 
--- of these bytes all but those that are held are looked at, and these are their slips, however the stream goes on
+-- all of these bytes except the held bytes were searched, and these are their slips, whatever bytes follow
 pub record AreSlips (bytes : List ℕ) (ended : Bool) (held : List ℕ) (p : StreamPlace) (found : List Slip) : Type 0 where
   pub fields : List FieldLeftOut
   pub so : (more : List ℕ) → (ended ≡ true → more ≡ []) → SayAlike no_notes (bytes ++ more) (notes_at fields found p) (held ++ more)
@@ -41,7 +41,7 @@ pub record WatchView : Type 0 where
 abbrev pub none_watched : WatchView
 none_watched = record { held = []; place = first_place }
 
--- 2. Slips among what is fed: no stream has them, so a number stands there that says nothing
+-- 2. Slips among the fed records: 255 says that they belong to no stream
 
 abbrev pub slip_fed : Slip → Fed
 slip_fed s = (255, Err (Slipped (record { packet = s.packet; size = s.size })))
@@ -49,7 +49,7 @@ slip_fed s = (255, Err (Slipped (record { packet = s.packet; size = s.size })))
 abbrev pub slips_fed : List Slip → List Fed
 slips_fed found = map slip_fed found
 
--- read by read: what the packets feed, and then the slips
+-- one read: the records of its packets, and then the slips
 pub record Round : Type 0 where
   pub fed : List Fed
   pub found : List Slip

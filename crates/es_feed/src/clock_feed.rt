@@ -17,14 +17,14 @@ use std::alloc::{AllocError, Global};
 // The latest DTS of a unit.
 const LAST_DTS: u64 = 1 << 52;
 
-// How long all streams may be silent before that is told, in units of 90 kHz: 10 s.
+// How long all streams may be silent without a report, in units of 90 kHz: 10 s.
 const LONGEST_SILENCE: u64 = 900_000;
 
-// How long after the greatest DTS so far a clock that jumps goes on, in units of 90 kHz: 0.3 s, in which no stream has
-// a unit.
+// How long after the greatest DTS so far a clock continues that jumped, in units of 90 kHz: 0.3 s, without units of
+// any stream.
 const JUMP_PAUSE: u64 = 27_000;
 
-// What is told of a clock that jumps, if it does.
+// Returns the report on a clock, if it jumps.
 #[tactic(auto, unfolding(fed_streams::specs::Ticks::jump_fed))]
 fn told_jump(jump: Option<ClockJump>) -> Option<(u8, Result<Unit, FeedFault>)>
     ensures { result ≡ spec.jump_fed jump }
@@ -49,7 +49,7 @@ fn tick(alloc: &Global, moment: u64) -> (u8, Result<Unit, FeedFault>)
 }
 
 impl UnitFeed {
-    // What is told of a silence that a tick ends 10 s of.
+    // Returns the report on a silence, if a tick ends its first 10 s.
     fn told_silence(&self, late: u64) -> Option<(u8, Result<Unit, FeedFault>)>
         ensures { option_to_list result ≡ spec.silence self.now late }
     {
@@ -60,7 +60,7 @@ impl UnitFeed {
         None
     }
 
-    // Feeds a tick, where time goes on by it.
+    // Feeds a tick, if it is later than all before.
     fn tick(
         &mut self,
         alloc: &Global,
@@ -79,7 +79,7 @@ impl UnitFeed {
         Ok(())
     }
 
-    // Feeds the unit under way of the stream at a place.
+    // Feeds the unfinished unit of the stream at a place.
     fn end_at(
         &mut self,
         k: usize,
@@ -95,7 +95,7 @@ impl UnitFeed {
         Ok(())
     }
 
-    // Time goes on to a second behind the clock: the first unit under way that is due by then ends, or a tick is fed.
+    // Moves time to a second behind the clock: ends the first unfinished unit that is due by then, or feeds a tick.
     #[tactic(auto, unfolding(fed_streams::specs::Ticks::after_passed, fed_streams::specs::Ticks::fed_passed))]
     fn go_on(
         &mut self,
@@ -142,8 +142,8 @@ impl UnitFeed {
         }
     }
 
-    /// Takes a clock reference: that of another PID than the clock's does nothing. What it tells of the clock goes to
-    /// `fed`, and then a unit under way that is due a second before it, or a tick.
+    /// Takes a clock reference, unless it is on another PID than the clock's: appends to `fed` the report on the clock,
+    /// then an unfinished unit that is due a second before the reference, or a tick.
     pub(crate) fn take_pcr(
         &mut self,
         alloc: &Global,

@@ -1,16 +1,17 @@
 //! What the end of a stream decides, one PID after another.
 
 ghost use Rattle.std.specs.Prelude.{◌≡◌, ◌<◌, ◌++◌, ℕ, Some, OnOk, length, map, slice_get, true};
-ghost use Rattle.demux.specs.Findings.{ended};
-ghost use Rattle.demux.specs.Machine.{PidState};
-ghost use Rattle.demux.specs.Shown.{finding_view, with_pid};
+ghost use Rattle.pid_findings.specs.Findings.{ended};
+ghost use Rattle.pid_findings.specs.Machine.{PidState};
+ghost use Rattle.pid_findings.specs.Shown.{finding_view, with_pid};
 ghost use Rattle.demux.specs.Stream.{ended_found, held_found};
 ghost use Rattle.es_feed.specs.StreamFeeding as spec;
 
 use crate::unit_feed::UnitFeed;
-use demux::{Demux, Finding};
+use demux::Demux;
 use fed_streams::FeedFault;
 use pes_packet::Unit;
+use pid_findings::Finding;
 use std::alloc::{AllocError, Global};
 
 // Marks findings, and feeds them.

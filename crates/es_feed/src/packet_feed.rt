@@ -16,10 +16,9 @@ use std::alloc::{AllocError, Global};
 use std::marker::Model;
 use ts_packet::read_packet;
 
-/// A stream whose packets come one after another: each is demultiplexed, and what is found in it is marked and fed, and
-/// then its clock reference. A packet that only goes on with an open unit is not read: nothing is found in it, and it
-/// has no reference. Of open PES packets whose PID no stream has the bodies are left out again and again, since nothing
-/// is fed of them.
+/// A stream whose packets come one after another: each is demultiplexed, its findings are marked and fed, and then its
+/// clock reference. A packet that only continues an open unit is not read: nothing is found there, and it has
+/// no reference. Bodies of open PES packets on PIDs of no stream are dropped again and again, since they feed nothing.
 #[derive(Drop)]
 pub(crate) struct PacketFeed {
     demux: Demux,
@@ -72,8 +71,8 @@ impl PacketFeed {
         }
     }
 
-    // Takes a packet in which nothing is found and that has no clock reference, if its first bytes show that. Whether
-    // they do; else nothing changes.
+    // Takes a packet without findings and without a clock reference, and returns whether its first bytes show that it
+    // is such a packet; otherwise nothing changes.
     #[tactic(auto, unfolding(demux::specs::Stream::taken), using(crate::proofs::PlainPackets::plain_after, crate::proofs::PlainPackets::plain_fed))]
     fn go_on(&mut self, bytes: &[u8; 188]) -> bool
         ensures demux { result ≡ true → self.new.demux ≡ taken self.old.demux bytes.now }
@@ -90,8 +89,8 @@ impl PacketFeed {
         true
     }
 
-    // Takes a packet, which is read. It stays a call of its own: few packets come to it, and what is read would else be
-    // made ready for each.
+    // Reads and takes a packet. It stays a call of its own: few packets need it, and the result of a read would
+    // otherwise be made ready for each.
     #[tactic(auto, unfolding(demux::specs::Stream::taken))]
     #[inline(never)]
     fn read_next(

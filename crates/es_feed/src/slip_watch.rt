@@ -12,7 +12,7 @@ use std::marker::Model;
 /// The size of a packet in bytes.
 const PACKET: usize = 188;
 
-/// How many packets and bytes are before those that are to come.
+/// The numbers of packets and of bytes before the next ones.
 #[derive(Clone, Copy)]
 pub struct StreamPlace {
     pub packet: usize,
@@ -36,7 +36,7 @@ impl Model for SlipWatch {
     ghost view = { λ w. record { held = w.held.items; place = w.place } };
 }
 
-// A number with so many more; a stream of 2^64 bytes or more is longer than any.
+// Adds to a number, which stops at 2^64 - 1: no stream is that long.
 fn more(number: usize, by: usize) -> Result<usize, AllocError>
     ensures { IfOk result (λ sum. sum ≡ number + by) }
 {

@@ -30,7 +30,7 @@ impl Model for StreamFeed {
     ghost view = { λ s. record { held = s.held.items; packets = s.packets } };
 }
 
-// Takes the packets of the bytes that are decided, and returns how many bytes that is: all but those of a packet that
+// Takes the packets of the bytes that are decided, and returns the number of these bytes: all, except a packet that
 // the stream's end cuts.
 fn take_decided(
     alloc: &Global,

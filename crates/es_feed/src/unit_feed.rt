@@ -1,13 +1,12 @@
 //! All streams of a description, finding by finding.
 
 ghost use Rattle.std.specs.Prelude.{◌≡◌, ◌≤◌, ◌++◌, ◌^◌, IfOk, IfSome, OnOk, map};
-ghost use Rattle.demux.specs.Shown.{finding_view};
+ghost use Rattle.pid_findings.specs.Shown.{finding_view};
 ghost use Rattle.std.specs.Option.{option_to_list};
 ghost use Rattle.given_marks.specs.Marking.{all_marked};
 ghost use Rattle.fed_streams.specs.Feeding as spec;
 ghost use Rattle.es_feed.specs.StreamFeeding.{stream_pids};
 
-use demux::{Finding, What};
 use fed_streams::due::Due;
 use fed_streams::fed_map::{other_stream, watch};
 use fed_streams::fed_streams::{greatest_of, pids_of, place_of, take_at};
@@ -17,11 +16,12 @@ use fed_streams::restart::{Seen, fallen_after, origin_by, restart_of, seen_of};
 use fed_streams::{FedMap, FedStream, FeedFault, NewMap, PacketFault, Restart};
 use given_marks::Marking;
 use pes_packet::Unit;
+use pid_findings::{Finding, What};
 use std::alloc::{AllocError, Global};
 use std::collections::VecDeque;
 use std::marker::Model;
 
-/// The number that stands where there is no stream, and that of a tick.
+/// The number for no stream, and for a tick.
 pub(crate) const NO_STREAM: u8 = 255;
 
 /// The maps of a description's programs, its streams with their current units, the marks that are asked for, and the
@@ -39,7 +39,7 @@ pub struct UnitFeed {
     fallen: Option<u64>,
 }
 
-// A contract sees what is kept of each stream.
+// A contract sees the state of each stream.
 impl Model for UnitFeed {
     ghost use Rattle.std.specs.Prelude.{◌≤◌, ◌^◌};
     ghost use Rattle.fed_streams.specs.Feeding.{FeedView};
@@ -61,7 +61,7 @@ impl Model for UnitFeed {
     ghost invariant = { λ f. IsOrigin f.origin × (f.ticked ≤ 2 ^ 52) };
 }
 
-/// Appends what is fed, if anything is.
+/// Appends a unit or a report, if there is one.
 pub(crate) fn push_fed(
     fed: &mut Vec<(u8, Result<Unit, FeedFault>)>,
     one: Option<(u8, Result<Unit, FeedFault>)>,
@@ -75,7 +75,7 @@ pub(crate) fn push_fed(
     Ok(())
 }
 
-// What is told of a map that changes, if one does.
+// Returns the report on a map that changes, if one changes.
 #[tactic(auto, unfolding(fed_streams::specs::Feeding::map_fed))]
 fn told_map(change: Option<NewMap>) -> Option<(u8, Result<Unit, FeedFault>)>
     ensures { result ≡ spec.map_fed change }
@@ -86,7 +86,7 @@ fn told_map(change: Option<NewMap>) -> Option<(u8, Result<Unit, FeedFault>)>
     }
 }
 
-// What is told of a description of another stream.
+// Returns the report on a description of another stream.
 #[tactic(auto, unfolding(fed_streams::specs::Feeding::other_fed))]
 fn told_other(other: Option<OtherStream>) -> Option<(u8, Result<Unit, FeedFault>)>
     ensures { result ≡ spec.other_fed other }
@@ -113,7 +113,7 @@ fn packet_fault(finding: &Finding<'_>) -> Option<PacketFault>
     }
 }
 
-// What is told of a packet, if it is not read.
+// Returns the report on a packet, if it is not read.
 #[tactic(auto, unfolding(fed_streams::specs::Feeding::packet_fed))]
 fn told_packet(fault: Option<PacketFault>) -> Option<(u8, Result<Unit, FeedFault>)>
     ensures { result ≡ spec.packet_fed fault }
@@ -124,7 +124,7 @@ fn told_packet(fault: Option<PacketFault>) -> Option<(u8, Result<Unit, FeedFault
     }
 }
 
-// What is told of a restart, if there is one.
+// Returns the report on a restart, if there is one.
 #[tactic(auto, unfolding(fed_streams::specs::Feeding::restart_fed))]
 fn told_restart(restart: Option<Restart>) -> Option<(u8, Result<Unit, FeedFault>)>
     ensures { result ≡ spec.restart_fed restart }
@@ -150,8 +150,8 @@ fn greatest_if(shown: Option<u64>, greatest: u64) -> Option<u64>
 
 impl UnitFeed {
     /// Returns the programs' maps and the streams of a description before the first packet, each stream with its number
-    /// and its own PID; the first unit of all is to be due at `earliest`. The clock is the first program's clock. What
-    /// is found of a stream is marked by `marking` before it is fed.
+    /// and its own PID; the first unit is due at `earliest`. The clock is the first program's clock. Findings of a
+    /// stream are marked by `marking` before they are fed.
     pub fn new(
         earliest: u64,
         marking: Marking,
@@ -172,7 +172,7 @@ impl UnitFeed {
         }
     }
 
-    /// Marks what is found of a stream, before it is taken.
+    /// Marks the findings of the streams, before they are taken.
     pub(crate) fn mark(&self, findings: &mut [Finding<'_>])
         ensures { map finding_view findings.new ≡ all_marked self.now.marking (map finding_view findings.old) }
     {
@@ -227,7 +227,7 @@ impl UnitFeed {
         Ok(seen)
     }
 
-    // Goes on from a unit that shows that an encoder restarts, if it does.
+    // Continues from a unit that shows that an encoder restarts, if it does.
     fn restart(
         &mut self,
         seen: Seen,
@@ -244,7 +244,7 @@ impl UnitFeed {
         Ok(())
     }
 
-    // Takes a finding for the stream with its PID, and goes on from a restart that it shows.
+    // Takes a finding for the stream with its PID, and continues from a restart that it shows.
     fn take_found(
         &mut self,
         alloc: &Global,

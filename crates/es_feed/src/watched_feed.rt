@@ -31,7 +31,7 @@ impl Model for WatchedFeed {
     ghost view = { λ w. record { stream = w.stream; watch = w.watch } };
 }
 
-// Appends what is told of slips.
+// Appends the reports on slips.
 fn push_slips(
     fed: &mut Vec<(u8, Result<Unit, FeedFault>)>,
     found: &[Slip],

@@ -1,4 +1,4 @@
--- What is counted of the units of a stream, whose bytes need not be in one place.
+-- The counts of a stream's units, whose bytes need not be in one place.
 use Rattle.std.specs.Prelude.{ℕ, ◌+◌, ◌-◌, ◌^◌, ◌≤◌, ◌<◌, min, max, List, [], ◌∷◌, length, map, sum, take}
 use Rattle.pes_packet.specs.AccessUnits.{AccessUnit}
 use Rattle.pes_packet.specs.Marks.{marks_size}
@@ -7,7 +7,7 @@ use Rattle.es_moments.specs.Declaration.{CountedPacketsView, counted_packets, ma
 use Rattle.es_moments.specs.UnitRuns.{UnitRunsView, UnitStep, unit_runs}
 use Rattle.es_moments.specs.declared.unit_weights.UnitWeight.{UnitWeight}
 
--- 1. What counts of a unit: when it is due, its bytes with what its marks take, and its packets
+-- 1. The weight of a unit: when it is due, its bytes with the bytes of its marks, and its packets
 
 abbrev pub weight_of : ℕ → ℕ → AccessUnit → UnitWeight
 weight_of id base0 u = record {
@@ -19,12 +19,12 @@ weight_of id base0 u = record {
 abbrev pub weights : ℕ → ℕ → List AccessUnit → List UnitWeight
 weights id base0 us = map (weight_of id base0) us
 
--- those of a unit in memory
+-- the weight of a unit in memory
 pub record IsWeight (w : UnitWeight) : Type 0 where
   pub size : w.size < 2 ^ 63 + 28
   pub packets : w.packets ≤ 2 ^ 56
 
--- 2. The same counts by what counts of each unit
+-- 2. The same counts by the weight of each unit
 
 unfoldable pub weighed_size : List UnitWeight → ℕ
 weighed_size [] = 0
@@ -48,7 +48,7 @@ weighed_packets ws = record { numbers = map (λ w. w.packets) ws; largest = max_
 abbrev pub weighed_runs : List UnitWeight → UnitRunsView
 weighed_runs ws = record { steps = weighed_steps 0 ws; largest = max_unit_packets (weighed_size ws) }
 
--- the greatest sum of `group` numbers of packets in a row, or of all that are left; at least that of a unit of the largest size
+-- the greatest sum of `group` numbers of packets in a row, or of all the numbers that remain; at least the number of a unit of the largest size
 unfoldable pub max_row : ℕ → List ℕ → ℕ
 max_row group [] = 0
 max_row group (n ∷ ns) = max (sum (take group (n ∷ ns))) (max_row group ns)
@@ -56,8 +56,7 @@ max_row group (n ∷ ns) = max (sum (take group (n ∷ ns))) (max_row group ns)
 abbrev pub row_packets : ℕ → CountedPacketsView → ℕ
 row_packets group packets = max packets.largest (max_row group packets.numbers)
 
--- 3. All that is counted of the units of a stream: how many they are, the least time between two, the size of the largest, and
--- their packets in rows and at any pace
+-- 3. All counts of a stream's units: how many they are, the least time between two, the size of the largest, and their packets in rows and at any pace
 
 pub record CountedUnitsView : Type 0 where
   pub count : ℕ

@@ -45,17 +45,16 @@ timed_unit id base0 u = record { dts = u.dts; size = length (pes_packet_bytes id
 abbrev pub timed_units : ℕ → ℕ → List AccessUnit → List PesPacket
 timed_units id base0 us = map (timed_unit id base0) us
 
--- what is declared of them by groups, and by a pace in bits a second of whole packets: at least as many as the largest
--- unit may have
+-- the packets that units declare by groups, and by a pace in bit/s of whole packets: at least as many as the largest unit may have
 abbrev pub group_packets : ℕ → ℕ → ℕ → List AccessUnit → ℕ
 group_packets id base0 group us = max (max_unit_packets (max_unit_size us)) (max_group group (timed_units id base0 us))
 
--- the packets of each unit, and of one of the largest size
+-- the packets of each unit, and of a unit of the largest size
 pub record CountedPacketsView : Type 0 where
   pub numbers : List ℕ
   pub largest : ℕ
 
--- no number is greater than one that is that of a unit in memory
+-- no number is above `greatest`, a number of packets that a unit in memory may have
 pub record AreAtMost (greatest : ℕ) (numbers : List ℕ) : Type 0 where
   pub each : All (λ n. n ≤ greatest) numbers
   pub bound : greatest ≤ 2 ^ 56

@@ -39,7 +39,7 @@ unfoldable pub max_ahead : List ℕ → List ℕ → ℕ
 max_ahead (x ∷ xs) (y ∷ ys) = max (x - y) (max_ahead xs ys)
 max_ahead _ _ = 0
 
--- the least shift of the moments in order by which none is after the moment in its place
+-- the least shift after which no moment in order is later than the moment in its place
 abbrev pub shift_of : List ℕ → ℕ
 shift_of moments = max_ahead (in_order moments) moments
 
@@ -57,7 +57,7 @@ unfoldable pub stands_first : ℕ → List ℕ → Bool
 stands_first x [] = false
 stands_first x (y ∷ ys) = x == y
 
--- of moments in order, the stamp of the first that is there twice
+-- the stamp of the first moment that occurs twice, among moments in order
 unfoldable pub first_same_pts : List ℕ → Option DtsFault
 first_same_pts [] = None
 first_same_pts (x ∷ xs) = if stands_first x xs then Some (SamePts (x % 2 ^ 33)) else first_same_pts xs

@@ -6,7 +6,7 @@ use Rattle.es_moments.specs.declared.stamps.StampFault.{StampFault}
 use Rattle.es_moments.specs.declared.unit_moments.StampError.{StampError}
 use Rattle.es_moments.specs.declared.unit_moments.StampError.TheVariants as errors
 
--- the fault that a call answers, none where it answers a value
+-- the fault that a call answers; none if it answers a value
 abbrev pub fault_of : {V : Type 0} → Result V StampFault → Option StampFault
 fault_of (Ok value) = None
 fault_of (Err fault) = Some fault

@@ -5,13 +5,13 @@ use Rattle.es_moments.specs.declared.stamps.StampFault.{StampFault}
 use Rattle.es_moments.specs.declared.stamps.StampFault.TheVariants.{DtsNotIncreasing, PtsOutOfRange, DtsTooFar}
 use Rattle.pes_packet.specs.Encoding.{on_wire}
 
--- how long after a moment the clock next shows a stamp, where it shows `from` at that moment
+-- how long after a moment when the clock shows `from` it next shows a stamp
 unfoldable pub distance : ℕ → ℕ → ℕ
 distance from to = (to % 2 ^ 33 + 2 ^ 33 - from % 2 ^ 33) % 2 ^ 33
 
 -- 1. Moments
 
--- the moment of a DTS: the first at which the clock shows it, from the DTS before on, where the clock shows `base` at moment 0
+-- the moment of a DTS: the first moment, from the DTS before it on, when the clock shows it, if it shows `base` at moment 0
 unfoldable pub dts_at : ℕ → Option ℕ → ℕ → ℕ
 dts_at base None stamp = distance base stamp
 dts_at base (Some before) stamp = before + distance (before + base) stamp
@@ -56,13 +56,13 @@ unfoldable pub or_fault : Option StampFault → Option StampFault → Option Sta
 or_fault (Some fault) next = Some fault
 or_fault None next = next
 
--- of a unit after a DTS or after none
+-- the fault of a unit after a DTS or at first
 abbrev pub unit_fault : ℕ → ℕ → Option ℕ → AccessUnit → Option StampFault
 unit_fault limit base before u =
     or_fault (dts_not_increasing base before u.dts)
     (or_fault (pts_out_of_range limit base (dts_at base before u.dts) u.pts) (dts_too_far (dts_at base before u.dts)))
 
--- of units one after another: the place of the first unit that has one, and its fault
+-- the place of the first unit with a fault, and its fault, among units one after another
 unfoldable pub fault_or : ℕ → Option StampFault → Option (ℕ × StampFault) → Option (ℕ × StampFault)
 fault_or place (Some fault) next = Some (place, fault)
 fault_or place None next = next
@@ -74,13 +74,13 @@ first_fault limit base before place (u ∷ us) =
 
 -- 3. The constant of a clock
 
--- of the first DTS of streams, how long each is after the moment half the range before that of the first stream: the least
+-- the least time from half the clock's range before the first stream's first DTS to the first DTS of a stream
 unfoldable pub min_distance : ℕ → ℕ → List ℕ → ℕ
 min_distance from least [] = least
 min_distance from least (stamp ∷ stamps) = min_distance from (min least (distance from stamp)) stamps
 
--- what the clock shows at moment 0, so that the earliest of the streams' first DTS is at moment `earliest`. Which one is the
--- earliest can be told where all lie within half the range of each other
+-- the clock's value at moment 0, so that the earliest of the streams' first DTS is at moment `earliest`. The earliest is defined if all of them lie within half
+-- the range of each other
 abbrev pub constant_of : ℕ → ℕ → List ℕ → ℕ
 constant_of earliest first others = distance earliest (first + 2 ^ 32 + min_distance (first + 2 ^ 32) (2 ^ 32) others)
 
@@ -96,7 +96,7 @@ MovedByOneConstant = (base : ℕ) (before : Option ℕ) (us : List AccessUnit) �
 abbrev pub after_half : ℕ → ℕ → ℕ
 after_half first stamp = distance (first + 2 ^ 32) stamp
 
--- each comes as long after `earliest` as it is after the least of them, where that is below the range
+-- each first DTS is as long after `earliest` as it is after the least of them, if that is below the range
 abbrev pub ConstantIsLeast : Type 0
 ConstantIsLeast = (earliest first : ℕ) (others : List ℕ) (stamp : ℕ) → earliest < 2 ^ 33 →
     min_distance (first + 2 ^ 32) (2 ^ 32) others ≤ after_half first stamp →

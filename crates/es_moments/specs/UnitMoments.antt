@@ -5,11 +5,11 @@ use Rattle.es_moments.specs.Stamps.{dts_at, pts_at}
 use Rattle.es_moments.specs.declared.unit_moments.UnitMoment.{UnitMoment}
 use Rattle.es_moments.specs.WireUnits.{CarriedUnit}
 
--- those of stamps, after a DTS or after none
+-- the moments of stamps, after a DTS or at first
 abbrev pub moment_at : ℕ → Option ℕ → ℕ → ℕ → UnitMoment
 moment_at base before dts pts = record { dts = dts_at base before dts; pts = pts_at base (dts_at base before dts) pts }
 
--- those of a unit that is at its moments
+-- the moments of a unit that is at its moments
 abbrev pub moment_of : AccessUnit → UnitMoment
 moment_of u = record { dts = u.dts; pts = u.pts }
 

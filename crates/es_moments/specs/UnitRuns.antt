@@ -18,19 +18,19 @@ unfoldable pub steps_after : ℕ → List PesPacket → List UnitStep
 steps_after last [] = []
 steps_after last (unit ∷ units) = record { time = unit.dts - last; packets = packets_of_unit unit } ∷ steps_after unit.dts units
 
--- those of units in a row that come alike
+-- the steps of a run of equal units
 abbrev pub step_of : UnitRun → UnitStep
 step_of run = record { time = run.time; packets = run.packets }
 
 abbrev pub steps_of : UnitRun → List UnitStep
 steps_of run = replicate run.count (step_of run)
 
--- their packets are those of units in memory, and they are few enough for their levels
+-- its units have no more packets than a unit in memory, and are few enough for their levels
 pub record IsRun (run : UnitRun) : Type 0 where
   pub packets : run.packets ≤ 2 ^ 56
   pub count : run.count ≤ 65_536
 
--- 2. The steps of a stream, and the packets of one of the largest size
+-- 2. The steps of a stream, and the packets of a unit of the largest size
 
 pub record UnitRunsView : Type 0 where
   pub steps : List UnitStep
@@ -52,6 +52,6 @@ unfoldable pub greatest_over : ℕ → ℕ → List UnitStep → ℕ
 greatest_over pace level [] = 0
 greatest_over pace level (s ∷ ss) = max (step_level pace level s) (greatest_over pace (step_level pace level s) ss)
 
--- the packets of the least burst with which they keep a pace
+-- the packets of the least burst that lets the units keep a pace
 abbrev pub runs_burst : ℕ → UnitRunsView → ℕ
 runs_burst pace runs = max runs.largest (div_ceil (greatest_over pace 0 runs.steps) slot_units_at_1bps)

@@ -11,21 +11,21 @@ use std::alloc::{AllocError, Allocator};
 /// Private_stream_1 (ISO/IEC 13818-1, table 2-22).
 pub const PRIVATE_STREAM_1: u8 = 0xbd;
 
-// The DTS of a unit.
+// Returns the DTS of a unit.
 fn dts_of<A: Allocator>(unit: &FoundUnit<'_, A>) -> u64
     ensures { result ≡ unit.now.unit.dts }
 {
     unit.dts
 }
 
-// Whether a unit of private_stream_1 is due when another one is.
+// Returns whether a unit of private_stream_1 is due at the same moment as another unit.
 fn is_same<A: Allocator>(unit: &FoundUnit<'_, A>, next: &FoundUnit<'_, A>) -> bool
     ensures { result ≡ (unit.now.stream_id == 0xBD && next.now.unit.dts == unit.now.unit.dts) }
 {
     unit.stream_id == PRIVATE_STREAM_1 && next.dts == unit.dts
 }
 
-// Whether it is due when the unit at a place is, if there is one.
+// Returns whether a unit is due at the same moment as the unit at a place, if there is one.
 #[tactic(auto, using(crate::proofs::ApartUnits::same_end))]
 fn is_same_at<A: Allocator>(at: usize, unit: &FoundUnit<'_, A>, found: &[FoundUnit<'_, A>]) -> bool
     ensures { result ≡ spec.is_same_next unit.now (drop at found.now) }
@@ -36,7 +36,7 @@ fn is_same_at<A: Allocator>(at: usize, unit: &FoundUnit<'_, A>, found: &[FoundUn
     }
 }
 
-/// Returns how many units of a row are before the next unit, if so many are before this one, counted up to 63.
+/// Returns how many units of a row are before the next unit, if `place` units are before this unit, counted up to 63.
 #[tactic(auto, unfolding(crate::specs::ApartUnits::next_place))]
 pub fn next_place(same: bool, place: u8) -> u8
     requires { place ≤ 63 }
@@ -46,7 +46,7 @@ pub fn next_place(same: bool, place: u8) -> u8
     if same { (place + 1).min(63) } else { 0 }
 }
 
-/// Returns the DTS of a unit with so many of its row before it.
+/// Returns the DTS of a unit with `place` units of its row before it.
 #[tactic(auto, unfolding(crate::specs::ApartUnits::apart_by))]
 pub fn apart_by(same: bool, place: u8, dts: u64) -> u64
     requires { place ≤ 63 }
@@ -59,7 +59,7 @@ pub fn apart_by(same: bool, place: u8, dts: u64) -> u64
     }
 }
 
-// The DTS of units.
+// Returns the DTS of units.
 fn apart_dts<A: Allocator>(alloc: A, found: &[FoundUnit<'_, A>]) -> Result<Vec<u64, A>, AllocError>
     ensures { IfOk result (λ dts. dts.items ≡ spec.apart_dts 0 found.now) }
 {
@@ -73,7 +73,7 @@ fn apart_dts<A: Allocator>(alloc: A, found: &[FoundUnit<'_, A>]) -> Result<Vec<u
     Ok(dts)
 }
 
-// Whether two in a row are due at one moment.
+// Returns whether two units in a row are due at one moment.
 fn has_same<A: Allocator>(found: &[FoundUnit<'_, A>]) -> bool
     ensures { result ≡ spec.has_same found.now }
 {
@@ -85,9 +85,9 @@ fn has_same<A: Allocator>(found: &[FoundUnit<'_, A>]) -> bool
     false
 }
 
-/// Returns the units of a stream, each with a DTS of its own where several of private_stream_1 in a row have one: the
-/// last keeps it, and those before it are decoded up to 63 units of 90 kHz earlier, one after another. All else is
-/// unchanged.
+/// Returns the units of a stream, each with a DTS of its own, if several of private_stream_1 in a row share a DTS: the
+/// last unit keeps it, and the units before it are decoded up to 63 units of 90 kHz earlier, one after another. All
+/// else is unchanged.
 #[tactic(auto, using(crate::proofs::ApartUnits::apart_stay))]
 pub fn apart_units<'f, A: Allocator + Clone>(
     alloc: A,

@@ -23,7 +23,7 @@ pub struct CountedPackets<A: Allocator = Global> {
     largest: u64,
 }
 
-// A contract sees the numbers as a list. Each is that of a unit in memory.
+// A contract sees the numbers as a list. Each is the number of packets of a unit in memory.
 impl<A: Allocator> Model for CountedPackets<A> {
     ghost use Rattle.es_moments.specs.Declaration.{AreAtMost, CountedPacketsView};
 
@@ -34,7 +34,7 @@ impl<A: Allocator> Model for CountedPackets<A> {
     ghost invariant = { λ c. AreAtMost c.greatest c.numbers.items };
 }
 
-// The packets of each unit.
+// Returns the packets of each unit.
 fn packet_numbers<A: Allocator>(alloc: A, weights: &[UnitWeight]) -> Result<Vec<u64, A>, AllocError>
     requires { All IsWeight weights.now }
     ensures numbers { IfOk result (λ numbers. numbers.items ≡ map (λ w. w.packets) weights.now) }
@@ -43,7 +43,7 @@ fn packet_numbers<A: Allocator>(alloc: A, weights: &[UnitWeight]) -> Result<Vec<
     weights.iter().map(|weight| weight.packets).collect(alloc)
 }
 
-// The sum of the numbers of a row.
+// Returns the sum of the numbers of a row.
 fn row_packets(numbers: &[u64]) -> u64
     requires { sum numbers.now ≤ 2 ^ 63 }
     ensures { result ≡ sum numbers.now }
@@ -51,7 +51,7 @@ fn row_packets(numbers: &[u64]) -> u64
     numbers.iter().sum()
 }
 
-// The greatest of some numbers.
+// Returns the greatest of some numbers.
 fn greatest_of(numbers: &[u64]) -> u64
     requires { All (λ n. n ≤ 2 ^ 56) numbers.now }
     ensures { spec.AreAtMost result numbers.now }
@@ -63,7 +63,8 @@ fn greatest_of(numbers: &[u64]) -> u64
     greatest
 }
 
-// The most packets of `group` units in a row, or of all if they are fewer; `greatest` is the greatest number of one.
+// Returns the most packets of `group` units in a row, or of all if they are fewer; `greatest` is the greatest number of
+// any unit.
 fn greatest_row(numbers: &[u64], greatest: u64, group: usize) -> u64
     requires few { group ≤ 64 }
     requires bound { spec.AreAtMost greatest numbers.now }
@@ -72,7 +73,7 @@ fn greatest_row(numbers: &[u64], greatest: u64, group: usize) -> u64
 {
     let (first, later) = numbers.split_at(group.min(numbers.len()));
     let mut row = row_packets(first);
-    // No row has more, and none has to be looked at, where each unit has as many packets as the greatest.
+    // If each unit has as many packets as the greatest, no row has more, and no row has to be looked at.
     if row == group as u64 * greatest {
         return row;
     }
@@ -97,7 +98,7 @@ impl<A: Allocator + Clone> CountedPackets<A> {
 }
 
 impl<A: Allocator> CountedPackets<A> {
-    /// Counts the packets of units that count so.
+    /// Counts the packets of units with these weights.
     pub(crate) fn of_weights(alloc: A, weights: &[UnitWeight]) -> Result<Self, AllocError>
         requires { All IsWeight weights.now }
         ensures { IfOk result (λ packets. packets ≡ weighed_packets weights.now) }

@@ -57,7 +57,7 @@ pub(crate) fn largest_of(weights: &[UnitWeight]) -> usize
     greatest
 }
 
-// The least time from one DTS to the next, of units after a DTS.
+// Returns the least time from one DTS to the next, of units after a DTS.
 fn interval_after(before: u64, weights: &[UnitWeight]) -> u32
     ensures value { result ≡ spec.weighed_after before weights.now }
     ensures bound { result ≤ 90000 }
@@ -71,7 +71,7 @@ fn interval_after(before: u64, weights: &[UnitWeight]) -> u32
     least
 }
 
-// The least time from one DTS to the next.
+// Returns the least time from one DTS to the next.
 #[tactic(auto, unfolding(crate::specs::CountedUnits::weighed_interval))]
 fn interval_of(weights: &[UnitWeight]) -> u32
     ensures { result ≡ spec.weighed_interval weights.now }
@@ -82,7 +82,7 @@ fn interval_of(weights: &[UnitWeight]) -> u32
     }
 }
 
-// All that is counted of units that count so.
+// Returns all counts of units with these weights.
 #[tactic(auto, unfolding(crate::specs::CountedUnits::weighed_units))]
 fn weighed_units<A: Allocator + Clone>(
     alloc: A,

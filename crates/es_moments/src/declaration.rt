@@ -20,7 +20,7 @@ pub fn min_interval<A: Allocator>(units: &[Unit<A>]) -> u32
     interval_after(dts_of(first), rest)
 }
 
-// The same of units after a DTS.
+// Returns the same for units after a DTS.
 fn interval_after<A: Allocator>(before: u64, units: &[Unit<A>]) -> u32
     ensures value { result ≡ spec.interval_after before units.now }
     ensures bound { result ≤ 90000 }

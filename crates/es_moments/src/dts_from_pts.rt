@@ -27,7 +27,7 @@ pub enum DtsError {
     Fault(DtsFault),
 }
 
-// The greatest time by which a moment in order is after the one in its place.
+// Returns the greatest time from a moment to the moment in its place in ascending order.
 fn max_ahead(order: &[u128], moments: &[u128]) -> u128
     ensures { result ≡ spec.max_ahead order.now moments.now }
 {
@@ -53,7 +53,7 @@ fn stands_first(moment: u128, moments: &[u128]) -> bool
     }
 }
 
-// The stamp of the first moment that is there twice.
+// Returns the fault of the first moment that occurs twice.
 #[tactic(auto, using(crate::proofs::MadeDts::same_here, crate::proofs::MadeDts::same_later, crate::proofs::MadeDts::same_none))]
 fn first_same_pts(order: &[u128]) -> Option<DtsFault>
     ensures { result ≡ spec.first_same_pts order.now }
@@ -68,7 +68,7 @@ fn first_same_pts(order: &[u128]) -> Option<DtsFault>
     None
 }
 
-// The first moment that is more than a second after the DTS in its place.
+// Returns the fault of the first moment that is more than a second after the DTS in its place.
 fn first_late_pts(shift: u128, order: &[u128], moments: &[u128]) -> Option<DtsFault>
     ensures { result ≡ spec.first_late_pts shift 0 order.now moments.now }
 {
@@ -86,7 +86,7 @@ fn first_late_pts(shift: u128, order: &[u128], moments: &[u128]) -> Option<DtsFa
     None
 }
 
-// The moments in order, shifted, as stamps.
+// Returns the moments in order, shifted, as stamps.
 fn shifted<A: Allocator>(alloc: A, shift: u128, order: &[u128]) -> Result<Vec<u64, A>, AllocError>
     ensures { IfOk result (λ stamps. stamps.items ≡ spec.shifted shift order.now) }
 {
@@ -96,7 +96,7 @@ fn shifted<A: Allocator>(alloc: A, shift: u128, order: &[u128]) -> Result<Vec<u6
         .collect(alloc)
 }
 
-// What can't be made.
+// Returns why no DTS can be made, if so.
 fn fault_of(shift: u128, order: &[u128], moments: &[u128]) -> Option<DtsFault>
     ensures { result ≡ option_or (spec.first_same_pts order.now) (spec.first_late_pts shift 0 order.now moments.now) }
 {
@@ -106,7 +106,7 @@ fn fault_of(shift: u128, order: &[u128], moments: &[u128]) -> Option<DtsFault>
     first_late_pts(shift, order, moments)
 }
 
-// The moments of stamps, and these in order of time.
+// Returns the moments of stamps, and these in order of time.
 fn ordered_moments<A: Allocator + Clone>(
     alloc: A,
     stamps: &[u64],

@@ -1,10 +1,10 @@
 //! Moments of the units of elementary streams, and what a stream declares of them.
 //!
-//! A unit as a stream carries it (`specs/WireUnits`) has stamps of 33 bits, which become moments of a run by one constant
-//! for a clock (`specs/Stamps`, `specs/UnitMoments`), with DTS of their own where several of a data stream have one
-//! (`specs/ApartUnits`) or pictures are decoded in another order (`specs/MadeDts`). The least that a stream declares is
-//! counted from its units (`specs/Declaration`, `specs/CountedUnits`, `specs/UnitRuns`). [`merged`] puts the units of
-//! many streams in the order of their decoding times.
+//! A unit as a stream carries it (`specs/WireUnits`) has stamps of 33 bits, which become moments of a run by one
+//! constant for a clock (`specs/Stamps`, `specs/UnitMoments`), with DTS of their own if several units of a data stream
+//! share a DTS (`specs/ApartUnits`) or pictures are decoded in another order (`specs/MadeDts`). The least that a stream
+//! declares is counted from its units (`specs/Declaration`, `specs/CountedUnits`, `specs/UnitRuns`). [`merged`] puts
+//! the units of many streams in the order of their decoding times.
 #![tactic(auto)]
 
 pub mod apart;

@@ -10,14 +10,14 @@ use crate::wire_unit::{FoundUnit, WireUnit};
 use std::alloc::{AllocError, Allocator};
 use std::collections::VecDeque;
 
-// The PTS of units.
+// Returns the PTS of units.
 fn all_pts<A: Allocator>(alloc: A, found: &[FoundUnit<'_, A>]) -> Result<Vec<u64, A>, AllocError>
     ensures { IfOk result (λ stamps. stamps.items ≡ spec.pts_of found.now) }
 {
     found.iter().map(|unit| unit.pts).collect(alloc)
 }
 
-// A unit with another DTS.
+// Returns a unit with another DTS.
 fn restamped<'f, A: Allocator>(dts: u64, unit: FoundUnit<'f, A>) -> FoundUnit<'f, A>
     ensures { result ≡ unit_with unit.entry.packet unit.entry.stream_id dts unit.entry.unit.pts
         unit.entry.unit.marks unit.entry.unit.bytes }
@@ -53,8 +53,8 @@ pub(crate) fn with_dts<'f, A: Allocator>(
     Ok(units)
 }
 
-/// Returns the units of a stream with DTS that `made_dts` makes from their PTS, all else unchanged. For streams without
-/// DTS whose pictures are in another order than they are shown, or whose DTS do not rise.
+/// Returns the units of a stream with DTS that `made_dts` makes from their PTS, all else unchanged. Serves streams
+/// without DTS whose pictures are in another order than they are shown, and streams whose DTS do not rise.
 pub fn units_with_made_dts<'f, A: Allocator + Clone>(
     alloc: A,
     found: Vec<FoundUnit<'f, A>, A>,

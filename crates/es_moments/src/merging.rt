@@ -7,7 +7,7 @@ use pes_packet::Unit;
 use std::alloc::{AllocError, Allocator};
 use std::collections::VecDeque;
 
-// When the next unit of a stream is due.
+// Returns when the next unit of a stream is due.
 #[tactic(auto, unfolding(crate::specs::Merging::head_dts))]
 fn next_dts<A: Allocator>(queue: &VecDeque<Unit<A>, A>) -> Option<u64>
     ensures { result ≡ spec.head_dts queue.now.items }
@@ -18,7 +18,7 @@ fn next_dts<A: Allocator>(queue: &VecDeque<Unit<A>, A>) -> Option<u64>
     }
 }
 
-// The earlier of a stream's next unit and the one found before.
+// Returns the earlier of a stream's next unit and the unit found before.
 #[tactic(auto, unfolding(crate::specs::Merging::earlier))]
 fn earlier(best: Option<(usize, u64)>, k: usize, dts: Option<u64>) -> Option<(usize, u64)>
     ensures { result ≡ spec.earlier best k dts }
@@ -38,7 +38,7 @@ fn earlier(best: Option<(usize, u64)>, k: usize, dts: Option<u64>) -> Option<(us
     }
 }
 
-// When the next unit of each stream is due.
+// Returns when the next unit of each stream is due.
 fn heads_of<A: Allocator>(
     alloc: A,
     queues: &[VecDeque<Unit<A>, A>],
@@ -48,7 +48,7 @@ fn heads_of<A: Allocator>(
     queues.iter().map(|queue| next_dts(queue)).collect(alloc)
 }
 
-// The stream whose next unit is due first, the first of those; none if no stream has a unit left.
+// Returns the stream whose next unit is due first, the first stream if several are; none if no stream has a unit left.
 fn next_stream(heads: &[Option<u64>]) -> Option<(usize, u64)>
     ensures { result ≡ spec.next_head 0 None heads.now }
 {

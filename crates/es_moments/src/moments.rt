@@ -10,10 +10,10 @@ use std::alloc::{AllocError, Allocator};
 // Half the range of stamps.
 const HALF: u128 = 1 << 32;
 
-// Moments are counted from long before the first one.
+// Moments are counted from long before the first moment.
 const START: u128 = 1 << 100;
 
-// The moment nearest to another at which the clock shows a stamp.
+// Returns the moment nearest to another moment when the clock shows a stamp.
 #[tactic(auto, unfolding(crate::specs::MadeDts::nearest))]
 fn nearest(moment: u128, stamp: u64) -> u128
     requires low { 2 ^ 32 ≤ moment }
@@ -26,7 +26,7 @@ fn nearest(moment: u128, stamp: u64) -> u128
     moment - HALF + u128::from(distance(shown, stamp))
 }
 
-/// Returns the moments of stamps, each nearest to the one before.
+/// Returns the moments of stamps, each nearest to the moment before it.
 pub(crate) fn moments_of<A: Allocator>(alloc: A, stamps: &[u64]) -> Result<Vec<u128, A>, AllocError>
     ensures { IfOk result (λ moments. moments.items ≡ spec.moments_of stamps.now) }
 {

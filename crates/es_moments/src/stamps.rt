@@ -11,15 +11,15 @@ const LAST_DTS: u64 = 1 << 52;
 /// Why stamps can't be moments of units.
 #[derive(Clone, Copy, PartialEq, Eq)]
 pub enum StampFault {
-    /// The DTS is this long before the one before it; 0 if they are equal.
+    /// The DTS is this long before the DTS of the unit before it; 0 if they are equal.
     DtsNotIncreasing(u64),
-    /// The PTS is so long after its DTS, modulo 2^33, which is more than the limit.
+    /// The PTS is this long after its DTS, modulo 2^33, which is more than the limit.
     PtsOutOfRange { after: u64, limit: u32 },
     /// The DTS is over 2^52 after the start.
     DtsTooFar,
 }
 
-/// Returns how long after a moment at which the clock shows one stamp it next shows another.
+/// Returns how long after a moment when the clock shows one stamp it next shows another stamp.
 #[tactic(auto, unfolding(crate::specs::Stamps::distance))]
 pub fn distance(from: u64, to: u64) -> u64
     ensures value { result ≡ spec.distance from to }
@@ -28,7 +28,7 @@ pub fn distance(from: u64, to: u64) -> u64
     (to % STAMP_MODULUS + STAMP_MODULUS - from % STAMP_MODULUS) % STAMP_MODULUS
 }
 
-/// Returns the moment of a DTS after another one or after none.
+/// Returns the moment of a DTS, after another DTS or at first.
 #[tactic(auto, unfolding(crate::specs::Stamps::dts_at))]
 pub fn dts_at(base: u64, before: Option<u64>, stamp: u64) -> u64
     requires base { base < 2 ^ 33 }
@@ -42,7 +42,7 @@ pub fn dts_at(base: u64, before: Option<u64>, stamp: u64) -> u64
     }
 }
 
-// A DTS that is not after the one before it.
+// Returns the fault of a DTS that is not after the DTS before it.
 #[tactic(auto, unfolding(crate::specs::Stamps::dts_not_increasing))]
 fn dts_not_increasing(base: u64, before: Option<u64>, stamp: u64) -> Option<StampFault>
     requires base { base < 2 ^ 33 }
@@ -60,7 +60,7 @@ fn dts_not_increasing(base: u64, before: Option<u64>, stamp: u64) -> Option<Stam
     }
 }
 
-// A PTS that is not within a limit after its DTS.
+// Returns the fault of a PTS that is not within a limit after its DTS.
 fn pts_out_of_range(limit: u32, base: u64, dts: u64, stamp: u64) -> Option<StampFault>
     requires base { base < 2 ^ 33 }
     requires dts { dts < 2 ^ 53 }
@@ -74,7 +74,7 @@ fn pts_out_of_range(limit: u32, base: u64, dts: u64, stamp: u64) -> Option<Stamp
     }
 }
 
-// A DTS that no unit may have.
+// Returns the fault of a DTS that no unit may have.
 fn dts_too_far(dts: u64) -> Option<StampFault>
     ensures { result ≡ spec.dts_too_far dts }
 {
@@ -85,7 +85,7 @@ fn dts_too_far(dts: u64) -> Option<StampFault>
     }
 }
 
-/// Returns what is wrong with the stamps of a unit after a DTS or after none.
+/// Returns the fault of a unit's stamps, after a unit with the DTS `before`, or as the first unit.
 #[tactic(auto, unfolding(crate::specs::Stamps::or_fault))]
 pub(crate) fn unit_fault(
     limit: u32,
@@ -110,7 +110,7 @@ pub(crate) fn unit_fault(
     dts_too_far(moment)
 }
 
-// The least time after a moment at which the clock shows `from` until it shows one of the stamps, at most `most`.
+// Returns the least time, at most `most`, from a moment when the clock shows `from` until it shows a stamp.
 fn min_distance(from: u64, most: u64, stamps: &[u64]) -> u64
     ensures value { result ≡ spec.min_distance from most stamps.now }
     ensures bound { result ≤ most }

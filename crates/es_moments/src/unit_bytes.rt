@@ -21,7 +21,7 @@ pub trait UnitBytes: Sized + Drop {
 
 /// Bytes of a unit that can start with the body of a PES packet.
 pub trait BodyBytes<'f, A>: UnitBytes {
-    /// Those of a unit that starts with this body.
+    /// Returns the bytes of a unit that starts with this body.
     fn of_body(alloc: A, body: &'f [u8]) -> Result<Self, AllocError>
         ensures { IfOk result (λ b. Self.bytes b ≡ body.now) };
 }

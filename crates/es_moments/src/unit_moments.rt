@@ -27,8 +27,8 @@ pub struct UnitMoment {
     pub pts: u64,
 }
 
-// The moments of a unit of these stamps, after a DTS or after none, where the clock shows `base` at moment 0, its PTS
-// at most `limit` after its DTS; or why it can't have any.
+// Returns the moments of a unit with these stamps, after a DTS or at first, if the clock shows `base` at moment 0 and
+// its PTS is at most `limit` after its DTS; otherwise why it can't have any.
 fn moment(
     limit: u32,
     base: u64,
@@ -54,8 +54,8 @@ fn moment(
     })
 }
 
-/// Returns a unit at its moments, after a DTS or after none, where the clock shows `base` at moment 0, its PTS at most
-/// `limit` after its DTS; or why it can't have any.
+/// Returns a unit at its moments, after a DTS or at first, if the clock shows `base` at moment 0 and its PTS is at most
+/// `limit` after its DTS; otherwise why it can't have any.
 #[tactic(auto, unfolding(crate::specs::Stamps::unit_at))]
 pub fn moved_unit<A: Allocator>(
     limit: u32,
@@ -80,9 +80,9 @@ pub fn moved_unit<A: Allocator>(
     }
 }
 
-/// Returns the moments of units, where the clock shows `base` at moment 0: each DTS at the first moment after the DTS
-/// before at which the clock shows it, the first one at the first such moment of all, each PTS at the first from its
-/// DTS on, at most `limit` later.
+/// Returns the moments of units, if the clock shows `base` at moment 0: each DTS at the first moment after the DTS
+/// before it when the clock shows it, the first DTS at the first such moment of all, each PTS at the first such moment
+/// from its DTS on, at most `limit` later.
 pub fn found_moments<A: Allocator>(
     alloc: A,
     limit: u32,
@@ -112,7 +112,7 @@ pub fn found_moments<A: Allocator>(
     Ok(found)
 }
 
-// A unit at these moments.
+// Returns a unit at these moments.
 fn unit_at<A: Allocator>(moment: UnitMoment, wire: WireUnit<Vec<u8, A>>) -> Unit<A>
     ensures { result ≡ at.unit_at moment wire }
 {

@@ -1,4 +1,4 @@
-//! The packets of a stream's units at any pace, units in a row that come alike counted together.
+//! The packets of a stream's units at any pace, with equal units in a row counted together.
 
 ghost use Rattle.std.specs.Prelude.{◌≡◌, ◌≤◌, ◌-◌, ◌*◌, ◌^◌, ◌∷◌, ◌++◌, [], ℕ, All, IfOk, List, OnOk, max, min};
 ghost use Rattle.std.specs.Prelude.{replicate};
@@ -19,10 +19,10 @@ use std::marker::Model;
 /// The most units that are counted together.
 const MOST_ALIKE: u64 = 65_536;
 
-/// The greatest level that is counted: that of the greatest number of packets.
+/// The greatest level that is counted: the greatest number of packets, as a level.
 const MAX_LEVEL: u128 = u64::MAX as u128 * SLOT_UNITS_AT_1BPS;
 
-/// Units in a row that come alike: each is due as long after the one before, and has as many packets.
+/// Equal units in a row: each is due at the same time after the unit before it, and has as many packets.
 #[derive(Clone, Copy)]
 pub(crate) struct UnitRun {
     pub time: u64,
@@ -52,7 +52,7 @@ impl<A: Allocator> Model for UnitRuns<A> {
     ghost invariant = { λ r. All IsRun r.runs.items };
 }
 
-// Counts a further unit, and returns the run that it is of; one that it ends is appended.
+// Counts a further unit, and returns its run; appends the run that it ends.
 fn count_unit<A: Allocator>(
     runs: &mut Vec<UnitRun, A>,
     last: UnitRun,
@@ -85,7 +85,7 @@ fn count_unit<A: Allocator>(
     })
 }
 
-// The runs of units.
+// Returns the runs of units.
 fn runs_of<A: Allocator>(alloc: A, weights: &[UnitWeight]) -> Result<Vec<UnitRun, A>, AllocError>
     requires { All IsWeight weights.now }
     ensures steps { IfOk result (λ runs. flat_map spec.steps_of runs.items ≡ weighed_steps 0 weights.now) }
@@ -107,7 +107,7 @@ fn runs_of<A: Allocator>(alloc: A, weights: &[UnitWeight]) -> Result<Vec<UnitRun
     Ok(runs)
 }
 
-// The level of a pace after the first unit of a run.
+// Returns the level of a pace after the first unit of a run.
 fn first_level(pace: u32, level: u128, run: UnitRun) -> u128
     requires level { level ≤ 2 ^ 92 }
     requires run { spec.IsRun run }
@@ -118,7 +118,7 @@ fn first_level(pace: u32, level: u128, run: UnitRun) -> u128
     level.saturating_sub(off) + u128::from(run.packets) * SLOT_UNITS_AT_1BPS
 }
 
-// The level after `more` further units of it.
+// Returns the level after `more` further units of a run.
 fn later_level(pace: u32, first: u128, run: UnitRun, more: u64) -> u128
     requires first { first ≤ 2 ^ 93 }
     requires above { run.packets * SLOT_UNITS_AT_1BPS ≤ first }
@@ -132,7 +132,7 @@ fn later_level(pace: u32, first: u128, run: UnitRun, more: u64) -> u128
     (first + more * on).saturating_sub(more * off).max(on)
 }
 
-// The level after the units of a run, and the greatest after any of them.
+// Returns the level after the units of a run, and the greatest after any of them.
 fn run_levels(pace: u32, level: u128, run: UnitRun) -> (u128, u128)
     requires level { level ≤ 2 ^ 92 }
     requires run { spec.IsRun run }
@@ -161,7 +161,7 @@ impl<A: Allocator + Clone> UnitRuns<A> {
 }
 
 impl<A: Allocator> UnitRuns<A> {
-    /// Returns units that count so.
+    /// Returns the runs of units with these weights.
     pub(crate) fn of_weights(alloc: A, weights: &[UnitWeight]) -> Result<Self, AllocError>
         requires { All IsWeight weights.now }
         ensures { IfOk result (λ runs. runs ≡ weighed_runs weights.now) }

@@ -1,4 +1,4 @@
-//! What counts of each unit of a stream, in 24 bytes.
+//! The weight of each unit of a stream, in 24 bytes.
 
 ghost use Rattle.std.specs.Prelude.{◌≡◌, ◌≤◌, ◌+◌, ◌^◌, ℕ, All, IfOk, length};
 ghost use Rattle.pes_packet.specs.Encoding.{pes_packet_bytes};
@@ -15,7 +15,7 @@ use std::alloc::{AllocError, Allocator};
 /// The most bytes of a unit that is weighed.
 const MOST_BYTES: usize = 1 << 62;
 
-/// What counts of a unit: when it is due, its bytes with what its marks take, and its packets.
+/// The weight of a unit: when it is due, its bytes with the bytes of its marks, and its packets.
 #[derive(Clone, Copy, PartialEq, Eq)]
 pub(crate) struct UnitWeight {
     pub dts: u64,
@@ -23,7 +23,7 @@ pub(crate) struct UnitWeight {
     pub packets: u64,
 }
 
-// What counts of a unit.
+// Returns the weight of a unit.
 fn weight_of<A: Allocator>(base0: u64, unit: &Unit<A>) -> UnitWeight
     ensures value { (id : ℕ) → result ≡ spec.weight_of id base0 unit.now }
     ensures bound { spec.IsWeight result }
@@ -35,7 +35,7 @@ fn weight_of<A: Allocator>(base0: u64, unit: &Unit<A>) -> UnitWeight
     }
 }
 
-/// Returns what counts of each unit, with the clock's first value `base0`.
+/// Returns the weight of each unit, with the clock's first value `base0`.
 pub(crate) fn unit_weights<A: Allocator>(
     alloc: A,
     base0: u64,
@@ -51,7 +51,7 @@ pub(crate) fn unit_weights<A: Allocator>(
     Ok(weights)
 }
 
-// The size of the PES packet of a unit at these moments, header and all.
+// Returns the size of the PES packet of a unit at these moments, header and all.
 #[tactic(auto, unfolding(pes_packet::specs::Encoding::pes_packet_bytes))]
 fn found_packet_size<A: Allocator>(base0: u64, moment: UnitMoment, unit: &FoundUnit<'_, A>) -> u64
     requires { length unit.now.unit.bytes ≤ 2 ^ 62 }
@@ -72,7 +72,7 @@ fn found_packet_size<A: Allocator>(base0: u64, moment: UnitMoment, unit: &FoundU
     header + extension as u64 + size
 }
 
-// What counts of a unit at these moments.
+// Returns the weight of a unit at these moments.
 fn found_weight<A: Allocator>(
     base0: u64,
     moment: UnitMoment,
@@ -93,7 +93,7 @@ fn found_weight<A: Allocator>(
     })
 }
 
-/// Returns the same of units at these moments, whose bytes stay where they are found.
+/// Returns the weights of units at these moments, whose bytes stay where they are found.
 pub(crate) fn found_weights<A: Allocator>(
     alloc: A,
     base0: u64,

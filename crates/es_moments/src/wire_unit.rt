@@ -14,7 +14,7 @@ pub struct WireUnit<B: UnitBytes = Vec<u8>> {
     pub stream_id: u8,
     pub dts: u64,
     pub pts: u64,
-    /// What its first PES packet says beside the stamps.
+    /// The fields of its first PES packet besides the stamps.
     pub marks: Marks,
     pub bytes: B,
 }
@@ -22,7 +22,7 @@ pub struct WireUnit<B: UnitBytes = Vec<u8>> {
 /// A unit whose first PES packet's body stays in its finding.
 pub type FoundUnit<'f, A = Global> = WireUnit<LentBytes<'f, A>>;
 
-// A contract sees what it says, and not where its bytes are kept.
+// A contract sees its values, and not where its bytes are kept.
 impl<B: UnitBytes> Model for WireUnit<B> {
     ghost use Rattle.es_moments.specs.WireUnits.{CarriedUnit, unit_with};
 

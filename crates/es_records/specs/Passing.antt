@@ -12,10 +12,10 @@ use Rattle.fed_streams.specs.Feeding.{Fed, FeedView}
 use Rattle.es_feed.specs.Watching.{IsWatchedBy, IsWatchedOf, WatchedView}
 use Rattle.es_feed.specs.FedLines.{fed_lines, fed_records, have_fault, have_refusal}
 
--- 1. What a stream has fed while it comes
+-- 1. The records of a stream while it comes
 
--- of these bytes all but the last 1,127 at most are taken, and what is found in them is fed, and their slips; without these it is a
--- beginning of what the whole stream feeds, however it goes on (the law `fed_so_far`)
+-- all of these bytes except at most the last 1,127 are taken, and their findings are fed, and their slips; without slips the records are the beginning
+-- of the records of the whole stream, whatever bytes follow (the law `fed_so_far`)
 pub record IsFedSoFar (first : FeedView) (came : List ℕ) (fed : List Fed) : Type 0 where
   pub state : WatchedView
   pub by : IsWatchedBy first came false state fed
@@ -23,7 +23,7 @@ pub record IsFedSoFar (first : FeedView) (came : List ℕ) (fed : List Fed) : Ty
 
 -- 2. What went out of it
 
--- these bytes of the input were read, and what they feed went out: the records to the output, and a line for all else
+-- these bytes of the input were read, and their records went to the output, and a line for everything else to the error output
 pub record Passes (pids : List ℕ) (came : List ℕ) (fed : List Fed) (input output faults : Device) : Type 0 where
   pub read : Consumes input.before.bytes input.after.bytes came
   pub written : Takes output (fed_records fed)
@@ -48,7 +48,7 @@ IsStopped Read came untaken input = (untaken ≡ []) × (HasFailed input ⊎ (2 
 IsStopped Write came untaken input = ⊥
 IsStopped Memory came untaken input = IsClean input
 
--- what was fed before that went out
+-- the records fed before that went out
 pub record PassesFront (first : FeedView) (pids : List ℕ) (halt : Halt) (input output faults : Device) : Type 0 where
   pub came : List ℕ
   pub fed : List Fed
@@ -57,8 +57,8 @@ pub record PassesFront (first : FeedView) (pids : List ℕ) (halt : Halt) (input
   pub passes : Passes pids (came ++ untaken) fed input output faults
   pub stopped : IsStopped halt came untaken input
 
--- the writer failed within the records of what was fed last: what was fed before went out, and of these records it took the
--- first bytes; nothing among them is told
+-- the writer failed within the records that were fed last: earlier records went out, and of these it took the first bytes; no fault among them is
+-- reported
 pub record FailsToPass (first : FeedView) (pids : List ℕ) (input output faults : Device) : Type 0 where
   pub came : List ℕ
   pub before : List Fed
@@ -78,7 +78,7 @@ PassesOn first pids input output faults (Err Memory) = PassesFront first pids Me
 
 -- 3. Piece by piece
 
--- the most bytes of one read; what they make whole is out before the next
+-- the most bytes of one read; units that they make whole go out before the next
 abbrev pub longest_piece : ℕ
 longest_piece = 2 ^ 16
 
@@ -101,7 +101,7 @@ FeedsPiece old input new fed (Err Read) = Keeps input.before.bytes input.after.b
 FeedsPiece old input new fed (Err Write) = ⊥
 FeedsPiece old input new fed (Err Memory) = (piece : List ℕ) × Consumes input.before.bytes input.after.bytes piece × IsClean input
 
--- what is fed goes out: the records, and then a line for all else; or the writer fails within the records
+-- the fed records go out, and then a line for everything else; or the writer fails within the records
 abbrev pub GoesOut : List ℕ → List Fed → Device → Device → Result Bool Halt → Type 0
 GoesOut pids fed output faults (Ok faulty) =
     Takes output (fed_records fed) × IsClean output × Tells faults.before faults.after (fed_lines pids fed) × (faulty ≡ have_fault fed)
@@ -126,7 +126,7 @@ PassesPieces first pids input output faults (Err Read) state = PassesFront first
 PassesPieces first pids input output faults (Err Write) state = FailsToPass first pids input output faults
 PassesPieces first pids input output faults (Err Memory) state = PassesFront first pids Memory input output faults
 
--- what its end feeds goes out; or there is no memory for that
+-- the records of its end go out; or memory for them is refused
 abbrev pub PassesLast : FeedView → List ℕ → List ℕ → List Fed → Device → Device → Result Bool Halt → Type 0
 PassesLast first pids came before output faults (Ok found) =
     (last : List Fed) × IsWatchedOf first came (before ++ last) × GoesOut pids last output faults (Ok found)
@@ -137,13 +137,13 @@ PassesLast first pids came before output faults (Err Memory) = IsUntouched outpu
 
 -- 4. How the run over a stream ends
 
--- with its input: status 1 where a line was told
+-- the run ends with its input: status 1 if a line was reported
 pub record EndsStream (first : FeedView) (pids : List ℕ) (input output faults : Device) (status : ℕ) : Type 0 where
   pub faulty : Bool
   pub passes : PassesAll first pids input output faults faulty
   pub status_is : status ≡ (if faulty then 1 else 0)
 
--- before: a device failed or memory was wanting, and that is told last
+-- the run ends early: a device failed or memory was refused, and the last line says so
 pub record StopsStream (first : FeedView) (pids : List ℕ) (input output faults : Device) (status : ℕ) : Type 0 where
   pub halt : Halt
   pub told : Port

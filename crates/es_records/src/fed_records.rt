@@ -127,6 +127,13 @@ fn report_cut<E: Sink>(faults: &mut E, pid: u16, cut: CutUnits)
     report_line(faults, cut_name(cut.cause), &numbers);
 }
 
+// Reports that payload of a PID is in no PES packet.
+fn report_stray<E: Sink>(faults: &mut E, pid: u16, packet: u64)
+    ensures { Reports (writes E.Sink faults.old faults.new) (spec.stray_line pid packet) }
+{
+    report_line(faults, "stray", &[u128::from(pid), u128::from(packet)]);
+}
+
 // Reports that a program's map is of another version than the one before it.
 fn report_map<E: Sink>(faults: &mut E, map: NewMap)
     ensures { Reports (writes E.Sink faults.old faults.new) (spec.map_line map) }
@@ -211,7 +218,7 @@ fn report_silence<E: Sink>(faults: &mut E, dts: u64)
     report_line(faults, "silent", &[u128::from(dts)]);
 }
 
-// Reports what is told of the stream of a PID, of a map, of the clock, or of an encoder.
+// Writes the line of a report on the stream of a PID, a map, the clock, or an encoder.
 #[tactic(auto, unfolding(es_feed::specs::FedLines::fault_line))]
 fn report_fault<E: Sink>(faults: &mut E, pid: u16, fault: FeedFault)
     ensures { Reports (writes E.Sink faults.old faults.new) (spec.fault_line pid fault) }
@@ -221,6 +228,7 @@ fn report_fault<E: Sink>(faults: &mut E, pid: u16, fault: FeedFault)
         FeedFault::Ahead(by) => report_ahead(faults, pid, by),
         FeedFault::Lost(loss) => report_loss(faults, pid, loss),
         FeedFault::Cut(cut) => report_cut(faults, pid, cut),
+        FeedFault::Stray(packet) => report_stray(faults, pid, packet),
         FeedFault::Map(map) => report_map(faults, map),
         FeedFault::Clock(jump) => report_jump(faults, jump),
         FeedFault::Other(other) => report_other(faults, other),
@@ -231,7 +239,7 @@ fn report_fault<E: Sink>(faults: &mut E, pid: u16, fault: FeedFault)
     }
 }
 
-// Reports what is fed where it is no unit at its moment, and returns whether it is none.
+// Writes the line of a report, and returns whether it is a report and no unit.
 #[tactic(auto, unfolding(es_feed::specs::EachStream::has_fault))]
 fn tell_one<E: Sink>(faults: &mut E, pids: &[u16], fed: &(u8, Result<Unit, FeedFault>)) -> bool
     ensures tells { Tells (writes E.Sink faults.old faults.new).before (writes E.Sink faults.old faults.new).after

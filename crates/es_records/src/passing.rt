@@ -19,7 +19,7 @@ use std::alloc::Global;
 /// The most bytes of one read.
 const PIECE: usize = 1 << 16;
 
-// What is fed goes out: the records, and then a line for all else. Returns whether there is one.
+// Writes the records of units, then a line for each report. Returns whether there is a report.
 fn pass_fed<W: Sink, E: Sink>(
     pids: &[u16],
     fed: &[(u8, Result<Unit, FeedFault>)],
@@ -35,7 +35,7 @@ fn pass_fed<W: Sink, E: Sink>(
     }
 }
 
-// What waits goes out, and nothing waits then. Returns whether a line was told.
+// Writes all units and reports that wait. Returns whether there is a report.
 fn let_out<W: Sink, E: Sink>(
     pids: &[u16],
     fed: &mut Vec<(u8, Result<Unit, FeedFault>)>,
@@ -75,7 +75,7 @@ fn feed_piece<R: Source>(
     Ok(true)
 }
 
-// Whether what is fed says that the description is of another stream.
+// Returns whether a report says that the description is of another stream.
 #[tactic(auto, unfolding(es_feed::specs::FedLines::is_refusal, es_feed::specs::FedLines::is_other))]
 fn is_refusal(fed: &(u8, Result<Unit, FeedFault>)) -> bool
     ensures { result ≡ lines.is_refusal fed.now }
@@ -92,8 +92,8 @@ fn have_refusal(fed: &[(u8, Result<Unit, FeedFault>)]) -> bool
     fed.iter().any(|one| is_refusal(one))
 }
 
-// Reads a stream to the end of the input, or until it shows that the description is of another one; what each read
-// feeds goes out before the next. Returns whether a line was told.
+// Reads a stream to the end of the input, or until the description shows to be of another stream; writes the units and
+// reports of each read before the next. Returns whether there is a report.
 fn pass_pieces<R: Source, W: Sink, E: Sink>(
     alloc: Global,
     pids: &[u16],
@@ -134,7 +134,7 @@ fn pass_pieces<R: Source, W: Sink, E: Sink>(
     Err(Halt::Read)
 }
 
-// The input has ended: what that feeds goes out. Returns whether a line was told.
+// Ends the input, and writes the last units and reports. Returns whether there is a report.
 fn pass_last<W: Sink, E: Sink>(
     alloc: Global,
     pids: &[u16],
@@ -153,14 +153,14 @@ fn pass_last<W: Sink, E: Sink>(
     pass_fed(pids, &fed, output, faults)
 }
 
-// Whether one of two is so.
+// Returns whether either is true.
 fn either(early: bool, late: bool) -> bool
     ensures { result ≡ (early || late) }
 {
     early || late
 }
 
-// Reads a whole stream, and what it feeds goes out. Returns whether a line was told.
+// Reads a whole stream, and writes its units and reports. Returns whether there is a report.
 fn pass_all<R: Source, W: Sink, E: Sink>(
     alloc: Global,
     feed: UnitFeed,
@@ -192,9 +192,9 @@ fn pass_all<R: Source, W: Sink, E: Sink>(
 }
 
 /// Reads a stream as it arrives, writes the record of each unit and tick that it feeds before the next read, and
-/// reports each unit that has no moment and all else that is no unit (`FedLines` of `es_feed`); a description of another
-/// stream ends the run. Returns the status: 0 all went out, 1 anything was reported, 3 a device failed or memory was
-/// wanting.
+/// reports each unit without a moment and all that is no unit (`FedLines` of `es_feed`); a description of another
+/// stream ends the run. Returns the status: 0 all is written, 1 something was reported, 3 a device failed or memory ran
+/// out.
 pub fn pass_stream<R: Source, W: Sink, E: Sink>(
     alloc: Global,
     feed: UnitFeed,

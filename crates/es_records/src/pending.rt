@@ -26,7 +26,7 @@ impl Model for PendingBytes {
     ghost invariant = { λ p. p.size ≤ 65536 };
 }
 
-// Writes bytes over those from a place on.
+// Overwrites the bytes from a place on.
 fn overwrite(room: &mut [u8], at: usize, part: &[u8])
     requires { at + length part.now ≤ length room.old }
     ensures { room.new ≡ take at room.old ++ (part.now ++ drop (at + length part.now) room.old) }

@@ -48,7 +48,7 @@ fn put_first<W: Sink>(to: &mut W, pending: &mut PendingBytes, part: &[u8]) -> Re
     write_bytes(part, to)
 }
 
-// Keeps bytes pending, and writes those before them where there is no room for both.
+// Keeps bytes pending, and writes the earlier pending bytes if there is no room for both.
 fn put<W: Sink>(to: &mut W, pending: &mut PendingBytes, part: &[u8]) -> Result<(), Halt>
     ensures { spec.Puts (writes W.Sink to.old to.new) (pending.old.items ++ part.now) pending.new.items result }
 {

@@ -4,7 +4,7 @@ use Rattle.std.proofs.Common.{length, drop, map, set, replicate, get_or, slice_g
 use Rattle.std.proofs.lemmas.Bool.{cases_Bool, eqb-false}
 use Rattle.std.proofs.lemmas.List.{drop_all, drop-map, map-set, length-map, length-drop, length-set, length-replicate, get_or-replicate}
 use Rattle.std.proofs.lemmas.Option.{slice_get-get_or, slice_get_past, slice_get_within, slice_get-map, get_or_from_slice_get, none-some, same_Some}
-use Rattle.demux.specs.Views.{FindingView}
+use Rattle.pid_findings.specs.Views.{FindingView}
 use Rattle.demux.specs.Laws.{found_of, has_pid}
 use Rattle.es_moments.proofs.ApartUnits.{same_number}
 use Rattle.es_units.specs.PidPlaces.{IsOnWay, pids_in, place_from, next_place, AreLinks}

@@ -9,9 +9,10 @@ use Rattle.pes_packet.specs.declared.marks.Marks.{Marks}
 use Rattle.pes_packet.specs.declared.time_stamps.Stamps.{Stamps}
 use Rattle.pes_packet.specs.declared.time_stamps.Stamps.TheVariants.{Absent, Pts, PtsDts}
 use Rattle.demux.specs.Laws.{has_pid, found_of}
-use Rattle.demux.specs.Views.{WhatView, IsDuplicate, BreaksCounter, IsScrambled, IsTruncated, IsSection, IsBadSection, IsPes, IsBadPes, IsBadPacket, IsErrored}
-use Rattle.demux.specs.Views.{IsStray}
-use Rattle.demux.specs.Views.{FindingView}
+use Rattle.pid_findings.specs.Views.{WhatView, IsDuplicate, BreaksCounter, IsScrambled, IsTruncated, IsSection, IsBadSection, IsPes, IsBadPes, IsBadPacket}
+use Rattle.pid_findings.specs.Views.{IsErrored}
+use Rattle.pid_findings.specs.Views.{IsStray}
+use Rattle.pid_findings.specs.Views.{FindingView}
 use Rattle.es_units.specs.CarriedUnits.{RoleView, Ignored, Start, Continuation, pes_role, role_of_what, role_of, is_access_point}
 use Rattle.es_units.specs.CarriedUnits.{is_unstamped, first_packet, carried_units}
 use Rattle.es_units.specs.TakenUnits.{body_of, OthersStay}

@@ -5,11 +5,11 @@ use Rattle.es_moments.specs.ApartUnits.{apart_by, is_same_next, next_place}
 use Rattle.es_units.specs.UnitSteps.{ended_unit}
 use Rattle.es_moments.specs.WireUnits.{CarriedUnit, unit_with}
 
--- a unit with so many of its row before it, where the next one is of a row with it or not
+-- a unit that is number `place` of a row of units due at one moment; `same`: the next unit is in the row too
 unfoldable pub unit_apart : Bool → ℕ → CarriedUnit → CarriedUnit
 unit_apart same place u = unit_with u.packet u.stream_id (apart_by same place u.unit.dts) u.unit.pts u.unit.marks u.unit.bytes
 
--- a unit that is given is due when the one under way after it is: one that has no bytes is given to nobody
+-- whether a given unit and the open unit after it are due at one moment; an open unit without bytes counts as none
 unfoldable pub is_same_after : Option CarriedUnit → Option CarriedUnit → Bool
 is_same_after None next = false
 is_same_after (Some u) next = is_same_next u (option_to_list (ended_unit false next))

@@ -7,9 +7,9 @@ use Rattle.pes_packet.specs.HeaderMarks.{header_marks}
 use Rattle.pes_packet.specs.declared.marks.Marks.{Marks}
 use Rattle.pes_packet.specs.declared.time_stamps.Stamps.{Stamps}
 use Rattle.pes_packet.specs.declared.time_stamps.Stamps.TheVariants.{Absent, Pts, PtsDts}
-use Rattle.demux.specs.declared.finding.Kind.{Kind}
-use Rattle.demux.specs.declared.finding.Kind.TheVariants as kinds
-use Rattle.demux.specs.Views.{WhatView, IsDuplicate, IsTruncated, IsPes, IsBadPacket, IsErrored, IsStray, FindingView}
+use Rattle.pid_findings.specs.declared.finding.Kind.{Kind}
+use Rattle.pid_findings.specs.declared.finding.Kind.TheVariants as kinds
+use Rattle.pid_findings.specs.Views.{WhatView, IsDuplicate, IsTruncated, IsPes, IsBadPacket, IsErrored, IsStray, FindingView}
 use Rattle.demux.specs.Laws.{has_pid}
 use Rattle.es_moments.specs.ApartUnits.{apart_units}
 use Rattle.es_moments.specs.WireUnits.{CarriedUnit, unit_with}
@@ -31,7 +31,7 @@ pes_role packet stream_id marks Absent body = if stream_id == 0xBE then Ignored 
 pes_role packet stream_id marks (Pts pts) body = Start (unit_with packet stream_id pts pts marks body)
 pes_role packet stream_id marks (PtsDts pts dts) body = Start (unit_with packet stream_id dts pts marks body)
 
--- what begins is a PES packet of which no PTS was read
+-- whether a PES packet begins from which no PTS was read
 unfoldable pub is_unstamped : Option (ℕ × Kind) → Bool
 is_unstamped None = false
 is_unstamped (Some (packet, kinds.Table table_id)) = false
@@ -98,12 +98,12 @@ unfoldable pub start_id : RoleView → Option ℕ
 start_id (Start u) = Some u.stream_id
 start_id _ = None
 
--- that of the first one
+-- the stream_id of the first unit
 unfoldable pub first_id : ℕ → List FindingView → Option ℕ
 first_id pid [] = None
 first_id pid (finding ∷ findings) = option_or (start_id (role_of pid finding)) (first_id pid findings)
 
--- a PES packet that goes on with a unit, whole or cut short
+-- whether a finding is a PES packet that continues a unit, whole or cut short
 unfoldable pub is_part : Option ℕ → RoleView → Bool
 is_part first Ignored = false
 is_part first (Start u) = false
@@ -111,7 +111,7 @@ is_part None (Continuation other body) = false
 is_part (Some id) (Continuation other body) = other == id
 is_part first (Interruption unstamped) = unstamped
 
--- units of the PID have several PES packets, so that of one after which something is lost a part may be
+-- whether units of the PID have several PES packets: a loss after a unit may then be a loss of its part
 unfoldable pub is_split : ℕ → List FindingView → Bool
 is_split pid findings = list_any (λ finding. is_part (first_id pid findings) (role_of pid finding)) findings
 
@@ -120,11 +120,11 @@ is_split pid findings = list_any (λ finding. is_part (first_id pid findings) (r
 abbrev pub with_more : CarriedUnit → List ℕ → CarriedUnit
 with_more u more = unit_with u.packet u.stream_id u.unit.dts u.unit.pts u.unit.marks (u.unit.bytes ++ more)
 
--- a unit that has bytes, and of which no part is lost
+-- a unit, if it has bytes and no part of it is lost, before the later units
 abbrev pub whole_unit : Bool → CarriedUnit → List CarriedUnit → List CarriedUnit
 whole_unit lost u later = if lost then later else (if length u.unit.bytes == 0 then later else u ∷ later)
 
--- the unit that starts with a finding, with those after it
+-- the unit that starts with a finding, before the later units
 unfoldable pub units_from : Bool → ℕ → RoleView → List FindingView → List CarriedUnit → List CarriedUnit
 units_from split pid (Start u) findings later =
     whole_unit (split && is_cut u.stream_id pid findings) (with_more u (continuation u.stream_id pid findings)) later
@@ -134,8 +134,8 @@ unfoldable pub units_in : Bool → ℕ → List FindingView → List CarriedUnit
 units_in split pid [] = []
 units_in split pid (finding ∷ findings) = units_from split pid (role_of pid finding) findings (units_in split pid findings)
 
--- the units of a PID: each PES packet with a PTS and those without one that follow it directly with its stream_id; without
--- those of which a part is lost
+-- the units of a PID: each PES packet with a PTS, and the PES packets without a PTS that follow it directly with its stream_id; a unit
+-- with a lost part is left out
 abbrev pub carried_units : ℕ → List FindingView → List CarriedUnit
 carried_units pid findings = units_in (is_split pid findings) pid findings
 
@@ -143,6 +143,6 @@ carried_units pid findings = units_in (is_split pid findings) pid findings
 abbrev pub wire_units : ℕ → List FindingView → List AccessUnit
 wire_units pid findings = map (λ u. u.unit) (carried_units pid findings)
 
--- those of a PID, as on the wire
+-- the units of a PID, as on the wire
 abbrev pub apart_wire_units : ℕ → List FindingView → List AccessUnit
 apart_wire_units pid findings = map (λ u. u.unit) (apart_units (carried_units pid findings))

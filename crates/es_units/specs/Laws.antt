@@ -7,7 +7,7 @@ use Rattle.unit_queue.specs.OwnedStreams.{OwnedStream}
 use Rattle.unit_queue.specs.Causes.{unit_cause}
 use Rattle.unit_queue.specs.Queues.{Kept}
 use Rattle.es_moments.specs.Stamps.{dts_after, moved, first_fault}
-use Rattle.demux.specs.Views.{FindingView}
+use Rattle.pid_findings.specs.Views.{FindingView}
 use Rattle.demux.specs.Laws.{found_of}
 use Rattle.es_units.specs.CarriedUnits.{RoleView, Ignored, Start, Continuation, Interruption, role_of, carried_units}
 use Rattle.es_units.specs.Damage.{is_left_out}
@@ -15,11 +15,11 @@ use Rattle.es_units.specs.UnitWarnings.{unit_warnings}
 use Rattle.es_units.specs.declared.unit_warning.UnitWarning.{UnitWarning}
 use Rattle.es_moments.specs.Declaration.{min_interval, max_unit_size, max_pts_after, AllowsUnits}
 
--- the units of a PID are those of its findings alone
+-- the units of a PID depend on its findings alone
 abbrev pub FindingsOfThePid : Type 0
 FindingsOfThePid = (pid : ℕ) (findings : List FindingView) → carried_units pid (found_of pid findings) ≡ carried_units pid findings
 
--- the bytes that a finding has for the units of a PID: those of a PES packet that is not padding_stream
+-- the bytes that a finding has for the units of a PID: the bytes of a PES packet other than padding_stream
 unfoldable pub body_of : RoleView → List ℕ
 body_of Ignored = []
 body_of (Start u) = u.unit.bytes
@@ -33,12 +33,12 @@ bodies pid findings = flat_map (λ finding. body_of (role_of pid finding)) findi
 unfoldable pub leaves_out : UnitWarning → Bool
 leaves_out w = is_left_out w.cause
 
--- where no warning leaves out anything, the bytes of the PES packets of a PID, joined, are those of its units, joined
+-- if no warning reports something left out, the joined bytes of a PID's PES packets are the joined bytes of its units
 abbrev pub NothingIsLost : Type 0
 NothingIsLost = (pid count : ℕ) (findings : List FindingView) → list_any leaves_out (unit_warnings pid count findings) ≡ false →
     bodies pid findings ≡ flat_map (λ u. u.unit.bytes) (carried_units pid findings)
 
--- units moved after others are moved as one list with them: what comes later changes no moment
+-- units moved in two lists are moved as in one list: later units change no moment
 abbrev pub MovedInTurn : Type 0
 MovedInTurn = (base : ℕ) (before : Option ℕ) (us more : List AccessUnit) →
     moved base before (us ++ more) ≡ moved base before us ++ moved base (dts_after base before us) more
@@ -56,12 +56,12 @@ pub record Declares (l : OwnedStream) (us : List AccessUnit) : Type 0 where
   pub lead : FirstDue l.parameters.lead us
   pub allowance : AllowsUnits l.parameters.allowance l.parameters.stream_id l.parameters.base0 us
 
--- units that have bytes, and stamps that can be moments, keep what is declared of them
+-- units with bytes, and with stamps that can be moments, are within the declaration made from them
 abbrev pub UnitsAreKept : Type 0
 UnitsAreKept = (l : OwnedStream) (limit base : ℕ) (wire : List AccessUnit) → first_fault limit base None 0 wire ≡ None → All (λ u. 1 ≤ length u.bytes) wire →
     Declares l (moved base None wire) → Kept l (moved base None wire)
 
--- each of them is then taken after those before it while no slot is written, if there is room for one
+-- each of these units is then accepted after the units before it, before any slot is written, if there is room for one
 abbrev pub TakenOneByOne : Type 0
 TakenOneByOne = (l : OwnedStream) (capacity : ℕ) (us : List AccessUnit) (u : AccessUnit) (more : List AccessUnit) → 0 < allowance_rows l.parameters.allowance →
     Kept l (us ++ u ∷ more) → length us < capacity → unit_cause l 0 capacity us u ≡ None

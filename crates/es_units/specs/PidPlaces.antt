@@ -1,6 +1,6 @@
 -- Where the findings of each PID are.
 use Rattle.std.specs.Prelude.{◌≡◌, ◌<◌, ℕ, ◌+◌, if◌then◌else◌, Option, Some, List, [], ◌∷◌, drop, length, map, slice_get}
-use Rattle.demux.specs.Views.{FindingView}
+use Rattle.pid_findings.specs.Views.{FindingView}
 use Rattle.demux.specs.Laws.{has_pid}
 
 -- the PIDs of findings
@@ -19,7 +19,7 @@ first_place pid pids = place_from pid 0 pids
 abbrev pub next_place : ℕ → ℕ → List (Option ℕ) → ℕ
 next_place pid at pids = place_from pid (at + 1) (drop (at + 1) pids)
 
--- a place to which a walk over the findings of a PID comes: that of a finding of the PID, or past them all
+-- a place in a walk over the findings of a PID: the place of a finding of the PID, or past all findings
 abbrev pub IsOnWay : ℕ → ℕ → List (Option ℕ) → Type 0
 IsOnWay pid at pids = at < length pids → slice_get pids at ≡ Some (Some pid)
 

@@ -1,10 +1,11 @@
--- Warnings: what is found on a PID and is in no unit that is carried, and a PES packet whose end is not known.
+-- Warnings: findings on a PID that are in no carried unit, and a PES packet whose end is not known.
 use Rattle.std.specs.Prelude.{ℕ, ◌==◌, ◌&&◌, Bool, false, nat_le, if◌then◌else◌, Option, Some, None, List, [], ◌∷◌, ◌++◌, length}
 use Rattle.pes_packet.specs.declared.time_stamps.Stamps.{Stamps}
 use Rattle.pes_packet.specs.declared.time_stamps.Stamps.TheVariants.{Absent, Pts, PtsDts}
-use Rattle.demux.specs.Views.{WhatView, IsDuplicate, BreaksCounter, IsScrambled, IsTruncated, IsSection, IsBadSection, IsPes, IsBadPes, IsBadPacket, IsErrored}
-use Rattle.demux.specs.Views.{IsStray}
-use Rattle.demux.specs.Views.{FindingView}
+use Rattle.pid_findings.specs.Views.{WhatView, IsDuplicate, BreaksCounter, IsScrambled, IsTruncated, IsSection, IsBadSection, IsPes, IsBadPes, IsBadPacket}
+use Rattle.pid_findings.specs.Views.{IsErrored}
+use Rattle.pid_findings.specs.Views.{IsStray}
+use Rattle.pid_findings.specs.Views.{FindingView}
 use Rattle.demux.specs.Laws.{has_pid}
 use Rattle.es_units.specs.CarriedUnits.{RoleView, Ignored, Start, Continuation, Interruption, role_of, first_packet, continuation, is_cut, is_split}
 use Rattle.es_units.specs.declared.unit_warning.UnitWarningCause.{UnitWarningCause}
@@ -13,7 +14,7 @@ use Rattle.es_units.specs.declared.unit_warning.UnitWarning.{UnitWarning}
 
 -- 1. One finding
 
--- the stream_id of the unit with which a PES packet without a PTS that comes next goes on, if it has the same
+-- the stream_id of the unit that the next PES packet without a PTS continues, if it has the same stream_id
 unfoldable pub current_after : Option ℕ → RoleView → Option ℕ
 current_after current Ignored = current
 current_after current (Start u) = Some u.stream_id
@@ -21,16 +22,16 @@ current_after None (Continuation id body) = None
 current_after (Some current) (Continuation id body) = if id == current then Some current else None
 current_after current (Interruption unstamped) = None
 
--- of a PES packet that is in a unit
+-- the warning for a PES packet that is in a unit
 abbrev pub open_ended_cause : Bool → Option UnitWarningCause
 open_ended_cause unended = if unended then Some causes.OpenEnded else None
 
--- of a PES packet without a PTS: it goes on with the current unit, or is padding_stream, or is in none
+-- the warning for a PES packet without a PTS: it continues the current unit, or is padding_stream, or is in no unit
 unfoldable pub unstamped_cause : Option ℕ → ℕ → Bool → ℕ → Option UnitWarningCause
 unstamped_cause None id unended size = Some (causes.NoUnitBefore size)
 unstamped_cause (Some current) id unended size = if id == current then open_ended_cause unended else Some (causes.OtherStreamId id size)
 
--- of the first PES packet of a unit
+-- the warning for the first PES packet of a unit
 unfoldable pub first_cause : Bool → Bool → Bool → ℕ → Option UnitWarningCause
 first_cause lost alone unended size =
     if lost then Some causes.PartLost else (if size == 0 && alone then Some causes.EmptyUnit else open_ended_cause unended)
@@ -57,7 +58,7 @@ cause_of_what count packet current lost alone (IsBadPacket error) = None
 cause_of_what count packet current lost alone IsErrored = None
 cause_of_what count packet current lost alone (IsStray size) = Some causes.Stray
 
--- of a finding, with those after it
+-- the warning for a finding, by the findings after it
 unfoldable pub id_of : WhatView → ℕ
 id_of (IsPes header unended body) = header.id
 id_of _ = 0

@@ -9,7 +9,7 @@ ghost use Rattle.es_units.specs.UnitSteps.{ended_unit};
 use es_moments::apart::{PRIVATE_STREAM_1, apart_by, next_place};
 use es_moments::{UnitBytes, WireUnit};
 
-// Whether a unit of private_stream_1 is due when another one is that has bytes.
+// Returns whether a unit of private_stream_1 is due when the next unit is, if the next unit has bytes.
 #[tactic(auto, unfolding(es_moments::specs::ApartUnits::is_same_next, crate::specs::UnitSteps::ended_unit))]
 fn is_same<B: UnitBytes>(unit: &WireUnit<B>, next: &WireUnit<B>) -> bool
     ensures { result ≡ is_same_next unit.now (option_to_list (ended_unit false (Some next.now))) }
@@ -17,7 +17,7 @@ fn is_same<B: UnitBytes>(unit: &WireUnit<B>, next: &WireUnit<B>) -> bool
     !next.bytes.is_empty() && unit.stream_id == PRIVATE_STREAM_1 && next.dts == unit.dts
 }
 
-/// Returns whether a unit that is given is due when the one under way after it is.
+/// Returns whether the current unit is due at the same time as the unit just returned.
 #[tactic(auto, unfolding(crate::specs::ApartSteps::is_same_after, es_moments::specs::ApartUnits::is_same_next, crate::specs::UnitSteps::ended_unit))]
 pub(crate) fn is_same_after<B: UnitBytes>(
     unit: &Option<WireUnit<B>>,
@@ -34,8 +34,8 @@ pub(crate) fn is_same_after<B: UnitBytes>(
     is_same(unit, next)
 }
 
-/// Returns how many units of a row are before the next one, after a unit that is given, if one is, with so many before
-/// it, counted up to 63. `same`: whether the next one is of a row with it.
+/// Returns the place of the next unit in its row of units with one DTS, counted up to 63; `place` is the place of
+/// `unit`, and `same` says whether the next unit is in the same row.
 #[tactic(auto, unfolding(crate::specs::ApartSteps::place_past))]
 pub fn place_past<B: UnitBytes>(same: bool, place: u8, unit: &Option<WireUnit<B>>) -> u8
     requires { place ≤ 63 }
@@ -48,7 +48,7 @@ pub fn place_past<B: UnitBytes>(same: bool, place: u8, unit: &Option<WireUnit<B>
     }
 }
 
-// A unit with so many of its row before it.
+// Returns a unit with a DTS of its own, from its place in its row.
 #[tactic(auto, unfolding(crate::specs::ApartSteps::unit_apart))]
 fn unit_apart<B: UnitBytes>(same: bool, place: u8, unit: WireUnit<B>) -> WireUnit<B>
     requires { place ≤ 63 }
@@ -64,8 +64,8 @@ fn unit_apart<B: UnitBytes>(same: bool, place: u8, unit: WireUnit<B>) -> WireUni
     }
 }
 
-/// Returns the unit that is given, if one is, with a DTS of its own: so many of its row are before it, counted up to
-/// 63. `same`: whether the next one is of a row with it.
+/// Returns the unit with a DTS of its own, if there is a unit. `place` units of its row are before it, counted up to
+/// 63; `same`: whether the next unit is in the same row.
 #[tactic(auto, unfolding(crate::specs::ApartSteps::set_apart))]
 pub fn set_apart<B: UnitBytes>(
     same: bool,

@@ -2,16 +2,16 @@
 
 ghost use Rattle.std.specs.Prelude.{◌≡◌, IfOk, map};
 ghost use Rattle.es_units.specs.PidPlaces.{AreLinks, pids_in};
-ghost use Rattle.demux.specs.Shown.{finding_view};
+ghost use Rattle.pid_findings.specs.Shown.{finding_view};
 ghost use Rattle.es_units.specs.CarriedUnits as spec;
 
 use crate::found::found_units;
 use crate::pid_links::PidLinks;
-use demux::Finding;
 use es_moments::{FoundUnit, WireUnit};
+use pid_findings::Finding;
 use std::alloc::{AllocError, Allocator};
 
-// A copy of a unit.
+// Returns a copy of a unit.
 fn copied<A: Allocator>(
     alloc: A,
     unit: &FoundUnit<'_, A>,

@@ -2,7 +2,7 @@
 
 ghost use Rattle.std.specs.Prelude.{◌≡◌, IfOk, map};
 ghost use Rattle.es_units.specs.PidPlaces.{AreLinks, pids_in};
-ghost use Rattle.demux.specs.Shown.{finding_view};
+ghost use Rattle.pid_findings.specs.Shown.{finding_view};
 ghost use Rattle.es_units.specs.CarriedUnits as spec;
 ghost use Rattle.es_units.specs.UnitSteps as steps;
 
@@ -11,11 +11,11 @@ use crate::pid_links::PidLinks;
 use crate::split_units::{cuts_any, is_split};
 use crate::taken::push_unit;
 use crate::unit_taker::UnitTaker;
-use demux::Finding;
 use es_moments::FoundUnit;
+use pid_findings::Finding;
 use std::alloc::{AllocError, Allocator};
 
-// The units of a PID, where its units may have several PES packets if `split`, and whether one of them is cut.
+// Returns the units of a PID, and whether any unit is cut. If `split`, a unit may have several PES packets.
 fn units_by<'f, A: Allocator + Clone>(
     alloc: A,
     split: bool,

@@ -11,9 +11,9 @@ pub fn findings_of_the_pid()
     ensures { FindingsOfThePid }
 {}
 
-/// States that the units that a PID's findings make whole one by one, and the last one, are its units; what later
-/// findings give changes none that was given before; and where nothing is lost after a unit, the same units are given
-/// whether units are taken to have several PES packets or one.
+/// States that the units that a PID's findings make whole one by one, with the last unit, are the units of the PID;
+/// later findings change no unit given before; and if nothing is lost after a unit, the same units are given whether a
+/// unit may have several PES packets or not.
 pub fn given_as_carried()
     ensures in_turn { GivenInTurn }
     ensures carried { GivenAreCarried }
@@ -27,8 +27,8 @@ pub fn nothing_is_lost()
 {}
 
 /// States that units of a data stream that are due at one moment are decoded one after another, up to 63 units of 90
-/// kHz earlier: all but their DTS is kept, and nothing changes if no two in a row have one DTS, as those whose stamps
-/// can be moments.
+/// kHz earlier: all but their DTS is kept, and nothing changes if no two units in a row have one DTS, as in streams
+/// whose stamps can be moments.
 pub fn apart_by_one()
     ensures keep { ApartKeep }
     ensures stay { ApartStay }

@@ -1,9 +1,10 @@
 //! Units of elementary streams from what a demultiplexer finds.
 //!
 //! The units of a PID are a function of its findings (`specs/CarriedUnits`): where they are found, copied, or moved out
-//! of the findings (`specs/TakenUnits`), one by one as findings come (`specs/UnitSteps`, `specs/ApartSteps`). What is no
-//! part of a unit is warned of (`specs/UnitWarnings`). The laws say that the stamps on the wire are the moments with the
-//! constant modulo 2^33 (`es_moments`), and that the units keep their declaration, so that a queue accepts each.
+//! of the findings (`specs/TakenUnits`), one by one as findings arrive (`specs/UnitSteps`, `specs/ApartSteps`). A
+//! warning reports each finding that is no part of a unit (`specs/UnitWarnings`). The laws say that the stamps on the
+//! wire are the moments with the constant modulo 2^33 (`es_moments`), and that the units keep their declaration, so
+//! that a queue accepts each.
 #![tactic(auto)]
 
 mod apart_steps;

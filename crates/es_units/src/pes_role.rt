@@ -2,12 +2,12 @@
 
 ghost use Rattle.std.specs.Prelude.{◌≡◌, ◌↔◌, false, IsTrue, Some};
 ghost use Rattle.demux.specs.Laws.{has_pid};
-ghost use Rattle.demux.specs.Shown.{finding_view};
+ghost use Rattle.pid_findings.specs.Shown.{finding_view};
 ghost use Rattle.es_units.specs.CarriedUnits as spec;
 ghost use Rattle.es_units.specs.Shown.{role_view};
 
-use demux::{Finding, Kind, What};
 use pes_packet::{Marks, Stamps};
+use pid_findings::{Finding, Kind, What};
 use std::alloc::Allocator;
 
 /// The first PES packet of a unit.
@@ -37,7 +37,7 @@ pub(crate) enum PesRole<'f> {
 /// padding_stream (ISO/IEC 13818-1, table 2-22).
 pub(crate) const PADDING_STREAM: u8 = 0xbe;
 
-// The role of a PES packet with these marks and stamps.
+// Returns the role of a PES packet with these marks and stamps.
 #[tactic(auto, unfolding(crate::specs::CarriedUnits::pes_role))]
 fn pes_role<'f>(
     packet: u64,
@@ -79,7 +79,7 @@ pub(crate) fn first_packet(packet: u64, begun: Option<(u64, Kind)>) -> u64
     }
 }
 
-// Whether what begins is a PES packet of which no PTS was read.
+// Returns whether a PES packet without a readable PTS begins.
 #[tactic(auto, unfolding(crate::specs::CarriedUnits::is_unstamped))]
 fn is_unstamped(begun: Option<(u64, Kind)>) -> bool
     ensures { result ≡ spec.is_unstamped begun }
@@ -90,7 +90,7 @@ fn is_unstamped(begun: Option<(u64, Kind)>) -> bool
     }
 }
 
-// Whether what begins is a PES packet whose first packet has the random_access_indicator.
+// Returns whether a PES packet begins whose first packet has the random_access_indicator.
 #[tactic(auto, unfolding(crate::specs::CarriedUnits::is_access_point))]
 fn is_access_point(begun: Option<(u64, Kind)>) -> bool
     ensures { result ≡ spec.is_access_point begun }
@@ -101,7 +101,7 @@ fn is_access_point(begun: Option<(u64, Kind)>) -> bool
     }
 }
 
-/// Returns whether it is a finding of a PID: one that is not is ignored among its units.
+/// Returns whether a finding is of a PID. A finding of another PID is ignored.
 #[tactic(auto, unfolding(crate::specs::CarriedUnits::role_of))]
 pub(crate) fn is_on<A: Allocator>(pid: u16, finding: &Finding<'_, A>) -> bool
     ensures on { IsTrue result ↔ (finding.now.pid ≡ Some pid) }

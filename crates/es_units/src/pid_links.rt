@@ -1,18 +1,18 @@
 //! Where the findings of each PID are.
 
 ghost use Rattle.std.specs.Prelude.{◌≡◌, IfOk, List, Option, Some, map, slice_get, ℕ};
-ghost use Rattle.demux.specs.Shown.{finding_view};
+ghost use Rattle.pid_findings.specs.Shown.{finding_view};
 ghost use Rattle.es_units.specs.PidPlaces as spec;
 
-use demux::Finding;
+use pid_findings::Finding;
 use std::alloc::{AllocError, Allocator};
 use std::marker::Model;
 
 // The number of PIDs that a finding can have.
 const PIDS: usize = 65_536;
 
-/// For each PID the place of its first finding, and for each finding the place of the next finding of its PID. A walk by
-/// these links visits the findings of one PID, and no others.
+/// For each PID the place of its first finding, and for each finding the place of the next finding of its PID. A walk
+/// by these links visits the findings of one PID only.
 #[derive(Drop)]
 pub struct PidLinks<A: Allocator> {
     // by PID

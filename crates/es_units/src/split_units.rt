@@ -2,17 +2,17 @@
 
 ghost use Rattle.std.specs.Prelude.{◌≡◌, ◌&&◌, ◌||◌, drop, map, option_map};
 ghost use Rattle.es_units.specs.PidPlaces.{AreLinks, IsOnWay, pids_in};
-ghost use Rattle.demux.specs.Shown.{finding_view};
+ghost use Rattle.pid_findings.specs.Shown.{finding_view};
 ghost use Rattle.es_units.specs.CarriedUnits as spec;
 ghost use Rattle.es_units.specs.UnitSteps as steps;
 ghost use Rattle.es_units.specs.Shown.{role_view};
 
 use crate::pes_role::{PesRole, is_on, role_of};
 use crate::pid_links::PidLinks;
-use demux::Finding;
+use pid_findings::Finding;
 use std::alloc::Allocator;
 
-// The bytes that a finding has for a unit of this stream_id; none where it ends the unit.
+// Returns the bytes that a finding adds to a unit of this stream_id; `None` if it ends the unit.
 #[tactic(auto, unfolding(crate::specs::CarriedUnits::more_bytes))]
 fn more_bytes<'f>(id: u8, role: PesRole<'f>) -> Option<&'f [u8]>
     ensures { option_map (λ bytes. bytes.now) result ≡ spec.more_bytes id (role_view role.entry) }
@@ -41,7 +41,7 @@ pub(crate) fn more_bytes_on<'f, A: Allocator>(
     more_bytes(id, role_of(pid, finding))
 }
 
-// The stream_id of a unit that starts.
+// Returns the stream_id of a unit that starts.
 #[tactic(auto, unfolding(crate::specs::CarriedUnits::start_id))]
 fn start_id(role: PesRole<'_>) -> Option<u8>
     ensures { result ≡ spec.start_id (role_view role.entry) }
@@ -54,7 +54,7 @@ fn start_id(role: PesRole<'_>) -> Option<u8>
     }
 }
 
-// The stream_id of the first unit.
+// Returns the stream_id of the first unit.
 fn first_id<A: Allocator>(pid: u16, findings: &[Finding<'_, A>], links: &PidLinks<A>) -> Option<u8>
     requires links { AreLinks links.now (pids_in (map finding_view findings.now)) }
     ensures { result ≡ spec.first_id pid (map finding_view findings.now) }
@@ -69,7 +69,7 @@ fn first_id<A: Allocator>(pid: u16, findings: &[Finding<'_, A>], links: &PidLink
     None
 }
 
-// Whether it is a PES packet that goes on with a unit, whole or cut short.
+// Returns whether a role is a further PES packet of a unit, whole or cut short.
 #[tactic(auto, unfolding(crate::specs::CarriedUnits::is_part))]
 fn is_part(first: Option<u8>, role: PesRole<'_>) -> bool
     ensures { result ≡ spec.is_part first (role_view role.entry) }
@@ -104,7 +104,8 @@ pub(crate) fn is_split<A: Allocator>(
     false
 }
 
-// How a role ends a unit of this stream_id, if it does: whether by something else than the start of the next one.
+// Returns how a role ends a unit of this stream_id, if it does: `true` if it cuts the unit, `false` if the next unit
+// starts.
 #[tactic(auto, unfolding(crate::specs::CarriedUnits::end_of))]
 fn end_of(id: u8, role: PesRole<'_>) -> Option<bool>
     ensures { result ≡ spec.end_of id (role_view role.entry) }
@@ -117,7 +118,7 @@ fn end_of(id: u8, role: PesRole<'_>) -> Option<bool>
     }
 }
 
-// Whether a role cuts the unit of this stream_id that is under way, if there is one.
+// Returns whether a role cuts the current unit, whose stream_id is `current`.
 #[tactic(auto, unfolding(crate::specs::UnitSteps::cuts))]
 fn cuts(current: Option<u8>, role: PesRole<'_>) -> bool
     ensures { result ≡ steps.cuts current (role_view role.entry) }
@@ -131,15 +132,14 @@ fn cuts(current: Option<u8>, role: PesRole<'_>) -> bool
     }
 }
 
-/// The same, or a unit was cut before.
+/// Returns whether a unit was cut before, or a role cuts the current unit.
 pub(crate) fn cuts_any(cut: bool, current: Option<u8>, role: PesRole<'_>) -> bool
     ensures { result ≡ (cut || steps.cuts current (role_view role.entry)) }
 {
     cut || cuts(current, role)
 }
 
-// Whether what follows ends a unit of this stream_id by something else than the start of the next one, or the end of
-// the input.
+// Returns whether a unit of this stream_id is cut: neither the next unit nor the end of the input ends it.
 fn is_cut<A: Allocator>(
     id: u8,
     pid: u16,

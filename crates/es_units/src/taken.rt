@@ -3,7 +3,7 @@
 ghost use Rattle.std.specs.Prelude.{◌≡◌, ◌++◌, ◌∷◌, [], IfOk, OnOk, map};
 ghost use Rattle.es_units.specs.PidPlaces.{AreLinks, pids_in};
 ghost use Rattle.std.specs.Option.{option_to_list};
-ghost use Rattle.demux.specs.Shown.{finding_view};
+ghost use Rattle.pid_findings.specs.Shown.{finding_view};
 ghost use Rattle.es_units.specs.CarriedUnits as spec;
 ghost use Rattle.es_units.specs.TakenUnits.{OthersStay};
 ghost use Rattle.es_units.specs.UnitSteps as steps;
@@ -11,8 +11,8 @@ ghost use Rattle.es_units.specs.UnitSteps as steps;
 use crate::pid_links::PidLinks;
 use crate::split_units::is_split;
 use crate::unit_taker::UnitTaker;
-use demux::Finding;
 use es_moments::{UnitBytes, WireUnit};
+use pid_findings::Finding;
 use std::alloc::{AllocError, Allocator};
 
 /// Appends the unit, if there is one.

@@ -1,7 +1,7 @@
 //! The units of a PID, given as they become whole.
 
 ghost use Rattle.std.specs.Prelude.{◌≡◌, ◌∷◌, [], IfOk, IfSome, OnOk, OnErr, None, Some, true, false, option_map};
-ghost use Rattle.demux.specs.Shown.{finding_view, what_view};
+ghost use Rattle.pid_findings.specs.Shown.{finding_view, what_view};
 ghost use Rattle.es_units.specs.ApartSteps as apart;
 ghost use Rattle.es_units.specs.CarriedUnits as units;
 ghost use Rattle.es_moments.specs.WireUnits as wireunits;
@@ -12,9 +12,9 @@ ghost use Rattle.es_units.specs.Shown.{role_view, start_view};
 
 use crate::apart_steps::is_same_after;
 use crate::pes_role::{PesRole, UnitStart, is_on, role_of};
-use demux::{Finding, Part, What};
 use es_moments::{BodyBytes, UnitBytes, WireUnit};
 use pes_packet::Marks;
+use pid_findings::{Finding, Part, What};
 use std::alloc::{AllocError, Allocator};
 use std::marker::Model;
 use std::mem;
@@ -28,7 +28,7 @@ pub struct UnitTaker<B: UnitBytes = Vec<u8>> {
     unit: Option<WireUnit<B>>,
 }
 
-// A contract sees what it says, and not where the bytes of the unit are kept.
+// A contract sees the state, wherever the bytes of the unit are kept.
 impl<B: UnitBytes> Model for UnitTaker<B> {
     ghost use Rattle.es_units.specs.UnitSteps.{UnitsSoFar};
 
@@ -37,7 +37,7 @@ impl<B: UnitBytes> Model for UnitTaker<B> {
     ghost view = { λ t. record { pid = t.pid; split = t.split; unit = t.unit } };
 }
 
-// The unit that starts with this PES packet.
+// Returns the unit that starts with this PES packet.
 fn started<'f, A, B: BodyBytes<'f, A>>(
     alloc: A,
     first: UnitStart<'f>,
@@ -55,7 +55,7 @@ fn started<'f, A, B: BodyBytes<'f, A>>(
     })
 }
 
-// The body of a PES packet, moved out of what is found; none of anything else.
+// Moves the body out of a PES packet; empty for any other finding.
 #[tactic(auto, unfolding(crate::specs::TakenUnits::body_of))]
 fn moved_body<A: Allocator>(alloc: A, what: What<'_, A>) -> Result<Vec<u8, A>, AllocError>
     ensures { IfOk result (λ bytes. bytes.items ≡ taken.body_of (what_view what.entry)) }
@@ -69,7 +69,7 @@ fn moved_body<A: Allocator>(alloc: A, what: What<'_, A>) -> Result<Vec<u8, A>, A
     }
 }
 
-// The first PES packet of a unit, if a finding is one: all but its body.
+// Returns the first PES packet of a unit, if a finding is one: all but its body.
 #[tactic(auto, using(crate::proofs::TakenUnits::start_body))]
 fn start_in<A: Allocator>(pid: u16, finding: &Finding<'_, A>) -> Option<(u64, u8, u64, u64, Marks)>
     ensures start { IfSome result (λ s. units.role_of pid (finding_view finding.now)
@@ -91,7 +91,7 @@ fn start_in<A: Allocator>(pid: u16, finding: &Finding<'_, A>) -> Option<(u64, u8
     }
 }
 
-// The unit that starts with a finding, if one does: its body is moved out of the finding.
+// Returns the unit that starts with a finding, if one does, and moves its body out of the finding.
 #[tactic(auto, using(crate::proofs::TakenUnits::stay_same, crate::proofs::TakenUnits::stay_moved))]
 fn moved_start<A: Allocator + Clone>(
     alloc: &A,
@@ -120,7 +120,7 @@ fn moved_start<A: Allocator + Clone>(
     }))
 }
 
-// A unit, if no part of it may be lost and it has bytes.
+// Returns a unit, if no part of it may be lost and it has bytes.
 fn if_whole<B: UnitBytes>(lost: bool, unit: WireUnit<B>) -> Option<WireUnit<B>>
     ensures { result ≡ spec.if_whole lost unit }
 {
@@ -130,7 +130,7 @@ fn if_whole<B: UnitBytes>(lost: bool, unit: WireUnit<B>) -> Option<WireUnit<B>>
     Some(unit)
 }
 
-// The unit that was under way, as it is given where it ends.
+// Ends the current unit, and returns it if it is whole and has bytes.
 #[tactic(auto, unfolding(crate::specs::UnitSteps::ended_unit))]
 fn ended<B: UnitBytes>(lost: bool, unit: Option<WireUnit<B>>) -> Option<WireUnit<B>>
     ensures { result ≡ spec.ended_unit lost unit }
@@ -141,7 +141,7 @@ fn ended<B: UnitBytes>(lost: bool, unit: Option<WireUnit<B>>) -> Option<WireUnit
     }
 }
 
-// Appends bytes to the unit under way, if it has this stream_id, and returns whether it has.
+// Appends bytes to the current unit if its stream_id is `id`, and returns whether it is.
 #[tactic(auto, unfolding(crate::specs::UnitSteps::has_id, crate::specs::UnitSteps::lengthened))]
 fn lengthen<B: UnitBytes>(
     unit: &mut Option<WireUnit<B>>,
@@ -183,7 +183,7 @@ impl<B: UnitBytes> UnitTaker<B> {
         self.pid
     }
 
-    // A unit starts, and the one under way ends.
+    // Starts the next unit, and returns the unit that it ends.
     fn start(&mut self, next: WireUnit<B>) -> Option<WireUnit<B>>
         ensures given { result ≡ spec.ended_unit false self.old.unit }
         ensures kept { self.new ≡ record self.old { unit = Some next } }
@@ -253,14 +253,14 @@ impl<B: UnitBytes> UnitTaker<B> {
         }
     }
 
-    /// Returns whether a unit that it gave is due when its unit under way is, as far as that has bytes.
+    /// Returns whether the current unit, if it has bytes, is due at the same time as `unit`, which was returned before.
     pub fn is_same_after(&self, unit: &Option<WireUnit<B>>) -> bool
         ensures { result ≡ apart.is_same_after unit.now self.now.unit }
     {
         is_same_after(unit, &self.unit)
     }
 
-    /// Returns the stream_id of the unit under way.
+    /// Returns the stream_id of the current unit.
     pub(crate) fn stream_id(&self) -> Option<u8>
         ensures { result ≡ option_map (λ u. u.stream_id) self.now.unit }
     {
@@ -287,8 +287,8 @@ impl<B: UnitBytes> UnitTaker<B> {
 }
 
 impl<A: Allocator + Clone> UnitTaker<Vec<u8, A>> {
-    /// Returns the same as `take`, where the body of a PES packet with which a unit starts is moved out of its finding:
-    /// of this nothing is left then but a packet that comes twice.
+    /// Takes a finding as `take` does, but moves the body of a unit's first PES packet out of the finding, which
+    /// becomes a `What::Duplicate`.
     #[tactic(auto, unfolding(crate::specs::UnitSteps::made_whole, crate::specs::UnitSteps::goes_on_as))]
     pub(crate) fn take_moved(
         &mut self,

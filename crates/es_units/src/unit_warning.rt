@@ -15,7 +15,7 @@ pub enum UnitWarningCause {
     Scrambled,
     /// This number of bytes of a PES packet or a section that was cut short.
     Truncated(usize),
-    /// This number of bytes of one that the end of the stream cut short.
+    /// This number of bytes of a PES packet or a section that the end of the stream cut short.
     TruncatedByEnd(usize),
     /// A section on a PID of PES packets.
     Section,
@@ -27,13 +27,13 @@ pub enum UnitWarningCause {
     NoUnitBefore(usize),
     /// A PES packet without a PTS, of this stream_id and this number of bytes, after a unit of another stream_id.
     OtherStreamId { id: u8, size: usize },
-    /// The first PES packet of a unit of which another one may be lost: the unit is left out.
+    /// The first PES packet of a unit that may lack a later PES packet: the unit is left out.
     PartLost,
     /// A unit without bytes.
     EmptyUnit,
-    /// A packet whose payload is in no PES packet: nothing that it continues is open.
+    /// A packet whose payload, or its end, is in no PES packet.
     Stray,
-    /// The last PES packet of a PID, which has neither a length nor an end, is taken as it stands: it may be cut.
+    /// The last PES packet of a PID, without a length, ends with the stream; it is taken unchanged and may be cut.
     OpenEnded,
 }
 

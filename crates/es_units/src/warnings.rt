@@ -2,7 +2,7 @@
 
 ghost use Rattle.std.specs.Prelude.{◌≡◌, ◌==◌, ◌&&◌, ◌++◌, IfOk, OnOk, None, drop, length, map};
 ghost use Rattle.es_units.specs.PidPlaces.{AreLinks, IsOnWay, pids_in};
-ghost use Rattle.demux.specs.Shown.{finding_view, what_view};
+ghost use Rattle.pid_findings.specs.Shown.{finding_view, what_view};
 ghost use Rattle.es_units.specs.CarriedUnits.{continuation};
 ghost use Rattle.es_units.specs.UnitSteps.{has_cut};
 ghost use Rattle.es_units.specs.UnitWarnings as spec;
@@ -12,11 +12,11 @@ use crate::pes_role::{PADDING_STREAM, PesRole, first_packet, role_of};
 use crate::pid_links::PidLinks;
 use crate::split_units::{cuts_any, is_lost, is_split, more_bytes_on};
 use crate::unit_warning::{UnitWarning, UnitWarningCause};
-use demux::{Finding, What};
 use pes_packet::Stamps;
+use pid_findings::{Finding, What};
 use std::alloc::{AllocError, Allocator};
 
-// The stream_id of the unit with which a PES packet without a PTS that comes next goes on.
+// Returns the stream_id of the unit that the next PES packet without a PTS continues.
 #[tactic(auto, unfolding(crate::specs::UnitWarnings::current_after))]
 fn current_after(current: Option<u8>, role: PesRole<'_>) -> Option<u8>
     ensures { result ≡ spec.current_after current (role_view role.entry) }
@@ -29,7 +29,7 @@ fn current_after(current: Option<u8>, role: PesRole<'_>) -> Option<u8>
     }
 }
 
-// Whether no later finding has more bytes of a unit of this stream_id.
+// Returns whether no later finding has more bytes of a unit of this stream_id.
 fn has_no_continuation<A: Allocator>(
     id: u8,
     pid: u16,
@@ -54,7 +54,7 @@ fn has_no_continuation<A: Allocator>(
     true
 }
 
-// The warning about a PES packet that is in a unit: its end is not known.
+// Returns the warning about a PES packet of a unit whose end is not known.
 fn open_ended_cause(unended: bool) -> Option<UnitWarningCause>
     ensures { result ≡ spec.open_ended_cause unended }
 {
@@ -65,7 +65,7 @@ fn open_ended_cause(unended: bool) -> Option<UnitWarningCause>
     }
 }
 
-// The warning about a PES packet without a PTS.
+// Returns the warning about a PES packet without a PTS.
 #[tactic(auto, unfolding(crate::specs::UnitWarnings::unstamped_cause))]
 fn unstamped_cause(
     current: Option<u8>,
@@ -87,7 +87,7 @@ fn unstamped_cause(
     }
 }
 
-// The warning about the first PES packet of a unit; `alone` if no later one continues it.
+// Returns the warning about the first PES packet of a unit; `alone` if no later one continues it.
 #[tactic(auto, unfolding(crate::specs::UnitWarnings::first_cause))]
 fn first_cause(lost: bool, alone: bool, unended: bool, size: usize) -> Option<UnitWarningCause>
     ensures { result ≡ spec.first_cause lost alone unended size }
@@ -101,7 +101,7 @@ fn first_cause(lost: bool, alone: bool, unended: bool, size: usize) -> Option<Un
     }
 }
 
-// The warning about a PES packet.
+// Returns the warning about a PES packet.
 #[tactic(auto, unfolding(crate::specs::UnitWarnings::pes_cause))]
 fn pes_cause(
     current: Option<u8>,
@@ -127,7 +127,7 @@ fn pes_cause(
     }
 }
 
-// Cut short in a packet, or by the end.
+// Returns the cause for bytes that are cut short: by the end of the stream, or by a packet.
 fn truncation_cause(count: u64, packet: u64, size: usize) -> UnitWarningCause
     ensures { result ≡ spec.truncation_cause count packet size }
 {
@@ -138,7 +138,7 @@ fn truncation_cause(count: u64, packet: u64, size: usize) -> UnitWarningCause
     }
 }
 
-// The warning about what is found.
+// Returns the warning about a finding.
 #[tactic(auto, unfolding(crate::specs::UnitWarnings::cause_of_what))]
 fn cause_of_what<A: Allocator>(
     count: u64,
@@ -180,7 +180,7 @@ fn cause_of_what<A: Allocator>(
     }
 }
 
-// The stream_id of a PES packet; 0 of anything else.
+// Returns the stream_id of a PES packet; 0 of anything else.
 #[tactic(auto, unfolding(crate::specs::UnitWarnings::id_of))]
 fn id_of<A: Allocator>(what: &What<'_, A>) -> u8
     ensures { result ≡ spec.id_of (what_view what.now) }
@@ -191,7 +191,7 @@ fn id_of<A: Allocator>(what: &What<'_, A>) -> u8
     }
 }
 
-// Whether it is a PES packet without bytes.
+// Returns whether a finding is a PES packet without bytes.
 #[tactic(auto, unfolding(crate::specs::UnitWarnings::is_empty))]
 fn is_empty<A: Allocator>(what: &What<'_, A>) -> bool
     ensures { result ≡ spec.is_empty (what_view what.now) }
@@ -202,7 +202,8 @@ fn is_empty<A: Allocator>(what: &What<'_, A>) -> bool
     }
 }
 
-// Whether it is one, and no later finding has bytes of its unit: these are looked at only where it has none.
+// Returns whether a finding is a PES packet without bytes, and no later finding has bytes of its unit. Later findings
+// are read only if the PES packet has no bytes.
 fn is_alone<A: Allocator>(
     id: u8,
     pid: u16,
@@ -219,7 +220,7 @@ fn is_alone<A: Allocator>(
     is_empty(what) && has_no_continuation(id, pid, from, findings, links)
 }
 
-// The warning about a finding of any PID, with the findings after it.
+// Returns the warning about a finding of any PID, with the findings after it.
 #[tactic(auto, unfolding(crate::specs::UnitWarnings::cause_of), using(crate::proofs::UnitWarnings::alone_if_empty))]
 fn cause_of<A: Allocator>(
     split: bool,
@@ -260,7 +261,8 @@ fn push_warning<A: Allocator>(
     Ok(())
 }
 
-// The warnings about a PID, where its units may have several PES packets if `split`, and whether one of them is cut.
+// Returns the warnings about a PID, and whether any of its units is cut. If `split`, a unit may have several PES
+// packets.
 fn warnings_by<A: Allocator>(
     alloc: A,
     split: bool,

@@ -6,8 +6,8 @@ use Rattle.tstd_rows.specs.HeldVideo.{HoldsVideoOf, VideoSizes}
 use Rattle.events.specs.declared.event.Event.{Event}
 use Rattle.es_view.specs.declared.counted_buffers.CountedBuffers.{CountedBuffers}
 use Rattle.es_view.specs.declared.counted_buffers.FramePlace.{FramePlace}
-use Rattle.es_view.specs.declared.entry_events.Place.{Place}
-use Rattle.es_view.specs.declared.view_options.ViewOptions.{ViewOptions}
+use Rattle.es_events.specs.declared.entry_events.Place.{Place}
+use Rattle.es_events.specs.declared.view_options.ViewOptions.{ViewOptions}
 use Rattle.es_view.specs.EntryFrames.{AreCounted, Counted, frame_after, frame_events, frames_after, frames_events, frames_held}
 
 -- a frame that no list has

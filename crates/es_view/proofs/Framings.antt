@@ -7,26 +7,24 @@ use Rattle.ts_packet.specs.Views.{PacketView}
 use Rattle.arrival.specs.declared.clock.PcrSample.{PcrSample}
 use Rattle.tstd_rows.specs.Held.{Held, IsHeld}
 use Rattle.tstd_rows.specs.Entering.{after}
-use Rattle.tstd_rows.specs.EnteringVideo.{video_of, video_unit_of}
 use Rattle.tstd_rows.specs.HeldVideo.{HoldsVideoOf, VideoSizes}
 use Rattle.tstd_rows.specs.declared.stream_buffers.StreamBuffers.{StreamBuffers}
 use Rattle.events.specs.declared.event.Event.{Event}
 use Rattle.es_view.specs.declared.counted_buffers.CountedBuffers.{CountedBuffers}
-use Rattle.es_view.specs.declared.entry_events.Place.{Place}
+use Rattle.es_events.specs.declared.entry_events.Place.{Place}
 use Rattle.es_view.specs.declared.entry_frames.EntryFrames.{EntryFrames}
 use Rattle.es_view.specs.declared.stream_entry.StreamEntry.{StreamEntry}
-use Rattle.es_view.specs.declared.tally.Tally.{Tally}
-use Rattle.es_view.specs.declared.video_tally.VideoTally.{VideoTally}
-use Rattle.es_view.specs.declared.view_options.ViewOptions.{ViewOptions}
+use Rattle.es_events.specs.declared.tally.Tally.{Tally}
+use Rattle.es_events.specs.declared.video_tally.VideoTally.{VideoTally}
+use Rattle.es_events.specs.declared.view_options.ViewOptions.{ViewOptions}
 use Rattle.es_view.specs.EntryFrames.{AreCounted, Counted, FramedPayload, frames_among, payload_after, payload_events, place_of, walk_in, whole_after}
-use Rattle.es_view.specs.EntryFrames.{whole_events, front_after, count_of}
+use Rattle.es_view.specs.EntryFrames.{whole_events, front_after, count_of, video_counted}
 use Rattle.es_view.specs.Entries.{AreFrames, EntryState, Framed, IsEntry, arriving_at, beginning_in, counted_at, entry_after, entry_entered, events_entered}
 use Rattle.es_view.specs.Entries.{framed_after, held_after, held_in, is_unread, parts_delayed, payload_at, payload_of, seen_held, seen_tally, tally_in}
 use Rattle.es_view.specs.Entries.{unit_stay, video_tally_after, counter_after}
-use Rattle.es_view.specs.MarkTallies.{with_beginning}
-use Rattle.es_view.specs.declared.mark_tally.MarkTally.{MarkTally}
-use Rattle.es_view.specs.Tallies.{more, none_counted}
-use Rattle.es_view.specs.VideoTallies.{with_video}
+use Rattle.es_events.specs.MarkTallies.{with_beginning}
+use Rattle.es_events.specs.declared.mark_tally.MarkTally.{MarkTally}
+use Rattle.es_events.specs.Tallies.{more, none_counted}
 use Rattle.es_view.proofs.Frames.{held_alone}
 
 -- whether it is
@@ -90,8 +88,7 @@ pub whole_entered : (entry entry' : StreamEntry) (options : ViewOptions) (index 
     AreCounted entry'.seen
     (whole_after options window (is_unread (beginning_in e.counter packet)) (arriving_at options index clock e packet) (counted_of e e.held e.tally)) →
     HoldsVideoOf entry'.seen.buffers e.video (after e.held options.arrival (arriving_at options index clock e packet)) →
-    entry'.video_tally ≡ with_video e.video_tally (video_of e.video e.held options.arrival (arriving_at options index clock e packet))
-    (video_unit_of e.video e.held options.arrival (arriving_at options index clock e packet)) →
+    entry'.video_tally ≡ video_counted e.video_tally e.video e.held options.arrival (arriving_at options index clock e packet) →
     IsEntry entry' (entry_entered options index window clock e packet)
 unfolding held_in tally_in framed_after parts_delayed video_tally_after AreFrames
 whole_entered entry entry' options index window clock e packet k none pid clock_pid counter absent limit marks counted video videos = record {

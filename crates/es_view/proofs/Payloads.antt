@@ -7,8 +7,8 @@ use Rattle.tstd_rows.specs.Entering.{after_first, size_of}
 use Rattle.tstd_rows.specs.Held.{Held}
 use Rattle.events.specs.declared.event.Event.{Event}
 use Rattle.es_view.specs.declared.counted_buffers.FramePlace.{FramePlace}
-use Rattle.es_view.specs.declared.entry_events.Place.{Place}
-use Rattle.es_view.specs.declared.view_options.ViewOptions.{ViewOptions}
+use Rattle.es_events.specs.declared.entry_events.Place.{Place}
+use Rattle.es_events.specs.declared.view_options.ViewOptions.{ViewOptions}
 use Rattle.es_view.specs.EntryFrames.{Counted, FramedPayload, count_of, frames_after, frames_among, frames_events, front_after, front_events, front_held}
 use Rattle.es_view.specs.EntryFrames.{payload_after, payload_events, place_of}
 

@@ -1,7 +1,6 @@
--- A stream that the tables name: its PID, the PID of its program's clock references, the counter of its last packet with a payload,
--- what its buffers hold by PES packets, and what is counted of it; of video the sizes of its two buffers, if they are viewed, and what is
--- counted of them; of sound what its buffers hold by access units, if these are viewed; how long a byte may stay in them, and how many units
--- had bytes that stayed longer; and what is counted of the marks of its units.
+-- A stream that the tables name: its PID, the PID of its program's clock references, the counter of its last packet with a payload, its buffers by PES
+-- packets, and their counts; for video the sizes of its two buffers, if they are viewed, and their counts; for sound its buffers by access units, if
+-- these are viewed; how long a byte may stay in them, and how many units had bytes that stayed longer; and the counts of its units' marks.
 use Rattle.std.specs.Prelude.{◌≡◌, ℕ, ◌+◌, ◌-◌, ◌/◌, ◌^◌, ◌==◌, ◌&&◌, min, not, is_some, nat_le, nat_lt, unwrap_or, Bool, true, false, if◌then◌else◌, length}
 use Rattle.std.specs.Prelude.{List, [], ◌++◌, Option, Some, None}
 use Rattle.ts_packet.specs.Views.{PacketView}
@@ -12,38 +11,35 @@ use Rattle.tstd_rows.specs.declared.unit_seen.DueTime.{DueTime}
 use Rattle.tstd_rows.specs.Held.{Held, IsHeld, main_most, transport_busy, transport_busy_under_way, transport_most, unit_before}
 use Rattle.tstd_rows.specs.Limits.{tb_size}
 use Rattle.tstd_rows.specs.Entering.{EnteredView, after, entered}
-use Rattle.tstd_rows.specs.declared.late_causes.VideoUnit.{VideoUnit}
-use Rattle.tstd_rows.specs.EnteringVideo.{video_of, video_unit_of}
-use Rattle.tstd_rows.specs.HeldVideo.{HoldsVideoOf, VideoEnteredView, VideoSizes}
+use Rattle.tstd_rows.specs.HeldVideo.{HoldsVideoOf, VideoSizes}
 use Rattle.tstd_rows.specs.declared.arriving.Arriving.{Arriving}
 use Rattle.events.specs.declared.event.Event.{Event}
-use Rattle.es_view.specs.declared.view_options.ViewOptions.{ViewOptions}
-use Rattle.es_view.specs.declared.clocks.Beginning.{Beginning}
-use Rattle.es_view.specs.declared.clocks.Beginning.TheVariants.{Nothing, Unread, Stamped}
+use Rattle.es_events.specs.declared.view_options.ViewOptions.{ViewOptions}
+use Rattle.es_events.specs.declared.clocks.Beginning.{Beginning}
+use Rattle.es_events.specs.declared.clocks.Beginning.TheVariants.{Nothing, Unread, Stamped}
 use Rattle.es_view.specs.declared.stream_entry.StreamEntry.{StreamEntry}
-use Rattle.es_view.specs.declared.tally.Tally.{Tally}
-use Rattle.es_view.specs.Clocks.{ahead_of, beginning_of, due_at, longest_stay}
-use Rattle.es_view.specs.EntryEvents.{ahead_events, closing_events, ended_events}
+use Rattle.es_events.specs.declared.tally.Tally.{Tally}
+use Rattle.es_events.specs.Clocks.{ahead_of, beginning_of, due_at, longest_stay}
+use Rattle.es_events.specs.EntryEvents.{ahead_events, closing_events, ended_events}
 use Rattle.es_view.specs.HeldEvents.{tally_events}
-use Rattle.es_view.specs.TraceEvents.{trace_events}
-use Rattle.es_view.specs.MarkTallies.{mark_events, with_beginning}
-use Rattle.es_view.specs.declared.mark_tally.MarkTally.{MarkTally}
-use Rattle.es_view.specs.Tallies.{more, tally_with, with_unit_if}
-use Rattle.es_view.specs.EntryStays.{busy_closing, delayed_events, is_idle, overstay_if, payload_byte}
+use Rattle.es_events.specs.TraceEvents.{trace_events, video_trace_events}
+use Rattle.es_events.specs.MarkTallies.{mark_events, with_beginning}
+use Rattle.es_events.specs.declared.mark_tally.MarkTally.{MarkTally}
+use Rattle.es_events.specs.Tallies.{more, tally_with, with_unit_if}
+use Rattle.es_events.specs.EntryStays.{busy_closing, delayed_events, is_idle, overstay_if, payload_byte}
 use Rattle.es_view.specs.EntryFrames.{Counted, FramedPayload, busy_seen, frame_bytes, frames_among, frames_held, front_held, is_leak_idle, leak_busy_of}
-use Rattle.es_view.specs.EntryFrames.{leak_under_way, payload_after, payload_events, place_of, stays_ended, unit_tick, walk_in, whole_events}
+use Rattle.es_view.specs.EntryFrames.{leak_under_way, payload_after, payload_events, place_of, stays_ended, unit_tick, video_counted, walk_in, whole_events}
 use Rattle.es_view.specs.declared.entry_frames.EntryFrames.{EntryFrames}
 use Rattle.sound_frames.specs.FrameWalks.{WalkView, walk_after}
 use Rattle.events.specs.declared.rule_event.BufferKind.{BufferKind}
 use Rattle.events.specs.declared.rule_event.BufferKind.TheVariants.{Elementary, Main, Multiplexing, Transport}
 use Rattle.tstd_rows.specs.declared.busy_watch.Stay.{Stay}
-use Rattle.es_view.specs.declared.entry_events.Place.{Place}
-use Rattle.es_view.specs.declared.video_tally.VideoTally.{VideoTally}
-use Rattle.es_view.specs.VideoEvents.{video_closing_events, video_ended_events}
-use Rattle.es_view.specs.VideoFigures.{figures_of, is_video_good, limits_of}
-use Rattle.es_view.specs.VideoTallies.{with_video}
+use Rattle.es_events.specs.declared.entry_events.Place.{Place}
+use Rattle.es_events.specs.declared.video_tally.VideoTally.{VideoTally}
+use Rattle.es_events.specs.VideoEvents.{video_closing_events, video_ended_events}
+use Rattle.es_events.specs.VideoFigures.{figures_of, is_video_good, limits_of}
 
--- a stream of sound by access units: where the walk over its frames is, when its unit is due, what its buffers hold, and what is counted
+-- a stream of sound by access units: the walk over its frames, when its unit is due, its buffers, and their counts
 pub record Framed : Type 0 where
   pub walk : WalkView
   pub tick : ℕ
@@ -63,7 +59,7 @@ pub record EntryState : Type 0 where
   pub limit : ℕ
   pub delayed : ℕ
 
--- what is viewed of it: by access units, if it is sound that is viewed so, and else by PES packets
+-- the buffers that are viewed: by access units for sound viewed so, otherwise by PES packets
 unfoldable pub held_in : Option Framed → Held → Held
 held_in None h = h
 held_in (Some f) h = f.held
@@ -111,7 +107,7 @@ is_repeated counter packet = is_some packet.payload && same_counter counter pack
 abbrev pub counter_after : Option ℕ → PacketView → Option ℕ
 counter_after counter packet = if is_some packet.payload then Some packet.header.continuity_counter else counter
 
--- what begins with it: nothing where it repeats another one
+-- the unit that begins with a packet: none in a duplicate packet
 abbrev pub beginning_in : Option ℕ → PacketView → Beginning
 beginning_in counter packet = if is_repeated counter packet then Nothing else beginning_of packet
 
@@ -151,18 +147,11 @@ arriving_at options index clock e packet = arriving options index e.held.rx e.co
 abbrev pub entered_at : ViewOptions → ℕ → Option PcrSample → EntryState → PacketView → EnteredView
 entered_at options index clock e packet = entered e.held options.arrival (arriving_at options index clock e packet)
 
--- what is counted of it
+-- the counts after a packet
 abbrev pub counted_tally : ViewOptions → ℕ → ℕ → Option PcrSample → EntryState → PacketView → Tally
 counted_tally options index window clock e packet =
     tally_with e.tally window (is_unread (beginning_in e.counter packet)) (after e.held options.arrival (arriving_at options index clock e packet)) index
     (entered_at options index clock e packet)
-
--- and what it has ended in the two buffers of video
-abbrev pub video_at : ViewOptions → ℕ → Option PcrSample → EntryState → PacketView → VideoEnteredView
-video_at options index clock e packet = video_of e.video e.held options.arrival (arriving_at options index clock e packet)
-
-abbrev pub video_unit_at : ViewOptions → ℕ → Option PcrSample → EntryState → PacketView → Option VideoUnit
-video_unit_at options index clock e packet = video_unit_of e.video e.held options.arrival (arriving_at options index clock e packet)
 
 -- a packet of sound that is viewed by access units
 
@@ -211,8 +200,7 @@ delayed_after options index window clock limit counter delayed packet framed =
 
 -- the two buffers of video are viewed of streams that are not viewed by access units
 unfoldable pub video_tally_after : ViewOptions → ℕ → Option PcrSample → Option Framed → EntryState → PacketView → VideoTally
-video_tally_after options index clock None e packet =
-    with_video e.video_tally (video_at options index clock e packet) (video_unit_at options index clock e packet)
+video_tally_after options index clock None e packet = video_counted e.video_tally e.video e.held options.arrival (arriving_at options index clock e packet)
 video_tally_after options index clock (Some f) e packet = e.video_tally
 
 -- the packet has entered the buffers
@@ -231,7 +219,7 @@ entry_entered options index window clock e packet = record {
   delayed = parts_delayed options index window clock e.limit e.counter e.delayed packet e.framed;
 }
 
--- and is counted
+-- the stream after a packet
 abbrev pub entry_after : ViewOptions → ℕ → ℕ → Option PcrSample → EntryState → PacketView → EntryState
 entry_after options index window clock e packet = record {
   pid = e.pid;
@@ -247,7 +235,7 @@ entry_after options index window clock e packet = record {
   delayed = delayed_after options index window clock e.limit e.counter e.delayed packet e.framed;
 }
 
--- 3. At the end: what is counted, with the unit under way as the last one
+-- 3. At the end: the counts, with the current unit as the last unit
 
 abbrev pub closed : ℕ → EntryState → Tally
 closed window e = with_unit_if e.tally window (unit_before e.held)
@@ -255,23 +243,23 @@ closed window e = with_unit_if e.tally window (unit_before e.held)
 abbrev pub closed_seen : ℕ → EntryState → Tally
 closed_seen window e = with_unit_if (seen_tally e) window (unit_before (seen_held e))
 
--- 4. What is found of it
+-- 4. Its events
 
 abbrev pub place_at : ℕ → EntryState → Place
 place_at packet e = record { pid = e.pid; packet = packet; rx = (seen_held e).rx; size = (seen_held e).main.size }
 
--- those of a packet: what begins with it, and what ends
+-- the events of a packet: for units that begin with it, and for excesses and units that end
 unfoldable pub events_entered : ViewOptions → ℕ → Option PcrSample → Place → EntryState → PacketView → Option Framed → List Event
 events_entered options index clock place e packet None = whole_events options place (arriving_at options index clock e packet) e.video e.held
 events_entered options index clock place e packet (Some f) =
     payload_events options place e.limit (payload_at options index clock e.counter packet f) f.walk f.tick f.held
 
--- the buffer in which a byte stays that is decoded
+-- the last buffer of a byte before it is decoded
 unfoldable pub last_buffer : Option VideoSizes → BufferKind
 last_buffer None = Main
 last_buffer (Some sizes) = Elementary
 
--- what the buffers hold after a packet
+-- the buffers after a packet
 unfoldable pub held_after : ViewOptions → ℕ → Option PcrSample → EntryState → PacketView → Option Framed → Held
 held_after options index clock e packet None = after e.held options.arrival (arriving_at options index clock e packet)
 held_after options index clock e packet (Some f) =
@@ -286,17 +274,17 @@ entry_events options index clock e packet =
     ++ (events_entered options index clock (place_at index e) e packet e.framed
     ++ stays_ended options (place_at index e) (busy_seen e.video (seen_held e)) (busy_seen e.video (held_after options index clock e packet e.framed))))
 
--- those of a window
+-- the events of a window
 abbrev pub units_of : ViewOptions → ℕ → EntryState → List Event
 units_of options window e = tally_events options window (place_at 0 e) (seen_tally e) (seen_held e)
 
--- those at the end
+-- the events of stays at the end
 abbrev pub stays_closing : ViewOptions → Place → EntryState → List Event
 stays_closing options place e =
     busy_closing options place Transport (transport_busy_under_way (seen_held e))
     ++ busy_closing options place Multiplexing (leak_under_way e.video (seen_held e))
 
--- what its buffers come to, with a tally
+-- the totals of its buffers, with a tally
 abbrev pub totals_of : ViewOptions → Place → Tally → EntryState → List Event
 totals_of options place tally e =
     closing_events options place (seen_held e) tally
@@ -308,9 +296,10 @@ end_events options packets window e =
     tally_events options window (place_at packets e) (closed_seen window e) (seen_held e)
     ++ totals_of options (place_at packets e) (closed_seen window e) e
 
--- what its buffers held near the greatest excess of each
+-- events with the bytes in its buffers near the greatest excess of each
 abbrev pub traces_of : ViewOptions → EntryState → List Event
-traces_of options e = trace_events options (place_at 0 e) (seen_tally e).traces
+traces_of options e =
+    trace_events options (place_at 0 e) (seen_tally e).traces ++ video_trace_events options (place_at 0 e) (limits_of e.video) e.video_tally.traces
 
 -- no buffer held more than its size, and no unit was late: the same of the two buffers of video, if they are viewed
 abbrev pub is_sound : EntryState → Bool

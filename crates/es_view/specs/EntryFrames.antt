@@ -16,30 +16,34 @@ use Rattle.tstd_rows.specs.Entering.{after, after_first, after_part, entered, en
 use Rattle.tstd_rows.specs.EnteringVideo.{video_of, video_unit_of}
 use Rattle.tstd_rows.specs.HeldVideo.{VideoSizes}
 use Rattle.tstd_rows.specs.declared.busy_watch.BusyWatch.{BusyWatch}
-use Rattle.es_view.specs.VideoEvents.{video_ended_events}
-use Rattle.es_view.specs.VideoFigures.{limits_of}
+use Rattle.es_events.specs.VideoEvents.{video_ended_events}
+use Rattle.es_events.specs.VideoFigures.{limits_of}
+use Rattle.es_events.specs.VideoTallies.{video_tally_with}
+use Rattle.es_events.specs.declared.video_tally.VideoTally.{VideoTally}
+use Rattle.arrival.specs.declared.arrival.Arrival.{Arrival}
 use Rattle.events.specs.declared.event.Event.{Event}
 use Rattle.events.specs.declared.rule_event.BufferKind.TheVariants.{Main, Multiplexing, Transport}
 use Rattle.tstd_rows.specs.Busy.{busy_under_way, leak_busy}
 use Rattle.tstd_rows.specs.VideoViewed.{last_leaked}
 use Rattle.tstd_rows.specs.declared.busy_watch.Stay.{Stay}
+use Rattle.es_view.specs.declared.counted_buffers.BusyCounts.{BusyCounts}
 use Rattle.es_view.specs.declared.counted_buffers.BusySeen.{BusySeen}
 use Rattle.es_view.specs.declared.entry_frames.FramedPayload.{FramedPayload as Viewed}
-use Rattle.es_view.specs.declared.clocks.Beginning.{Beginning}
-use Rattle.es_view.specs.declared.clocks.Beginning.TheVariants.{Nothing, Unread, Stamped}
+use Rattle.es_events.specs.declared.clocks.Beginning.{Beginning}
+use Rattle.es_events.specs.declared.clocks.Beginning.TheVariants.{Nothing, Unread, Stamped}
 use Rattle.es_view.specs.declared.counted_buffers.CountedBuffers.{CountedBuffers}
 use Rattle.es_view.specs.declared.counted_buffers.FramePlace.{FramePlace}
-use Rattle.es_view.specs.declared.entry_events.Place.{Place}
-use Rattle.es_view.specs.declared.tally.Tally.{Tally}
-use Rattle.es_view.specs.declared.view_options.ViewOptions.{ViewOptions}
-use Rattle.es_view.specs.Clocks.{due_tick, longest_stay}
-use Rattle.es_view.specs.EntryEvents.{ended_events}
-use Rattle.es_view.specs.EntryStays.{busy_ended, delayed_events, is_idle, overstay_of}
-use Rattle.es_view.specs.Tallies.{more, tally_with}
+use Rattle.es_events.specs.declared.entry_events.Place.{Place}
+use Rattle.es_events.specs.declared.tally.Tally.{Tally}
+use Rattle.es_events.specs.declared.view_options.ViewOptions.{ViewOptions}
+use Rattle.es_events.specs.Clocks.{due_tick, longest_stay}
+use Rattle.es_events.specs.EntryEvents.{ended_events}
+use Rattle.es_events.specs.EntryStays.{busy_ended, delayed_events, is_idle, overstay_of}
+use Rattle.es_events.specs.Tallies.{more, tally_with}
 
 -- 1. The bytes of a PES packet
 
--- those of a payload after the header of the PES packet that it begins: PES_header_data_length is its byte 8 (ISO/IEC 13818-1, 2.4.3.6)
+-- the bytes of a payload after the header of the PES packet that it begins: PES_header_data_length is its byte 8 (ISO/IEC 13818-1, 2.4.3.6)
 unfoldable pub unit_after : List ℕ → Option ℕ → List ℕ
 unit_after payload None = []
 unit_after payload (Some length) = drop (9 + length) payload
@@ -47,7 +51,7 @@ unit_after payload (Some length) = drop (9 + length) payload
 abbrev pub unit_in : List ℕ → List ℕ
 unit_in payload = unit_after payload (slice_get payload 8)
 
--- those among which frames begin: none in a packet that repeats another one
+-- the bytes of a packet where frames may begin: none in a duplicate packet
 abbrev pub frame_bytes : Bool → PacketView → List ℕ
 frame_bytes repeated packet =
     if repeated then []
@@ -62,14 +66,14 @@ unit_tick options (Some clock) Nothing = None
 unit_tick options (Some clock) Unread = None
 unit_tick options (Some clock) (Stamped dts) = Some (due_tick (step_of options.arrival) clock dts)
 
--- with a unit the walk over frames begins anew; after a header that was not read, or a unit that does not begin, the bytes are no frames
+-- a unit starts the walk over frames again; after a header that was not read, or a unit that does not begin, the bytes are no frames
 unfoldable pub walk_begun : WalkView → Beginning → Option ℕ → WalkView
 walk_begun w Nothing None = w
 walk_begun w Unread None = strayed w
 walk_begun w (Stamped dts) None = strayed w
 walk_begun w beginning (Some tick) = restarted w
 
--- how many bytes of a payload come before the first frame that begins among them, of which `before` are no bytes of frames
+-- how many bytes of a payload come before the first frame that begins in it; `before` bytes of these belong to no frame
 unfoldable pub front_count : ℕ → ℕ → List FramePart → ℕ
 front_count before size [] = size
 front_count before size (p ∷ ps) = min (before + p.place) (2 ^ 64 - 1)
@@ -86,7 +90,7 @@ unit_part options rx base tick p = record {
   due = due_on (step_of options.arrival) rx (frame_tick tick p);
 }
 
--- 3. What the buffers hold, what is counted of them, and how many units had bytes that stayed too long
+-- 3. The buffers, their counts, and how many units had bytes that stayed too long
 
 pub record Counted : Type 0 where
   pub held : Held
@@ -110,6 +114,11 @@ abbrev pub whole_events : ViewOptions → Place → Arriving → Option VideoSiz
 whole_events options place p sizes h =
     ended_events options place (entered h options.arrival p)
     ++ video_ended_events options place (limits_of sizes) (video_of sizes h options.arrival p) (video_unit_of sizes h options.arrival p)
+
+-- and what is counted of its two buffers of video
+abbrev pub video_counted : VideoTally → Option VideoSizes → Held → Arrival → Arriving → VideoTally
+video_counted t sizes h arrival p =
+    video_tally_with t (limits_of sizes) (after h arrival p) p.index (video_of sizes h arrival p) (video_unit_of sizes h arrival p)
 
 -- a packet with the first bytes of its payload
 abbrev pub front_after : ViewOptions → ℕ → Bool → Arriving → ℕ → Counted → Counted
@@ -149,12 +158,12 @@ frames_events options place at h [] = []
 frames_events options place at h (p ∷ ps) =
     frame_events options place at h p ++ frames_events options place at (after_part h options.arrival (part_of options at h p)) ps
 
--- and what the buffers hold then
+-- the buffers after these parts
 unfoldable pub frames_held : ViewOptions → FramePlace → Held → List FramePart → Held
 frames_held options at h [] = h
 frames_held options at h (p ∷ ps) = frames_held options at (after_part h options.arrival (part_of options at h p)) ps
 
--- 4. A payload among whose bytes frames begin: what it is to the buffers, when its unit is due, if one begins, and its bytes of frames
+-- 4. A payload that may contain frames: its beginning for the buffers, when its unit is due, if one begins, and its bytes of frames
 
 pub record FramedPayload : Type 0 where
   pub arriving : Arriving
@@ -210,6 +219,14 @@ leak_under_way (Some s) h = busy_under_way (leak_busy h.rate s.leak s.second h.p
 
 abbrev pub busy_seen : Option VideoSizes → Held → BusySeen
 busy_seen sizes h = record { transport = transport_busy h; multiplexing = leak_busy_of sizes h }
+
+-- how many times they were not empty for too long
+unfoldable pub leak_count : Option BusyWatch → ℕ
+leak_count None = 0
+leak_count (Some w) = w.count
+
+abbrev pub counts_of : BusySeen → BusyCounts
+counts_of b = record { transport = b.transport.count; multiplexing = leak_count b.multiplexing }
 
 unfoldable pub leak_ended : ViewOptions → Place → Option BusyWatch → Option BusyWatch → List Event
 leak_ended options place None after = []

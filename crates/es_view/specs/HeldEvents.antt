@@ -1,25 +1,25 @@
--- What is found of a stream in a window: what its buffers held, and the units that ended in it.
+-- Events of a stream in a window: the bytes in its buffers, and the units that ended in it.
 use Rattle.std.specs.Prelude.{ℕ, ◌==◌, ◌&&◌, nat_lt, if◌then◌else◌, List, [], ◌∷◌, ◌++◌, Option, Some, None}
 use Rattle.tstd_rows.specs.Held.{Held}
 use Rattle.tstd_rows.specs.History.{last_of, main_fullness}
 use Rattle.events.specs.declared.event.Event.{Event}
 use Rattle.events.specs.declared.event.Event.TheVariants as found
-use Rattle.es_view.specs.declared.entry_events.Place.{Place}
-use Rattle.es_view.specs.declared.tally.Tally.{Tally}
-use Rattle.es_view.specs.declared.view_options.ViewOptions.{ViewOptions}
-use Rattle.es_view.specs.EntryEvents.{span_of}
+use Rattle.es_events.specs.declared.entry_events.Place.{Place}
+use Rattle.es_events.specs.declared.tally.Tally.{Tally}
+use Rattle.es_events.specs.declared.view_options.ViewOptions.{ViewOptions}
+use Rattle.es_events.specs.EntryEvents.{span_of}
 
 -- the bytes in the main buffer when the last byte of the stream so far has left the transport buffer
 abbrev pub main_now : Held → ℕ
 main_now h = main_fullness h.rate h.parts (last_of h.rate h.parts)
 
--- the most bytes in the main buffer, and the least: when a payload byte of the window entered it, itself included, and that such a byte found, itself
--- not counted; if none entered, what it holds after the stream's last packet
+-- the most bytes in the main buffer when a payload byte of the window entered it, that byte included, and the least that such a byte found, itself not
+-- counted; if none entered, the bytes in the buffer after the stream's last packet
 unfoldable pub main_held : ℕ → Held → Option ℕ → ℕ × ℕ
 main_held most h None = (main_now h, main_now h)
 main_held most h (Some least) = (most, least)
 
--- beside these the most bytes in the transport buffer when a byte of the window's packets entered it
+-- in addition the most bytes in the transport buffer when a byte of the window's packets entered it
 abbrev pub held_with : Place → Tally → ℕ × ℕ → Event
 held_with place t main = found.Held (record {
   number = t.window;
@@ -35,7 +35,7 @@ held_event place t h = held_with place t (main_held t.window_main h t.window_lea
 abbrev pub held_events : ℕ → Place → Tally → Held → List Event
 held_events window place t h = if (t.window == window) && nat_lt 0 t.window_transport then held_event place t h ∷ [] else []
 
--- and the units that ended in it, with the least slack of one
+-- the units that ended in the window, with the least slack of a unit
 abbrev pub unit_event : ViewOptions → Place → Tally → Event
 unit_event options place t = found.Units (record {
   number = t.window;

@@ -1,13 +1,4 @@
-pub mod Clocks
-pub mod Tallies
-pub mod MarkTallies
-pub mod EntryEvents
-pub mod VideoTallies
-pub mod VideoFigures
-pub mod VideoEvents
 pub mod HeldEvents
-pub mod TraceEvents
-pub mod EntryStays
 pub mod EntryFrames
 pub mod Entries
 pub mod Crowding

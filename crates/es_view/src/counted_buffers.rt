@@ -1,33 +1,35 @@
-//! The buffers of a stream, and what is counted of them.
+//! The buffers of a stream, and their counts.
 ghost use Rattle.std.specs.Prelude.{◌≡◌, ◌++◌, ◌<◌, ◌^◌, OnOk, Option, if◌then◌else◌, is_some};
 ghost use Rattle.tstd_rows.specs.Entering.{after, entered_view};
-ghost use Rattle.tstd_rows.specs.EnteringVideo.{video_of, video_unit_of};
 ghost use Rattle.tstd_rows.specs.Held.{Held, IsHeld};
-ghost use Rattle.es_view.specs.VideoTallies.{with_video};
+ghost use Rattle.tstd_rows.specs.HeldVideo.{video_view};
+ghost use Rattle.es_events.specs.VideoTallies.{video_row, video_tally_with};
 ghost use Rattle.tstd_rows.specs.HeldVideo.{HoldsVideoOf, VideoSizes};
 ghost use Rattle.es_view.specs.EntryFrames as spec;
 ghost use Rattle.es_view.specs.EntryFrames.{AreCounted, Counted};
-ghost use Rattle.es_view.specs.Tallies.{excess_counts, more, row_of, tally_with};
+ghost use Rattle.es_events.specs.Tallies.{excess_counts, more, row_of, tally_with};
 ghost use Rattle.tstd_rows.specs.History.{last_of};
 
-use crate::clocks::LONGEST_STAY;
-use crate::entry_events::{Place, push_ended};
-use crate::entry_stays::{overstay_of, push_delayed_if};
-use crate::tally::Tally;
-use crate::video_events::push_video_ended;
-use crate::video_figures::video_limits;
-use crate::video_tally::VideoTally;
-use crate::view_options::ViewOptions;
+use es_events::clocks::LONGEST_STAY;
+use es_events::entry_events::{Place, push_ended};
+use es_events::entry_stays::{overstay_of, push_delayed_if};
+use es_events::tally::Tally;
+use es_events::video_events::push_video_ended;
+use es_events::video_figures::video_limits;
+use es_events::video_tally::{VideoLimits, VideoTally};
+use es_events::view_options::ViewOptions;
 use events::{BufferKind, Event};
 use fault_traces::TraceRow;
 use sound_frames::FramePart;
 use std::alloc::AllocError;
-use tstd_rows::{Arriving, BusyWatch, DueTime, Entered, Stay, StreamBuffers, UnitPart};
+use tstd_rows::{
+    Arriving, BusyWatch, DueTime, Entered, Stay, StreamBuffers, UnitPart, VideoEntered,
+};
 
 // No time in ticks that counts is after this one.
 const LAST_TICK: u128 = (1 << 61) - 1;
 
-/// The buffers of a stream, what is counted of them, and how many of its units had bytes that stayed too long.
+/// The buffers of a stream, their counts, and how many units of the stream had bytes that stayed too long.
 #[derive(Drop)]
 pub struct CountedBuffers {
     pub buffers: StreamBuffers,
@@ -42,6 +44,13 @@ pub(crate) struct BusySeen {
     pub multiplexing: Option<BusyWatch>,
 }
 
+/// How many times the transport buffer, and of video the multiplexing buffer, was not empty for too long.
+#[derive(Clone, Copy)]
+pub(crate) struct BusyCounts {
+    pub transport: u64,
+    pub multiplexing: u64,
+}
+
 /// Where the frames of a payload are: its packet, how long in ticks a byte may stay, the first of its bytes of frames,
 /// and when the unit is due, in ticks from the stream's first byte.
 #[derive(Clone, Copy)]
@@ -52,7 +61,7 @@ pub(crate) struct FramePlace {
     pub tick: u128,
 }
 
-// The number of excesses that ended.
+// Returns the number of excesses that ended.
 fn excess_counts(entered: &Entered) -> (u64, u64)
     ensures { result ≡ excess_counts (entered_view entered.now) }
 {
@@ -62,7 +71,7 @@ fn excess_counts(entered: &Entered) -> (u64, u64)
     (transport, u64::from(entered.main.is_some()))
 }
 
-// When the last byte so far leaves the transport buffer.
+// Returns when the last byte so far leaves the transport buffer.
 #[inline(always)]
 fn last_left(buffers: &StreamBuffers) -> u128
     ensures { (h : Held) → IsHeld buffers.now h → result ≡ last_of h.rate h.parts }
@@ -70,7 +79,7 @@ fn last_left(buffers: &StreamBuffers) -> u128
     buffers.view.transport.last
 }
 
-// What a packet, or a part of it, found in the buffers.
+// Returns what a packet, or a part of it, found in the buffers.
 #[inline(always)]
 fn row_of(buffers: &StreamBuffers, packet: u64, entered: &Entered) -> TraceRow
     ensures { (h : Held) → IsHeld buffers.now h → result ≡ row_of h packet (entered_view entered.now) }
@@ -105,7 +114,41 @@ pub(crate) fn add_entered(
     tally.add_row(buffers.main.size, row_of(buffers, packet, entered));
 }
 
-// When a frame is due, in ticks.
+// Returns what a packet found in both buffers of video.
+fn video_row_of(buffers: &StreamBuffers, packet: u64, entered: &VideoEntered) -> TraceRow
+    ensures { (h : Held) → IsHeld buffers.now h → result ≡ video_row h packet (video_view entered.now) entered.now.unit }
+{
+    let begins = entered.unit.is_some();
+    TraceRow {
+        packet,
+        left: last_left(buffers),
+        transport: entered.multiplexing_most,
+        main: entered.elementary_most,
+        least: None,
+        begins,
+    }
+}
+
+// Counts what has ended in both buffers of video with a packet, and keeps what it found in them, if they are viewed.
+#[tactic(auto, unfolding(es_events::specs::VideoTallies::with_video_row))]
+fn add_video(
+    tally: &mut VideoTally,
+    limits: &Option<VideoLimits>,
+    buffers: &StreamBuffers,
+    packet: u64,
+    entered: &VideoEntered,
+)
+    ensures { (h : Held) → IsHeld buffers.now h →
+        tally.new ≡ video_tally_with tally.old limits.now h packet (video_view entered.now) entered.now.unit }
+{
+    tally.add_packet(entered);
+    match limits {
+        None => {}
+        Some(limits) => tally.add_row(limits, video_row_of(buffers, packet, entered)),
+    }
+}
+
+// Returns when a frame is due, in ticks.
 fn frame_tick(tick: u128, part: &FramePart) -> u128
     ensures value { result ≡ spec.frame_tick tick part.now }
     ensures bound { result < 2 ^ 61 }
@@ -114,7 +157,7 @@ fn frame_tick(tick: u128, part: &FramePart) -> u128
     tick.saturating_add(ahead).min(LAST_TICK)
 }
 
-// A frame as the buffers see it.
+// Returns a frame as the buffers see it.
 fn unit_part(options: &ViewOptions, rx: u32, at: &FramePlace, part: &FramePart) -> UnitPart
     ensures { result ≡ spec.unit_part options.now rx at.now.base at.now.tick part.now }
 {
@@ -151,6 +194,22 @@ impl CountedBuffers {
         }
     }
 
+    /// Returns how many times the buffers were not empty for too long.
+    #[tactic(auto, unfolding(crate::specs::EntryFrames::leak_busy_of, crate::specs::EntryFrames::leak_count))]
+    pub(crate) fn busy_counts(&self) -> BusyCounts
+        ensures { (h : Held) (sizes : Option VideoSizes) → IsHeld self.now.buffers h → HoldsVideoOf self.now.buffers sizes h →
+            result ≡ spec.counts_of (spec.busy_seen sizes h) }
+    {
+        let multiplexing = match &self.buffers.video {
+            None => 0,
+            Some(video) => video.busy.count,
+        };
+        BusyCounts {
+            transport: self.buffers.busy.count,
+            multiplexing,
+        }
+    }
+
     /// Returns the time since when the multiplexing buffer of video is not empty, if it is longer than a second.
     pub(crate) fn leak_under_way(&self) -> Option<Stay>
         ensures { (h : Held) (sizes : Option VideoSizes) → HoldsVideoOf self.now.buffers sizes h →
@@ -177,8 +236,7 @@ impl CountedBuffers {
         ensures video { (c : Counted) (sizes : Option VideoSizes) → AreCounted self.old c → HoldsVideoOf self.old.buffers sizes c.held →
             OnOk result (HoldsVideoOf self.new.buffers sizes (after c.held options.now.arrival arriving.now)) }
         ensures tally { (c : Counted) (sizes : Option VideoSizes) → AreCounted self.old c → HoldsVideoOf self.old.buffers sizes c.held →
-            OnOk result (video_tally.new ≡ with_video video_tally.old (video_of sizes c.held options.now.arrival arriving.now)
-            (video_unit_of sizes c.held options.now.arrival arriving.now)) }
+            OnOk result (video_tally.new ≡ spec.video_counted video_tally.old sizes c.held options.now.arrival arriving.now) }
         ensures found { (c : Counted) (sizes : Option VideoSizes) → AreCounted self.old c → HoldsVideoOf self.old.buffers sizes c.held →
             OnOk result (events.new.items ≡ events.old.items ++ spec.whole_events options.now place.now arriving.now sizes c.held) }
     {
@@ -197,11 +255,11 @@ impl CountedBuffers {
             unread,
             &entered,
         );
-        video_tally.add_packet(&entered.video);
+        add_video(video_tally, &limits, &self.buffers, packet, &entered.video);
         Ok(())
     }
 
-    // A packet with the first `count` bytes of its payload.
+    // Takes a packet with the first `count` bytes of its payload.
     pub(crate) fn enter_front(
         &mut self,
         options: &ViewOptions,
@@ -234,7 +292,7 @@ impl CountedBuffers {
         Ok(())
     }
 
-    // The bytes of a frame that begins within the payload.
+    // Takes the bytes of a frame that begins within the payload.
     fn enter_frame(
         &mut self,
         options: &ViewOptions,

@@ -6,10 +6,10 @@ ghost use Rattle.tstd_rows.specs.HeldVideo.{HoldsVideoOf, VideoSizes};
 ghost use Rattle.es_view.specs.EntryFrames as spec;
 ghost use Rattle.es_view.specs.EntryFrames.{AreCounted, Counted};
 
-use crate::clocks::Beginning;
 use crate::counted_buffers::{CountedBuffers, FramePlace};
-use crate::entry_events::Place;
-use crate::view_options::ViewOptions;
+use es_events::clocks::Beginning;
+use es_events::entry_events::Place;
+use es_events::view_options::ViewOptions;
 use events::Event;
 use sound_frames::{FrameKind, FramePart, FrameWalk};
 use std::alloc::{AllocError, Global};
@@ -63,7 +63,7 @@ pub(crate) fn frame_bytes<'a>(repeated: bool, packet: &Packet<'a>) -> &'a [u8]
     }
 }
 
-// With a unit the walk begins anew.
+// Begins the walk again, if a unit begins.
 #[tactic(auto, unfolding(crate::specs::EntryFrames::walk_begun))]
 fn begin_walk(walk: &mut FrameWalk, beginning: Beginning, tick: Option<u128>)
     ensures { walk.new ≡ spec.walk_begun walk.old beginning tick }
@@ -78,7 +78,7 @@ fn begin_walk(walk: &mut FrameWalk, beginning: Beginning, tick: Option<u128>)
     }
 }
 
-// How many bytes of a payload come before the first frame that begins among them.
+// Returns how many bytes of a payload come before the first frame that begins among them.
 #[tactic(auto, unfolding(crate::specs::EntryFrames::front_count))]
 fn front_count(before: u64, size: u64, frames: &[FramePart]) -> u64
     ensures { result ≡ spec.front_count before size frames.now }

@@ -3,15 +3,15 @@ ghost use Rattle.std.specs.Prelude.{◌≡◌, ◌++◌, OnOk};
 ghost use Rattle.tstd_rows.specs.Held.{Held, IsHeld};
 ghost use Rattle.es_view.specs.HeldEvents as spec;
 
-use crate::entry_events::{Place, span_of};
 use crate::main_now::main_now;
-use crate::tally::Tally;
-use crate::view_options::ViewOptions;
+use es_events::entry_events::{Place, span_of};
+use es_events::tally::Tally;
+use es_events::view_options::ViewOptions;
 use events::{Event, HeldFigures, UnitFigures};
 use std::alloc::AllocError;
 use tstd_rows::StreamBuffers;
 
-// The most and the least bytes in the main buffer: if no payload byte entered it, what it holds now.
+// Returns the most and the least bytes in the main buffer: if no payload byte entered it, what it holds now.
 #[tactic(auto, unfolding(crate::specs::HeldEvents::main_held))]
 fn main_held(tally: &Tally, buffers: &StreamBuffers) -> (u64, u64)
     ensures { (h : Held) → IsHeld buffers.now h → result ≡ spec.main_held tally.now.window_main h tally.now.window_least }

@@ -1,22 +1,13 @@
-//! The events of one elementary stream, as its packets arrive: what its buffers hold, and when its units leave.
+//! The buffers of one elementary stream, as its packets arrive, and the events of each packet.
 //!
-//! [`stream_entry`]: a stream that the tables name, from the first packet of its buffers on. The main buffer of sound
-//! whose frames have headers is viewed by access units (`specs/EntryFrames`), unless its buffers are given; all other
-//! main buffers by PES packets; video in two buffers, MB and EB.
+//! [`stream_entry`]: a stream of the tables, from its first packet on. The main buffer of sound whose frames have
+//! headers is viewed by access units (`specs/EntryFrames`), unless the sizes of its buffers are given; all other main
+//! buffers by PES packets; video in two buffers, MB and EB. `es_events` counts, and writes the events.
 #![tactic(auto)]
 
-pub mod clocks;
 pub mod counted_buffers;
-pub mod entry_events;
 pub mod entry_frames;
-mod entry_stays;
+mod entry_packets;
 mod held_events;
 mod main_now;
-pub mod mark_tally;
 pub mod stream_entry;
-pub mod tally;
-mod trace_events;
-mod video_events;
-pub mod video_figures;
-pub mod video_tally;
-pub mod view_options;

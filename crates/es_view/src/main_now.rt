@@ -7,14 +7,14 @@ ghost use Rattle.es_view.specs.HeldEvents as spec;
 use tstd::BufferedUnit;
 use tstd_rows::StreamBuffers;
 
-// The bytes of a unit that are in the buffer at a moment.
+// Returns the bytes of a unit that are in the buffer at a moment.
 fn bytes_at(unit: &BufferedUnit, moment: u128) -> u64
     ensures { result ≡ buffered_bytes moment unit.now }
 {
     if moment < unit.until { unit.bytes } else { 0 }
 }
 
-// The bytes of all these units that are.
+// Returns the bytes of all these units that are.
 fn all_at(units: &[BufferedUnit], moment: u128) -> u64
     requires { all_bytes units.now < 2 ^ 64 }
     ensures { result ≡ all_buffered moment units.now }
@@ -26,7 +26,7 @@ fn all_at(units: &[BufferedUnit], moment: u128) -> u64
     bytes
 }
 
-// The bytes of all these units and of a further one that are.
+// Returns the bytes that wait at a moment: of all these units, and of one more.
 fn sum_at(units: &[BufferedUnit], current: &BufferedUnit, moment: u128) -> u64
     requires { all_bytes units.now + current.now.bytes < 2 ^ 64 }
     ensures { result ≡ all_buffered moment units.now + buffered_bytes moment current.now }

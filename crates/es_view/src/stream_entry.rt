@@ -1,6 +1,6 @@
-//! A stream that the tables name, from the first packet of its buffers on.
+//! A stream of the tables, from the first packet of its buffers on.
 ghost use Rattle.std.specs.Prelude.{◌≡◌, ◌++◌, OnOk, Option};
-ghost use Rattle.tstd_rows.specs.Held.{Held};
+ghost use Rattle.tstd_rows.specs.Held.{Held, IsHeld};
 ghost use Rattle.ts_packet.specs.Views.{packet_view};
 ghost use Rattle.es_view.specs.Crowding.{is_entry_crowded};
 ghost use Rattle.es_view.specs.Entries as spec;
@@ -8,33 +8,33 @@ ghost use Rattle.tstd_rows.specs.HeldVideo.{HoldsVideoOf, VideoSizes};
 ghost use Rattle.es_view.specs.EntryFrames as frames;
 ghost use Rattle.es_view.specs.Entries.{EntryState, IsEntry};
 
-use crate::clocks::{Beginning, LONGEST_STAY, ahead_of, beginning_of, due_at, due_tick};
-use crate::counted_buffers::{BusySeen, CountedBuffers};
-use crate::entry_events::{Place, push_ahead_if, push_closing};
-use crate::entry_frames::{EntryFrames, FramedPayload, frame_bytes};
-use crate::entry_stays::{
-    is_idle, overstay_if, payload_byte, push_busy_closing, push_busy_if, push_delayed_if,
+use crate::counted_buffers::{BusyCounts, CountedBuffers};
+use crate::entry_frames::EntryFrames;
+use crate::entry_packets::{
+    ahead_by, arriving, beginning_in, counter_after, is_unread, payload_of, unit_stay,
 };
 use crate::held_events::push_window_if;
-use crate::mark_tally::{MarkTally, push_marks};
-use crate::tally::Tally;
-use crate::trace_events::push_traces;
-use crate::video_events::push_video_closing;
-use crate::video_figures::{is_video_good, video_figures};
-use crate::video_tally::VideoTally;
-use crate::view_options::ViewOptions;
-use arrival::{PCR_PERIOD, PcrSample};
+use arrival::PcrSample;
+use es_events::clocks::Beginning;
+use es_events::entry_events::{Place, push_ahead_if, push_closing};
+use es_events::entry_stays::{is_idle, push_busy_closing, push_busy_if, push_delayed_if};
+use es_events::mark_tally::{MarkTally, push_marks};
+use es_events::tally::Tally;
+use es_events::trace_events::{push_traces, push_video_traces};
+use es_events::video_events::push_video_closing;
+use es_events::video_figures::{is_video_good, video_figures, video_limits};
+use es_events::video_tally::VideoTally;
+use es_events::view_options::ViewOptions;
 use events::{BufferKind, Event};
 use std::alloc::AllocError;
 use ts_packet::Packet;
-use tstd_rows::{Arriving, BusyWatch, DueTime, Stay, StreamBuffers, TRANSPORT_BYTES};
+use tstd_rows::{BusyWatch, Stay, StreamBuffers, TRANSPORT_BYTES};
 
 /// The most units of a stream that may wait in its main buffer while more of its transport stream is viewed.
 const MOST_WAITING: usize = 4_096;
 
 /// A stream: its PID, the PID of its program's clock references, the counter of its last packet with a payload, its
-/// buffers with what is counted of them, and what is counted of its two buffers of video, and of the marks of its
-/// units.
+/// buffers with their counts, and the counts of MB and EB and of the marks of its units.
 #[derive(Drop)]
 pub struct StreamEntry {
     pub pid: u16,
@@ -43,175 +43,13 @@ pub struct StreamEntry {
     pub seen: CountedBuffers,
     pub video_tally: VideoTally,
     pub mark_tally: MarkTally,
-    /// Of sound that is viewed by access units, where the walk over its frames is.
+    /// The walk over its frames, if it is sound that is viewed by access units.
     pub frames: Option<EntryFrames>,
     /// How long in ticks a byte may stay.
     pub limit: u64,
 }
 
-#[tactic(auto, unfolding(crate::specs::Entries::same_counter))]
-fn same_counter(before: Option<u8>, counter: u8) -> bool
-    ensures { result ≡ spec.same_counter before counter }
-{
-    match before {
-        None => false,
-        Some(before) => before == counter,
-    }
-}
-
-// Whether a packet repeats the one before it on its PID.
-fn is_repeated(counter: Option<u8>, packet: &Packet<'_>) -> bool
-    ensures { result ≡ spec.is_repeated counter (packet_view packet.now) }
-{
-    packet.payload.is_some() && same_counter(counter, packet.header.continuity_counter)
-}
-
-fn counter_after(counter: Option<u8>, packet: &Packet<'_>) -> Option<u8>
-    ensures { result ≡ spec.counter_after counter (packet_view packet.now) }
-{
-    if packet.payload.is_some() {
-        Some(packet.header.continuity_counter)
-    } else {
-        counter
-    }
-}
-
-// What begins with a packet.
-fn beginning_in(counter: Option<u8>, packet: &Packet<'_>) -> Beginning
-    ensures { result ≡ spec.beginning_in counter (packet_view packet.now) }
-{
-    if is_repeated(counter, packet) {
-        Beginning::Nothing
-    } else {
-        beginning_of(packet)
-    }
-}
-
-// When the unit is due that begins; none where none does, or no clock reference has come.
-#[tactic(auto, unfolding(crate::specs::Entries::due_by))]
-fn due_by(
-    options: &ViewOptions,
-    rx: u32,
-    clock: &Option<PcrSample>,
-    beginning: Beginning,
-) -> Option<DueTime>
-    ensures { result ≡ spec.due_by options.now rx clock.now beginning }
-{
-    match beginning {
-        Beginning::Stamped(dts) => {
-            let clock = clock.as_ref()?;
-            Some(due_at(options.arrival.step(), rx, clock, dts))
-        }
-        _ => None,
-    }
-}
-
-// How long a unit would stay that begins, where that is longer than any may.
-#[tactic(auto, unfolding(crate::specs::Entries::ahead_by))]
-fn ahead_by(clock: &Option<PcrSample>, beginning: Beginning) -> Option<u64>
-    ensures { result ≡ spec.ahead_by clock.now beginning }
-{
-    let (Some(clock), Beginning::Stamped(dts)) = (clock, beginning) else {
-        return None;
-    };
-    let ahead = ahead_of(clock, dts);
-    if ahead > LONGEST_STAY && ahead < PCR_PERIOD / 2 {
-        Some(ahead)
-    } else {
-        None
-    }
-}
-
-// Whether a header was not read.
-#[tactic(auto, unfolding(crate::specs::Entries::is_unread))]
-fn is_unread(beginning: Beginning) -> bool
-    ensures { result ≡ spec.is_unread beginning }
-{
-    match beginning {
-        Beginning::Unread => true,
-        _ => false,
-    }
-}
-
-// A packet as its buffers see it, with which this begins.
-fn arriving(
-    options: &ViewOptions,
-    index: u64,
-    rx: u32,
-    counter: Option<u8>,
-    clock: &Option<PcrSample>,
-    beginning: Beginning,
-    packet: &Packet<'_>,
-) -> Arriving
-    requires { beginning ≡ spec.beginning_in counter (packet_view packet.now) }
-    ensures { result ≡ spec.arriving options.now index rx counter clock.now (packet_view packet.now) }
-{
-    let payload = packet.payload.unwrap_or(&[]);
-    Arriving {
-        index,
-        size: payload.len() as u64,
-        begins: due_by(options, rx, clock, beginning),
-        enters: !is_repeated(counter, packet),
-    }
-}
-
-// Its payload, among whose bytes frames begin.
-fn payload_of<'a>(
-    options: &ViewOptions,
-    index: u64,
-    rx: u32,
-    counter: Option<u8>,
-    clock: &Option<PcrSample>,
-    beginning: Beginning,
-    packet: &Packet<'a>,
-) -> FramedPayload<'a>
-    requires { beginning ≡ spec.beginning_in counter (packet_view packet.now) }
-    ensures { frames.payload_view result ≡ spec.payload_of options.now index rx counter clock.now (packet_view packet.now) }
-{
-    let size = packet.payload.unwrap_or(&[]).len() as u64;
-    FramedPayload {
-        arriving: arriving(options, index, rx, counter, clock, beginning, packet),
-        base: payload_byte(index, size),
-        tick: unit_tick(options, clock, beginning),
-        beginning,
-        bytes: frame_bytes(is_repeated(counter, packet), packet),
-    }
-}
-
-// When the unit is due that begins, in ticks from the stream's first byte; none where none does, or no clock reference
-// has come.
-#[tactic(auto, unfolding(crate::specs::EntryFrames::unit_tick))]
-fn unit_tick(options: &ViewOptions, clock: &Option<PcrSample>, beginning: Beginning) -> Option<u128>
-    ensures { result ≡ frames.unit_tick options.now clock.now beginning }
-{
-    match beginning {
-        Beginning::Stamped(dts) => {
-            let clock = clock.as_ref()?;
-            Some(due_tick(options.arrival.step(), clock, dts))
-        }
-        _ => None,
-    }
-}
-
-// How long the first byte of the unit stays that begins, where that is longer than any may.
-fn unit_stay(
-    options: &ViewOptions,
-    index: u64,
-    clock: &Option<PcrSample>,
-    limit: u64,
-    counter: Option<u8>,
-    beginning: Beginning,
-    packet: &Packet<'_>,
-) -> Option<Stay>
-    requires { beginning ≡ spec.beginning_in counter (packet_view packet.now) }
-    ensures { result ≡ spec.unit_stay options.now index clock.now limit counter (packet_view packet.now) }
-{
-    let size = packet.payload.unwrap_or(&[]).len() as u64;
-    let tick = unit_tick(options, clock, beginning);
-    overstay_if(options, limit, payload_byte(index, size), tick)
-}
-
-// The buffer in which a byte stays that is decoded.
+// Returns the buffer that bytes leave when they are decoded.
 #[tactic(auto, unfolding(crate::specs::Entries::last_buffer))]
 fn last_buffer(buffers: &StreamBuffers) -> BufferKind
     ensures { (h : Held) (sizes : Option VideoSizes) → HoldsVideoOf buffers.now sizes h → result ≡ spec.last_buffer sizes }
@@ -222,40 +60,48 @@ fn last_buffer(buffers: &StreamBuffers) -> BufferKind
     }
 }
 
+// Appends whether the multiplexing buffer was not empty for more than a second until a packet came, if there is one.
+fn push_leak_stay(
+    events: &mut Vec<Event>,
+    options: &ViewOptions,
+    place: &Place,
+    count: u64,
+    buffers: &StreamBuffers,
+) -> Result<(), AllocError>
+    ensures { (h held : Held) (sizes : Option VideoSizes) → count ≡ frames.leak_count (frames.leak_busy_of sizes held) →
+        HoldsVideoOf buffers.now sizes h → OnOk result (events.new.items ≡ events.old.items
+        ++ frames.leak_ended options.now place.now (frames.leak_busy_of sizes held) (frames.leak_busy_of sizes h)) }
+{
+    match &buffers.video {
+        None => Ok(()),
+        Some(video) => {
+            let buffer = BufferKind::Multiplexing;
+            push_busy_if(events, options, place, buffer, count, &video.busy)?;
+            Ok(())
+        }
+    }
+}
+
 // Appends which buffers were not empty for more than a second until a packet came.
-#[tactic(auto, unfolding(crate::specs::EntryFrames::leak_ended))]
 fn push_stays(
     events: &mut Vec<Event>,
     options: &ViewOptions,
     place: &Place,
-    before: &BusySeen,
-    after: &BusySeen,
+    before: &BusyCounts,
+    buffers: &StreamBuffers,
 ) -> Result<(), AllocError>
-    ensures { OnOk result (events.new.items
-        ≡ events.old.items ++ frames.stays_ended options.now place.now before.now after.now) }
+    ensures { (h held : Held) (sizes : Option VideoSizes) → before.now ≡ frames.counts_of (frames.busy_seen sizes held) →
+        IsHeld buffers.now h → HoldsVideoOf buffers.now sizes h → OnOk result (events.new.items ≡ events.old.items
+        ++ frames.stays_ended options.now place.now (frames.busy_seen sizes held) (frames.busy_seen sizes h)) }
 {
-    push_busy_if(
-        events,
-        options,
-        place,
-        BufferKind::Transport,
-        &before.transport,
-        &after.transport,
-    )?;
-    match (&before.multiplexing, &after.multiplexing) {
-        (Some(before), Some(after)) => push_busy_if(
-            events,
-            options,
-            place,
-            BufferKind::Multiplexing,
-            before,
-            after,
-        ),
-        _ => Ok(()),
-    }
+    let buffer = BufferKind::Transport;
+    let count = before.transport;
+    push_busy_if(events, options, place, buffer, count, &buffers.busy)?;
+    push_leak_stay(events, options, place, before.multiplexing, buffers)?;
+    Ok(())
 }
 
-// Whether the multiplexing buffer was empty at least once a second, if there is one.
+// Returns whether the multiplexing buffer was empty at least once a second, if there is one.
 #[tactic(auto, unfolding(crate::specs::EntryFrames::is_leak_idle))]
 fn is_leak_idle(busy: &Option<BusyWatch>, under_way: &Option<Stay>) -> bool
     ensures { result ≡ frames.is_leak_idle busy.now under_way.now }
@@ -279,7 +125,7 @@ impl StreamEntry {
         }
     }
 
-    // A packet, with which this begins, enters the buffers: by access units, if they are viewed.
+    // Takes a packet into the buffers: by access units, if they are viewed.
     fn enter(
         &mut self,
         options: &ViewOptions,
@@ -361,11 +207,11 @@ impl StreamEntry {
         push_ahead_if(events, &place, ahead_by(clock, beginning))?;
         let buffer = last_buffer(&self.seen.buffers);
         push_delayed_if(events, options, &place, buffer, self.limit, &stay)?;
-        let before = self.seen.busy();
+        let before = self.seen.busy_counts();
         self.enter(
             options, index, window, &place, clock, beginning, packet, events,
         )?;
-        push_stays(events, options, &place, &before, &self.seen.busy())?;
+        push_stays(events, options, &place, &before, &self.seen.buffers)?;
         self.counter = counter_after(self.counter, packet);
         self.seen.add_delayed_if(&stay);
         self.mark_tally.add_packet(beginning, packet);
@@ -379,7 +225,7 @@ impl StreamEntry {
         self.seen.buffers.units_waiting() >= MOST_WAITING
     }
 
-    // What is counted, with the unit under way as the last one.
+    // Returns the counts, with the current unit as the last one.
     fn closed(&self, window: u64) -> Tally
         ensures { (e : EntryState) → IsEntry self.now e → result ≡ spec.closed_seen window e }
     {
@@ -430,7 +276,7 @@ impl StreamEntry {
         )
     }
 
-    // Appends what its buffers come to, with a tally.
+    // Appends the totals of its buffers.
     fn push_totals(
         &self,
         events: &mut Vec<Event>,
@@ -481,10 +327,14 @@ impl StreamEntry {
         ensures { (e : EntryState) → IsEntry self.now e → OnOk result (events.new.items
             ≡ events.old.items ++ spec.traces_of options.now e) }
     {
-        push_traces(events, options, &self.place(0), &self.seen.tally.traces)
+        let place = self.place(0);
+        push_traces(events, options, &place, &self.seen.tally.traces)?;
+        let limits = video_limits(&self.seen.buffers);
+        push_video_traces(events, options, &place, &limits, &self.video_tally.traces)?;
+        Ok(())
     }
 
-    // Whether neither the transport buffer nor the main buffer held more than its size, and no unit was late.
+    // Returns whether neither the transport buffer nor the main buffer held more than its size, and no unit was late.
     fn is_sound(&self) -> bool
         ensures { (e : EntryState) → IsEntry self.now e → result ≡ spec.is_sound e }
     {
@@ -493,7 +343,7 @@ impl StreamEntry {
             && self.closed(0).late == 0
     }
 
-    // Whether no byte stayed too long, and no buffer was not empty for more than a second.
+    // Returns whether no byte stayed too long, and no buffer was not empty for more than a second.
     fn is_timely(&self) -> bool
         ensures { (e : EntryState) → IsEntry self.now e → result ≡ spec.is_timely e }
     {

@@ -36,9 +36,9 @@ use Rattle.event_lines.specs.SummaryLines.{check_line, fault_time, summary_line}
 use Rattle.event_lines.specs.VideoLines.{elementary_late_line, elementary_line, multiplexing_line}
 use Rattle.events.specs.Windows.{WindowView}
 
--- 1. What comes of a PID in a window
+-- 1. The lines of a PID in a window
 
--- `program N coding WORD`, or `coding WORD` of what is of no program
+-- `program N coding WORD`, or `coding WORD` for a PID of no program
 unfoldable pub program_text : Bool → Option ℕ → List ℕ
 program_text json None = []
 program_text json (Some program) = field_text json (number_field (codes "program") program)
@@ -146,7 +146,7 @@ abbrev pub end_line : Bool → ReportEnd → List ℕ
 end_line json e = line_of json (codes "end")
     (number_field (codes "packets") e.packets ∷ number_field (codes "refused") e.refused ∷ number_field (codes "left") e.left ∷ [])
 
--- of a PID alone
+-- a line with a PID alone
 abbrev pub reference_line : Bool → List ℕ → ℕ → List ℕ
 reference_line json word pid = line_of json word (number_field (codes "pid") pid ∷ [])
 
@@ -191,7 +191,7 @@ event_line json (End e) = end_line json e
 event_line json (Rule e) = rule_line json e
 event_line json (Summary e) = summary_line json e
 
--- and when it is, of a fault
+-- the line of an event, with its time if it is a fault
 abbrev pub timed_line : Bool → TimedEvent → List ℕ
 timed_line json e = event_line json e.event ++ (fault_time json (fault_of e.event e.at) ++ last_text json)
 

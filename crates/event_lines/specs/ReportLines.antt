@@ -7,7 +7,7 @@ use Rattle.event_lines.specs.FieldViews.{FieldView, ValueView, IsNumber, IsBelow
 abbrev pub number_field : List ℕ → ℕ → FieldView
 number_field name n = record { name = name; value = IsNumber n }
 
--- the difference of two numbers, of which one is 0
+-- the difference of two numbers; one number is 0
 abbrev pub signed_field : List ℕ → ℕ → ℕ → FieldView
 signed_field name above below = if nat_lt 0 below then record { name = name; value = IsBelow below } else number_field name above
 

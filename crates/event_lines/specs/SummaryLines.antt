@@ -1,4 +1,4 @@
--- The lines of what the faults of a stream come to, of the checks of ETSI TR 101 290, and of the verdict (docs/VIEW.md).
+-- The lines of the totals of a stream's faults, of the checks of ETSI TR 101 290, and of the verdict (docs/VIEW.md).
 use Rattle.std.specs.Prelude.{ℕ, ◌==◌, if◌then◌else◌, Bool, List, [], ◌∷◌, ◌++◌, codes, flat_map, Option, Some, None}
 use Rattle.events.specs.declared.check_counts.CheckTotals.{CheckTotals}
 use Rattle.events.specs.declared.check_counts.FaultCount.{FaultCount}
@@ -27,7 +27,7 @@ moment_text json name (Some ticks) = field_text json (seconds_field name ticks)
 abbrev pub times_text : Bool → Option ℕ → Option ℕ → List ℕ
 times_text json from to = moment_text json (codes "from") from ++ moment_text json (codes "to") to
 
--- of a fault: a moment, or from when to when
+-- the time of a fault: a moment, or from when to when
 unfoldable pub span_text : Bool → Option ℕ → Option ℕ → List ℕ
 span_text json None to = []
 span_text json (Some from) None = []

@@ -45,7 +45,7 @@ pub(crate) fn number(name: &'static str, value: u128) -> Field
     }
 }
 
-/// Returns a field with the difference of two numbers, of which one is 0.
+/// Returns a field with the difference of two numbers, at least one 0.
 #[tactic(auto, unfolding(crate::specs::FieldViews::value_view))]
 pub(crate) fn signed(name: &'static str, above: u128, below: u128) -> Field
     ensures { result ≡ spec.signed_field name.now above below }

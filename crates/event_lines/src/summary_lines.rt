@@ -1,4 +1,4 @@
-//! The lines of what the faults of a stream come to, of the checks of ETSI TR 101 290, and of the verdict.
+//! The lines of faults by kind and stream, of the checks of ETSI TR 101 290, and of the verdict.
 ghost use Rattle.std.specs.Prelude.{◌≡◌, ◌++◌, OnOk, flat_map, string_bytes};
 ghost use Rattle.event_lines.specs.ReportLines.{field_text};
 ghost use Rattle.event_lines.specs.SummaryLines as spec;
@@ -207,7 +207,7 @@ fn write_verdict(text: &mut String, json: bool, e: &Verdict) -> Result<(), Alloc
     text.push_str(if json { "\"" } else { "" })
 }
 
-/// Appends the line of what a stream comes to.
+/// Appends the line of faults by kind and stream, or of the verdict.
 #[tactic(auto, unfolding(crate::specs::SummaryLines::summary_line))]
 pub(crate) fn write_summary(
     text: &mut String,

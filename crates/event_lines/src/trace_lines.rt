@@ -27,7 +27,7 @@ fn write_place(text: &mut String, json: bool, e: &TracePoint) -> Result<(), Allo
     write_line(text, json, "fault_trace", &fields)
 }
 
-// What is in the buffer.
+// The bytes in the buffer.
 fn write_bytes(text: &mut String, json: bool, e: &TracePoint) -> Result<(), AllocError>
     ensures { OnOk result (string_bytes text.new
         ≡ string_bytes text.old ++ flat_map (field_text json) (spec.byte_fields e.now)) }

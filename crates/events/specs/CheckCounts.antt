@@ -32,7 +32,7 @@ unfoldable pub is_check : Option Check → Check → Bool
 is_check None check = false
 is_check (Some found) check = place_of found == place_of check
 
--- SI_repetition_error (5.2.3, 3.2) comes in addition to the check of a table
+-- SI_repetition_error (5.2.3, 3.2) fails in addition to the check of a table
 abbrev pub fails : Check → Fault → Bool
 fails check fault =
     is_check (check_of fault.kind fault.source) check || (is_si_repetition fault.kind fault.source && place_of check == place_of checks.SiRepetition)
@@ -79,7 +79,7 @@ is_timed checks.Tdt = true
 is_timed checks.EmptyBuffer = true
 is_timed checks.DataDelay = true
 
--- a recording whose packets have no moment tells nothing of times, and one whose rate varies nothing of the accuracy of clock references
+-- no verdict on times for a recording whose packets have no moment, and none on the accuracy of clock references for a recording whose rate varies
 abbrev pub untold_of : Check → StreamTime → Option Untold
 untold_of check time =
     if not time.clocked && is_timed check then Some NoClock

@@ -90,7 +90,7 @@ place_of Tdt = 23
 place_of EmptyBuffer = 24
 place_of DataDelay = 25
 
--- that a section fails which comes too late or too soon, by its table_id (EN 300 468, table 2)
+-- the check that fails if a section comes too late or too soon, by its table_id (EN 300 468, table 2)
 abbrev pub check_of_table : ℕ → Option Check
 check_of_table id =
     if id == 0 then Some Pat

@@ -245,7 +245,7 @@ is_repetition kinds.Rest = false
 is_repetition kinds.NoStamps = false
 is_repetition kinds.StampJump = false
 
--- of service information (EN 300 468, table 2): SI_repetition_error comes in addition to the check of the table
+-- a repetition fault of service information (EN 300 468, table 2): SI_repetition_error fails in addition to the check of the table
 unfoldable pub is_si_repetition : FaultKind → FaultSource → Bool
 is_si_repetition kind Whole = false
 is_si_repetition kind (Stream pid) = false

@@ -1,4 +1,4 @@
--- What the faults of a kind at one place come to.
+-- The totals of the faults of a kind at one place.
 use Rattle.std.specs.Prelude.{ℕ, nat_lt, if◌then◌else◌, Bool, Option, Some, None}
 use Rattle.events.specs.declared.check_counts.TheConstants.{NO_FAULT}
 use Rattle.events.specs.declared.fault.Fault.{Fault}
@@ -8,7 +8,7 @@ use Rattle.events.specs.declared.fault_kind.FaultKind.TheVariants as kinds
 use Rattle.events.specs.declared.summary.FaultTotals.{FaultTotals}
 use Rattle.events.specs.CheckCounts as counts
 
--- a time that is too short is worse the shorter it is, all else the greater it is
+-- a time that is too short is worse if it is shorter, any other value if it is greater
 unfoldable pub is_worse : FaultKind → ℕ → ℕ → Bool
 is_worse kinds.Slip value than = nat_lt than value
 is_worse kinds.Empty value than = nat_lt than value
@@ -46,7 +46,7 @@ is_worse kinds.Rest value than = nat_lt than value
 is_worse kinds.NoStamps value than = nat_lt than value
 is_worse kinds.StampJump value than = nat_lt than value
 
--- of equal values the first counts
+-- the worse value; the first of equal values
 unfoldable pub worst_of : FaultKind → Option Measured → Option Measured → Option Measured
 worst_of kind None next = next
 worst_of kind (Some before) None = Some before

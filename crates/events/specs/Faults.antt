@@ -1,4 +1,4 @@
--- The fault that an event says there is: what is wrong, where, at which packet, from which moment to which, and how far beyond which limit.
+-- The fault that an event reports: its kind, its source, its packet, its moments, and its value and limit.
 use Rattle.std.specs.Prelude.{ℕ, ◌-◌, Option, Some, None}
 use Rattle.events.specs.declared.event.BufferExcess.{BufferExcess}
 use Rattle.events.specs.declared.event.ClockFault.{ClockFault}
@@ -25,7 +25,7 @@ use Rattle.events.specs.declared.rule_event.RuleEvent.TheVariants as rules
 
 -- 1. Forms
 
--- at a packet, at its moment if that is known
+-- a fault at a packet, at its moment if that is known
 abbrev pub point : FaultKind → FaultSource → ℕ → Option ℕ → Fault
 point kind source packet at = record { kind = kind; source = source; packet = packet; from = at; to = at; measured = None }
 
@@ -76,7 +76,7 @@ kind_of_cause causes.SyncByte = kinds.SyncByte
 kind_of_cause causes.Header = kinds.Header
 kind_of_cause causes.TransportError = kinds.TransportError
 
--- an arrival time stamp with which the stamps do not go on
+-- an arrival time stamp that does not continue the stamps before it
 abbrev pub jump_fault : StampJump → Option ℕ → Fault
 jump_fault e at = measured_fault kinds.StampJump Whole e.packet at (record { value = e.value; limit = e.limit })
 

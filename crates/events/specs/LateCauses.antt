@@ -1,4 +1,4 @@
--- The words of what makes a unit of video late (docs/VIEW.md).
+-- The words for the cause of a late unit of video (docs/VIEW.md).
 use Rattle.std.specs.Prelude.{ℕ, List, codes}
 use Rattle.events.specs.declared.video_event.LateCause.{LateCause}
 use Rattle.events.specs.declared.video_event.LateCause.TheVariants.{Multiplex, FullBuffer}

@@ -7,7 +7,7 @@ use Rattle.events.specs.declared.pid_name.PidName.{PidName}
 use Rattle.events.specs.declared.pid_name.PidName.TheVariants.{Pat, Cat, Nit, Sdt, Eit, Tdt, Null, Pmt, Pcr, Mpeg2, Avc, Hevc, Audio, Aac, Ac3, Subtitles}
 use Rattle.events.specs.declared.pid_name.PidName.TheVariants.{Teletext, Other}
 
--- what a PID always carries
+-- the label of a PID that is the same in every stream
 abbrev pub fixed : ℕ → Option PidName
 fixed pid =
     if pid == 0 then Some Pat else (if pid == 1 then Some Cat else (if pid == 16 then Some Nit else (if pid == 17 then Some Sdt

@@ -1,4 +1,4 @@
--- What came of a PID in a window, without where the name of a service lies in memory.
+-- The figures of a PID in a window, without the place in memory of a service's name.
 use Rattle.std.specs.Prelude.{ℕ, List, Option}
 use Rattle.events.specs.declared.pid_name.PidName.{PidName}
 

@@ -53,7 +53,7 @@ pub struct CheckCounts {
     pub rows: [CheckCount; 26],
 }
 
-/// What is known of a stream's time: whether a packet has a moment, and whether the rate varies.
+/// Whether a packet of a stream has a moment, and whether the rate of the stream varies.
 #[derive(Clone, Copy)]
 pub struct StreamTime {
     pub clocked: bool,

@@ -15,7 +15,7 @@ pub struct Measured {
     pub limit: u64,
 }
 
-/// A fault: what is wrong, where, at which packet, from which moment to which, and how far beyond which limit.
+/// A fault: its kind and place, its packet, its first and last moment, and how far beyond its limit a value was.
 #[derive(Clone, Copy)]
 pub struct Fault {
     pub kind: FaultKind,
@@ -26,7 +26,7 @@ pub struct Fault {
     pub measured: Option<Measured>,
 }
 
-// A fault of a kind at a packet, at its moment.
+// Returns a fault of a kind at a packet, at its moment.
 fn point(kind: FaultKind, source: FaultSource, packet: u64, at: Option<u128>) -> Fault
     ensures { result ≡ spec.point kind source packet at }
 {
@@ -40,7 +40,7 @@ fn point(kind: FaultKind, source: FaultSource, packet: u64, at: Option<u128>) ->
     }
 }
 
-// A fault of a kind over a time.
+// Returns a fault of a kind over a time.
 fn span(
     kind: FaultKind,
     source: FaultSource,
@@ -89,7 +89,7 @@ fn program_fault(kind: FaultKind, e: &ProgramExcess) -> Fault
     span(kind, source, e.packet, e.begin, e.end, measured)
 }
 
-// A unit that is late, by its DTS and when its last byte comes.
+// Returns the fault of a late unit, by its DTS and the moment of its last byte.
 fn late_fault(kind: FaultKind, pid: u16, packet: u64, due: u128, left: u128, by: u128) -> Fault
     ensures { result ≡ spec.late_fault kind pid packet due left by }
 {
@@ -100,7 +100,7 @@ fn late_fault(kind: FaultKind, pid: u16, packet: u64, due: u128, left: u128, by:
     span(kind, FaultSource::Stream(pid), packet, due, left, measured)
 }
 
-// A fault at a packet, with a value beyond its limit.
+// Returns a fault at a packet, with a value beyond its limit.
 fn measured_fault(
     kind: FaultKind,
     source: FaultSource,
@@ -120,7 +120,7 @@ fn measured_fault(
     }
 }
 
-// A fault of the stream of a PID, at a packet.
+// Returns a fault of the stream of a PID, at a packet.
 fn stream_fault(kind: FaultKind, pid: u16, packet: u64, at: Option<u128>) -> Fault
     ensures { result ≡ spec.point kind (spec.stream pid) packet at }
 {
@@ -148,7 +148,7 @@ fn table_fault(kind: FaultKind, e: &TableFault, at: Option<u128>) -> Fault
     measured_fault(kind, source, e.packet, at, measured)
 }
 
-// Whose buffer it is: of a stream, or of the tables of a program.
+// Returns the owner of a buffer: a stream, or the tables of a program.
 #[tactic(auto, unfolding(crate::specs::Faults::owner_of))]
 fn owner_of(buffer: BufferKind, number: u16) -> FaultSource
     ensures { result ≡ spec.owner_of buffer number }
@@ -251,7 +251,7 @@ fn rule_fault(event: RuleEvent, at: Option<u128>) -> Option<Fault>
     }
 }
 
-// The fault of a buffer or of a unit.
+// Returns the fault of a buffer or of a unit.
 #[tactic(auto, unfolding(crate::specs::Faults::buffer_fault))]
 fn buffer_fault(event: &Event, at: Option<u128>) -> Option<Fault>
     ensures { result ≡ spec.buffer_fault event.now at }

@@ -4,7 +4,7 @@ ghost use Rattle.events.specs.FaultKinds as spec;
 
 use crate::check::Check;
 
-/// What is wrong, by the word of its line, or by the cause of a refused packet.
+/// The kind of a fault: the word of its line, or the cause of a refused packet.
 #[derive(Clone, Copy)]
 pub enum FaultKind {
     Slip,

@@ -40,7 +40,7 @@ pub enum FileForm {
     Unknown,
 }
 
-/// The rate that is given, and another one that the clock references of a PID give, in bits a second.
+/// The rate that is given, and the different rate by the clock references of a PID, in bits a second.
 #[derive(Clone, Copy)]
 pub struct OtherRate {
     pub pid: u16,
@@ -48,7 +48,7 @@ pub struct OtherRate {
     pub references: u128,
 }
 
-/// An arrival time stamp with which the stamps do not go on.
+/// An arrival time stamp that does not continue the stamps before it.
 #[derive(Clone, Copy)]
 pub struct StampJump {
     /// The number of packets before its packet.

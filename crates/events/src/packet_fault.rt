@@ -1,6 +1,6 @@
 //! Faults of packets and of sections, as plain data.
 
-/// Why a packet counts for nothing.
+/// Why a packet is refused.
 #[derive(Clone, Copy)]
 pub enum RefusalCause {
     /// It does not begin with 0x47.
@@ -11,14 +11,14 @@ pub enum RefusalCause {
     TransportError,
 }
 
-/// A packet that counts for nothing.
+/// A packet that is refused.
 #[derive(Clone, Copy)]
 pub struct RefusedPacket {
     pub packet: u64,
     pub cause: RefusalCause,
 }
 
-/// A packet whose continuity_counter does not follow: the counter that had to come, and the one that came.
+/// A packet whose continuity_counter does not follow: the counter that was expected, and the counter found.
 #[derive(Clone, Copy)]
 pub struct CounterFault {
     pub pid: u16,

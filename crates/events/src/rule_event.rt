@@ -76,9 +76,9 @@ pub struct TracePoint {
     pub packet: u64,
     /// When the last of its bytes leaves the transport buffer, in ticks.
     pub left: u128,
-    /// The least that one of its bytes found in the main buffer, itself not counted; `None` of the transport buffer.
+    /// The least that any of its bytes found in the main buffer; `None` for the transport buffer.
     pub least: Option<u64>,
-    /// The most bytes in the buffer when one of its bytes entered, itself included.
+    /// The most bytes in the buffer when any of its bytes entered, that byte included.
     pub most: u128,
     /// The size of the buffer in bytes, and the most bytes that it held.
     pub size: u64,

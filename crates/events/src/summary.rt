@@ -1,4 +1,4 @@
-//! What the faults of a stream come to, by kind and stream, and a verdict for a person.
+//! Totals of the faults of a stream, by kind and source, and a verdict for a person.
 ghost use Rattle.std.specs.Prelude.{◌≡◌};
 ghost use Rattle.events.specs.FaultTotals as spec;
 
@@ -71,14 +71,14 @@ pub enum Verdict {
     Checks(CheckVerdict),
 }
 
-/// What a stream comes to, by the word of its line.
+/// A line of the summary of a stream.
 #[derive(Clone, Copy)]
 pub enum SummaryEvent {
     Faults(FaultTotals),
     Verdict(Verdict),
 }
 
-// Whether a value is worse than another one: of a time that is too short the lesser, else the greater.
+// Returns whether a value is worse than another: the greater, except for times that are too short.
 #[tactic(auto, unfolding(crate::specs::FaultTotals::is_worse))]
 fn is_worse(kind: FaultKind, value: u128, than: u128) -> bool
     ensures { result ≡ spec.is_worse kind value than }

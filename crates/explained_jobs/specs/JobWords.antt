@@ -1,4 +1,4 @@
--- What is said of a whole job: of its description and plan, of a second plan, of its records and units.
+-- The words for a whole job: for its description and plan, for a second plan, for its records and units.
 use Rattle.std.specs.Prelude.{◌≡◌, ℕ, ◌==◌, Bool, true, false, if◌then◌else◌, List, [], ◌++◌, length, Option, Some, None, Result, Ok, Err}
 use Rattle.std.specs.Prelude.{codes, decimal, nat_eq}
 use Rattle.std.specs.List.{starts_with}
@@ -23,7 +23,7 @@ use Rattle.explained_jobs.specs.UnitWords.{refused_words}
 abbrev pub dry : Bool → MuxOptions
 dry switch = record { hex = false; slots = Some 0; periods = if switch then Some 1 else None }
 
--- of the first refused unit
+-- the words for the first refused unit
 unfoldable pub error_words : MuxJobView → Option MuxError → List ℕ
 error_words j (Some (Feed index cause)) = refused_words j.description j.units index cause
 error_words j (Some TooManySlots) = []
@@ -56,14 +56,14 @@ unfoldable pub fault_words : MuxFaultView → List ℕ
 fault_words (InJob fault) = job_fault_words fault
 fault_words (InRecord index fault) = record_words index fault
 
--- of a job with its units, or of its fault
+-- the words for a job with its units, or for its fault
 unfoldable pub units_words : Bool → Result MuxJobView MuxFaultView → List ℕ
 units_words switch (Ok j) = error_words j (cause_of (dry switch) j)
 units_words switch (Err fault) = fault_words fault
 
 -- 2. A second plan
 
--- these words if there are any, else the next
+-- these words if there are any, otherwise the next
 unfoldable pub or_words : List ℕ → List ℕ → List ℕ
 or_words first next = if length first == 0 then next else first
 
@@ -96,11 +96,11 @@ unfoldable pub after_plan : TomlNoteView → List ℕ → Result JobView JobFaul
 after_plan note bytes (Err fault) = []
 after_plan note bytes (Ok j) = if begins_plan j.rest then second_words note bytes j.rest else units_words false (mux_job_of false bytes)
 
--- what is said of the description and the plan, else of what comes after them
+-- the words for the description and the plan, otherwise the words for the bytes after them
 abbrev pub job_words : TomlNoteView → TomlNoteView → List ℕ → List ℕ
 job_words first second bytes = or_words (explained first bytes) (after_plan second bytes (job_of false bytes))
 
--- whatever the TOML reader says: of a second plan by itself, of it and the units after it, of what comes after the first plan, of the whole job
+-- whatever the TOML reader says: for a second plan by itself, for it and the units after it, for the bytes after the first plan, for the whole job
 abbrev pub IsSecondAlone : List ℕ → List ℕ → List ℕ → Type 0
 IsSecondAlone bytes rest text = (note : TomlNoteView) × (text ≡ headed (explained note (second_alone bytes rest)))
 

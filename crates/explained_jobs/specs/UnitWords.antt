@@ -10,15 +10,15 @@ use Rattle.unit_queue.specs.declared.refusal.FeedError.TheVariants.{UnknownStrea
 
 -- 1. The limit
 
--- the value of a key, and the one that the unit needs
+-- the value of a key, and the value that the unit needs
 unfoldable pub less_words : List ℕ → ℕ → ℕ → List ℕ
 less_words key limit needed = key ++ codes " " ++ decimal limit ++ codes " is less than " ++ decimal needed ++ codes "\n"
 
--- its bytes, with those that its marks take in a header
+-- the unit's bytes, with the bytes that its marks take in a header
 abbrev pub size_words : DescribedStream → AccessUnit → List ℕ
 size_words s u = less_words (codes "size") s.size (length u.bytes + marks_size u.marks)
 
--- its PTS
+-- the words for a PTS that is before its DTS
 unfoldable pub early_words : ℕ → List ℕ
 early_words pts = codes "PTS " ++ decimal pts ++ codes " is before its DTS\n"
 
@@ -28,21 +28,21 @@ far_words s u = less_words (codes "pts_limit") s.pts_limit (u.pts - u.dts)
 unfoldable pub pts_words : DescribedStream → AccessUnit → List ℕ
 pts_words s u = if nat_lt u.pts u.dts then early_words u.pts else far_words s u
 
--- its time
+-- the words for a unit that comes too soon
 unfoldable pub soon_words : DescribedStream → List ℕ
 soon_words s = codes "less than interval " ++ decimal s.interval ++ codes " after the unit before it\n"
 
 unfoldable pub late_words : ℕ → ℕ → List ℕ
 late_words lead dts = codes "lead " ++ decimal lead ++ codes " is greater than DTS " ++ decimal dts ++ codes "\n"
 
--- its packets, with those of the units before it
+-- the unit's packets, with the packets of the units before it
 unfoldable pub packets_words : Allowance → List ℕ
 packets_words (allowed.Groups units packets) =
     codes "group_packets " ++ decimal packets ++ codes " is less than the packets of " ++ decimal units ++ codes " units\n"
 packets_words (allowed.Pace burst pace) =
     codes "burst_packets " ++ decimal burst ++ codes " and pace " ++ decimal pace ++ codes " are less than the packets of units in a row\n"
 
--- what is wrong with a unit of a stream
+-- the fault of a unit of a stream
 unfoldable pub cause_words : FeedError → DescribedStream → AccessUnit → List ℕ
 cause_words UnknownStream s u = codes "no stream has this number\n"
 cause_words Empty s u = codes "no bytes\n"
@@ -65,7 +65,7 @@ unit_head index k pid dts =
 unfoldable pub unknown_words : ℕ → ℕ → List ℕ
 unknown_words index k = codes "unit " ++ decimal index ++ codes ": the description has no stream " ++ decimal k ++ codes "\n"
 
--- of the stream of its number, if there is one
+-- the words for a unit of the stream with its number, if that stream exists
 unfoldable pub stream_words : ℕ → FeedError → ℕ × AccessUnit → Option DescribedStream → List ℕ
 stream_words index cause entry None = unknown_words index entry.0
 stream_words index cause entry (Some s) = unit_head index entry.0 s.pid entry.1.dts ++ cause_words cause s entry.1

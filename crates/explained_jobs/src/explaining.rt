@@ -20,7 +20,7 @@ use tsmux_cli::{MuxFault, MuxJob};
 /// The first line of a plan's text.
 const FIRST_PLAN_LINE: &[u8] = b"tsplan 1\n";
 
-// The words for a fault.
+// Returns the words for a fault.
 fn fault_text(alloc: Global, fault: MuxFault) -> Result<String, AllocError>
     ensures { IfOk result (λ text. string_bytes text ≡ spec.fault_words (mux_fault_view fault)) }
 {
@@ -29,7 +29,7 @@ fn fault_text(alloc: Global, fault: MuxFault) -> Result<String, AllocError>
     Ok(text)
 }
 
-// The words for what a run of a job is refused for.
+// Returns the words about the error of a run.
 #[tactic(auto, unfolding(crate::specs::JobWords::error_words))]
 fn error_text(alloc: Global, job: &MuxJob, error: Option<MuxError>) -> Result<String, AllocError>
     ensures { IfOk result (λ text. string_bytes text ≡ spec.error_words (mux_job_view job.now) error) }
@@ -45,7 +45,7 @@ fn error_text(alloc: Global, job: &MuxJob, error: Option<MuxError>) -> Result<St
     Ok(text)
 }
 
-// What is said of the units of a job. Its run takes them, so that the job is read a second time.
+// Returns the words about the units of a job. A run consumes the job, so the job is read a second time.
 #[tactic(auto, using(crate::proofs::Explained::units_of_fault))]
 fn units_text(alloc: Global, switch: bool, bytes: &[u8]) -> Result<String, AllocError>
     ensures { IfOk result (λ text. string_bytes text ≡ spec.units_words switch (mux_job_of switch bytes.now)) }
@@ -61,7 +61,7 @@ fn units_text(alloc: Global, switch: bool, bytes: &[u8]) -> Result<String, Alloc
     }
 }
 
-// The bytes before the first plan.
+// Returns the bytes before the first plan.
 #[tactic(auto, unfolding(crate::specs::JobWords::description_part))]
 fn description_part(bytes: &[u8]) -> &[u8]
     ensures { result.now ≡ spec.description_part bytes.now (parts_of bytes.now) }
@@ -72,7 +72,7 @@ fn description_part(bytes: &[u8]) -> &[u8]
     }
 }
 
-// The description of a job with the plan in these bytes.
+// Returns the description of a job with the plan in these bytes.
 fn with_plan(alloc: Global, bytes: &[u8], rest: &[u8]) -> Result<Vec<u8>, AllocError>
     ensures { IfOk result (λ alone. alone.items ≡ spec.second_alone bytes.now rest.now) }
 {
@@ -82,7 +82,7 @@ fn with_plan(alloc: Global, bytes: &[u8], rest: &[u8]) -> Result<Vec<u8>, AllocE
     Ok(alone)
 }
 
-// Words of a second plan.
+// Puts a head before the words about a second plan; empty words stay empty.
 #[tactic(auto, unfolding(crate::specs::JobWords::headed))]
 fn headed(alloc: Global, words: &str) -> Result<String, AllocError>
     ensures { IfOk result (λ text. string_bytes text ≡ spec.headed words.now) }
@@ -96,7 +96,7 @@ fn headed(alloc: Global, words: &str) -> Result<String, AllocError>
     Ok(text)
 }
 
-// What is said of a second plan by itself.
+// Returns the words about a second plan by itself.
 #[tactic(auto, using(crate::proofs::Explained::alone_words))]
 fn second_alone(alloc: Global, bytes: &[u8], rest: &[u8]) -> Result<String, AllocError>
     ensures { IfOk result (λ text. spec.IsSecondAlone bytes.now rest.now (string_bytes text)) }
@@ -106,7 +106,7 @@ fn second_alone(alloc: Global, bytes: &[u8], rest: &[u8]) -> Result<String, Allo
     headed(alloc, words.as_str())
 }
 
-// What is said of a second plan and of the units after it.
+// Returns the words about a second plan, or about the units after it.
 #[tactic(auto, using(crate::proofs::Explained::second_first))]
 fn second_text(alloc: Global, bytes: &[u8], rest: &[u8]) -> Result<String, AllocError>
     ensures { IfOk result (λ text. spec.IsSecondExplained bytes.now rest.now (string_bytes text)) }
@@ -119,14 +119,14 @@ fn second_text(alloc: Global, bytes: &[u8], rest: &[u8]) -> Result<String, Alloc
     Ok(text)
 }
 
-// Whether the text of a plan begins.
+// Returns whether the bytes begin with a plan.
 fn begins_plan(rest: &[u8]) -> bool
     ensures { result ≡ spec.begins_plan rest.now }
 {
     rest.starts_with(FIRST_PLAN_LINE)
 }
 
-// What is said of what comes after a plan.
+// Returns the words about everything after a plan.
 fn rest_text(alloc: Global, bytes: &[u8]) -> Result<String, AllocError>
     ensures { IfOk result (λ text. spec.IsRestExplained bytes.now (string_bytes text)) }
 {

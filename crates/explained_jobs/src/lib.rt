@@ -1,9 +1,9 @@
 //! What is wrong with a whole job, in words: with its description, its plan, a second plan after it, or its units.
 //!
-//! `explaining` says the first fault (`specs/JobWords`): the crate `diagnosis` has the words for a description and a
-//! plan; then come a second plan that may not follow the first and a record that is none, by `fault_words`, and a unit
-//! that is refused, by `unit_words` (`specs/UnitWords`). `whole_jobs` reads a job in memory, and finds the first
-//! refused unit by the multiplexer.
+//! `explaining` reports the first fault (`specs/JobWords`): the crate `diagnosis` has the words for a description and a
+//! plan; `fault_words` for a second plan that may not follow the first, and for bytes that are no record; `unit_words`
+//! for a refused unit (`specs/UnitWords`). `whole_jobs` reads a job in memory, and finds the first refused unit by the
+//! multiplexer.
 #![tactic(auto)]
 
 mod explaining;

@@ -11,7 +11,7 @@ use std::fmt::Write;
 use unit_queue::FeedError;
 use unit_timing::allowance::Allowance;
 
-// Appends the value of a key, and the one that is needed.
+// Appends the value of a key and the least value needed.
 fn write_less(key: &str, limit: u64, needed: u64, text: &mut String) -> Result<(), AllocError>
     ensures { OnOk result (string_bytes text.new ≡ string_bytes text.old ++ spec.less_words key.now limit needed) }
 {
@@ -42,7 +42,7 @@ fn write_far(stream: &StreamDescription, unit: &Unit, text: &mut String) -> Resu
     write_less("pts_limit", u64::from(stream.pts_limit), needed, text)
 }
 
-// Appends what is wrong with a PTS.
+// Appends why a PTS is refused.
 #[tactic(auto, unfolding(crate::specs::UnitWords::pts_words))]
 fn write_pts(stream: &StreamDescription, unit: &Unit, text: &mut String) -> Result<(), AllocError>
     ensures { OnOk result (string_bytes text.new ≡ string_bytes text.old ++ spec.pts_words stream.now unit.now) }
@@ -89,7 +89,7 @@ fn write_packets(allowance: Allowance, text: &mut String) -> Result<(), AllocErr
     }
 }
 
-// Appends what is wrong with a unit of a stream.
+// Appends why a unit of a stream is refused.
 #[tactic(auto, unfolding(crate::specs::UnitWords::cause_words))]
 fn write_cause(
     cause: FeedError,

@@ -40,7 +40,7 @@ pub fn description_of(plans: &JobPlans) -> &Description
     }
 }
 
-// A run of no slots.
+// Returns the options of a run of no slots.
 fn dry(switch: bool) -> MuxOptions
     ensures { result ≡ dry switch }
 {

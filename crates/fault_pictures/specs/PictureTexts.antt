@@ -2,8 +2,9 @@
 use Rattle.std.specs.Prelude.{ℕ, List, Option}
 use Rattle.events.specs.declared.rule_event.TracePoint.{TracePoint}
 
--- the pictures that are whole; of the picture under way its last point, how many points it has, their line, marks and rows
+-- the first point of each picture; the finished pictures; of the current picture its last point, its number of points, their line, marks and rows
 pub record PictureTexts : Type 0 where
+  pub firsts : List TracePoint
   pub done : List ℕ
   pub last : Option TracePoint
   pub count : ℕ

@@ -1,9 +1,9 @@
--- A picture of what a buffer held near its greatest excess: its name, the scale, the packets, the size of the buffer, and the numbers as a table.
+-- A picture of the bytes in a buffer near its greatest excess: its name, the scale, the packets, the size of the buffer, and the numbers as a table.
 use Rattle.std.specs.Prelude.{ℕ, List, ◌++◌, codes, decimal}
 use Rattle.events.specs.declared.rule_event.TracePoint.{TracePoint}
 use Rattle.events.specs.BufferKinds.{word_of}
-use Rattle.page_charts.specs.Numbers.{grouped}
-use Rattle.page_charts.specs.PidLabels.{LabelsState, label_text}
+use Rattle.page_curves.specs.Numbers.{grouped}
+use Rattle.page_curves.specs.PidLabels.{LabelsState, label_text}
 use Rattle.fault_pictures.specs.Points.{drawn, height_of}
 
 unfoldable pub title_head : ℕ → List ℕ → List ℕ

@@ -1,8 +1,7 @@
--- What is drawn of a packet near the greatest excess of a buffer: pictures are 64 packets wide, and the most bytes that the buffer held are at
--- their top.
+-- The drawing of a packet near the greatest excess of a buffer: pictures are 64 packets wide, and the most bytes that the buffer held are at their top.
 use Rattle.std.specs.Prelude.{ℕ, ◌+◌, ◌-◌, ◌*◌, ◌/◌, ◌%◌, ◌==◌, min, max, Bool, if◌then◌else◌, List, [], ◌++◌, codes, decimal, Option, Some, None}
 use Rattle.events.specs.declared.rule_event.TracePoint.{TracePoint}
-use Rattle.page_charts.specs.Numbers.{grouped, tenths}
+use Rattle.page_curves.specs.Numbers.{grouped, tenths}
 
 abbrev pub drawn : ℕ → ℕ
 drawn value = min value 1000000000000000
@@ -13,7 +12,7 @@ height_of peak value = 2200 - min (drawn value) (drawn peak) * 2000 / max (drawn
 abbrev pub across : ℕ → ℕ
 across row = 900 + 8600 * min row 64 / 64
 
--- a line from the least number of bytes up to the greatest one, or level, where the least is not known
+-- a line from the least number of bytes up to the greatest, or level if the least is not known
 unfoldable pub least_or : ℕ → Option ℕ → ℕ
 least_or most None = most
 least_or most (Some least) = least
@@ -24,14 +23,14 @@ step_text x y z end = codes " " ++ (decimal x ++ (codes " " ++ (decimal y ++ (co
 abbrev pub step : ℕ → TracePoint → List ℕ
 step row p = step_text (across row) (height_of p.peak (least_or p.most p.least)) (height_of p.peak p.most) (across (min row 64 + 1))
 
--- where a unit begins
+-- a line where a unit begins
 unfoldable pub unit_text : ℕ → List ℕ
 unit_text x = codes "<path style=\"stroke:var(--s2);stroke-width:12;stroke-dasharray:40 30\" d=\"M" ++ (decimal x ++ codes " 200V2240\"/>\n")
 
 abbrev pub unit_if : ℕ → TracePoint → List ℕ
 unit_if row p = if p.begins then unit_text (across row) else []
 
--- where the buffer holds the most
+-- a mark where the buffer holds the most
 unfoldable pub over_text : ℕ → ℕ → List ℕ
 over_text x y = codes "<path class=\"over\" d=\"M" ++ (decimal x ++ (codes " " ++ (decimal y ++ codes "m-35 -80h70l-35 70z\"/>\n")))
 

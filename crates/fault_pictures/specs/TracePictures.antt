@@ -1,42 +1,58 @@
 -- Pictures of buffers near their greatest excesses, by the events of a stream: points of a buffer come one after another.
-use Rattle.std.specs.Prelude.{ℕ, ◌+◌, ◌-◌, ◌^◌, ◌==◌, ◌&&◌, not, min, is_some, Bool, false, if◌then◌else◌, List, [], ◌++◌, Option, Some, None}
-use Rattle.std.specs.Bool.{beq}
+use Rattle.std.specs.Prelude.{ℕ, ◌+◌, ◌-◌, ◌^◌, ◌==◌, ◌&&◌, not, min, Bool, false, if◌then◌else◌, List, [], ◌∷◌, ◌++◌, Option, Some, None}
 use Rattle.events.specs.declared.event.Event.{Event}
 use Rattle.events.specs.declared.event.Event.TheVariants.{Rule}
+use Rattle.events.specs.declared.rule_event.BufferKind.{BufferKind}
+use Rattle.events.specs.declared.rule_event.BufferKind.TheVariants.{Transport, Multiplexing, Elementary, Main, TableTransport, System}
 use Rattle.events.specs.declared.rule_event.RuleEvent.{RuleEvent}
 use Rattle.events.specs.declared.rule_event.RuleEvent.TheVariants.{FaultTrace}
 use Rattle.events.specs.declared.rule_event.TracePoint.{TracePoint}
-use Rattle.page_charts.specs.PidLabels.{LabelsState}
+use Rattle.page_curves.specs.PidLabels.{LabelsState}
 use Rattle.fault_pictures.specs.declared.trace_pictures.TheConstants.{HEAD}
 use Rattle.fault_pictures.specs.Pictures.{picture}
 use Rattle.fault_pictures.specs.PictureTexts.{PictureTexts}
 use Rattle.fault_pictures.specs.Points.{marks, row, step}
 
 abbrev pub no_pictures : PictureTexts
-no_pictures = record { done = []; last = None; count = 0; line = []; marks = []; rows = [] }
+no_pictures = record { firsts = []; done = []; last = None; count = 0; line = []; marks = []; rows = [] }
 
--- points of one buffer: of its transport buffer no least is known
-abbrev pub are_of_one : TracePoint → TracePoint → Bool
-are_of_one a b = a.pid == b.pid && beq (is_some a.least) (is_some b.least)
+-- a number for each kind of buffer
+unfoldable pub kind_number : BufferKind → ℕ
+kind_number Transport = 0
+kind_number Multiplexing = 1
+kind_number Elementary = 2
+kind_number Main = 3
+kind_number TableTransport = 4
+kind_number System = 5
+
+abbrev pub is_of : ℕ → BufferKind → TracePoint → Bool
+is_of pid kind p = p.pid == pid && kind_number p.buffer == kind_number kind
 
 unfoldable pub is_other : Option TracePoint → TracePoint → Bool
 is_other None p = false
-is_other (Some last) p = not (are_of_one last p)
+is_other (Some last) p = not (is_of p.pid p.buffer last)
 
--- the picture under way is whole
+-- the current picture is finished
 unfoldable pub last_picture : LabelsState → PictureTexts → Option TracePoint → List ℕ
 last_picture labels s None = []
 last_picture labels s (Some last) = picture labels last s.line s.marks s.rows
 
 abbrev pub cleared : PictureTexts → PictureTexts
-cleared s = record { done = s.done; last = None; count = 0; line = []; marks = []; rows = [] }
+cleared s = record { firsts = s.firsts; done = s.done; last = None; count = 0; line = []; marks = []; rows = [] }
 
 abbrev pub closed : LabelsState → PictureTexts → PictureTexts
-closed labels s = record { done = s.done ++ last_picture labels s s.last; last = None; count = 0; line = []; marks = []; rows = [] }
+closed labels s = record { firsts = s.firsts; done = s.done ++ last_picture labels s s.last; last = None; count = 0; line = []; marks = []; rows = [] }
 
--- a point more
+-- a point more, of the open picture or the first of a picture
+abbrev pub firsts_with : PictureTexts → TracePoint → List TracePoint
+firsts_with s p = if s.count == 0 then s.firsts ++ p ∷ [] else s.firsts
+
+abbrev pub with_first : PictureTexts → TracePoint → PictureTexts
+with_first s p = record s { firsts = firsts_with s p }
+
 abbrev pub with_point : PictureTexts → TracePoint → PictureTexts
 with_point s p = record {
+  firsts = firsts_with s p;
   done = s.done;
   last = Some p;
   count = min (s.count + 1) (2 ^ 64 - 1);

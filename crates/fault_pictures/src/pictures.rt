@@ -1,10 +1,10 @@
-//! What is around the packets of a picture.
+//! The title, the scale and the size of a picture.
 ghost use Rattle.std.specs.Prelude.{◌≡◌, ◌++◌, OnOk, string_bytes};
 ghost use Rattle.fault_pictures.specs.Pictures as spec;
 
 use crate::points::{drawn, height_of};
 use events::TracePoint;
-use page_charts::{PidLabels, write_grouped, write_label};
+use page_curves::{PidLabels, write_grouped, write_label};
 use std::alloc::AllocError;
 use std::fmt::Write;
 

@@ -1,23 +1,23 @@
-//! What is drawn of a packet.
+//! The line, the marks and the row of a packet.
 ghost use Rattle.std.specs.Prelude.{◌≡◌, ◌++◌, ◌≤◌, OnOk, string_bytes};
 ghost use Rattle.fault_pictures.specs.Points as spec;
 
 use events::TracePoint;
-use page_charts::{write_grouped, write_tenths};
+use page_curves::{write_grouped, write_tenths};
 use std::alloc::AllocError;
 use std::fmt::Write;
 
 // No number that is drawn is greater.
 const GREATEST: u128 = 1_000_000_000_000_000;
 
-/// Returns a number as it is drawn, 10^15 at most.
+/// Returns a number as pictures show it, 10^15 at most.
 pub(crate) fn drawn(value: u128) -> u64
     ensures { result ≡ spec.drawn value }
 {
     value.min(GREATEST) as u64
 }
 
-/// Returns how far down a picture so many bytes are, of `peak` at its top.
+/// Returns how far down a picture `value` bytes lie, with `peak` bytes at its top.
 pub(crate) fn height_of(peak: u128, value: u128) -> u64
     ensures { result ≡ spec.height_of peak value }
 {
@@ -25,14 +25,14 @@ pub(crate) fn height_of(peak: u128, value: u128) -> u64
     2_200 - drawn(value).min(peak) * 2_000 / peak.max(1)
 }
 
-// How far across it a packet of that number begins, of 64.
+// How far across a picture a packet begins, by its number, of 64.
 fn across(row: u64) -> u64
     ensures { result ≡ spec.across row }
 {
     900 + 8_600 * row.min(64) / 64
 }
 
-// The least number of bytes in the buffer, or the greatest one of a buffer whose least is not known.
+// The least number of bytes in the buffer, or the greatest if the least is not known.
 #[tactic(auto, unfolding(crate::specs::Points::least_or))]
 fn least_of(point: &TracePoint) -> u128
     ensures { result ≡ spec.least_or point.now.most point.now.least }

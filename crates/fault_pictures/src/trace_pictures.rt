@@ -4,8 +4,8 @@ ghost use Rattle.fault_pictures.specs.TracePictures as spec;
 
 use crate::pictures::write_picture;
 use crate::points::{write_marks, write_row, write_step};
-use events::{Event, RuleEvent, TracePoint};
-use page_charts::PidLabels;
+use events::{BufferKind, Event, RuleEvent, TracePoint};
+use page_curves::PidLabels;
 use std::alloc::{AllocError, Global};
 use std::marker::Model;
 
@@ -13,10 +13,11 @@ use std::marker::Model;
 const HEAD: &str =
     "<h2 id=traces>Greatest excesses</h2><p class=\"soft\">Each buffer that held more than its size, packet by packet of its stream: up to 31 packets before the greatest excess, and up to 32 after it. The line rises as a packet's bytes enter, and falls between two packets as units leave; a dashed line down: a unit begins. Moments: when the packet's last byte has left the transport buffer.</p>\n";
 
-/// The pictures that are whole; of the picture under way the last point, the number of points, and their line, marks
-/// and rows.
+/// The first point of each picture; the whole pictures; and the last point of the open picture, the number of its points,
+/// their line, marks and rows.
 #[derive(Drop)]
 pub struct TracePictures {
+    pub firsts: Vec<TracePoint>,
     pub done: String,
     pub last: Option<TracePoint>,
     pub count: u64,
@@ -32,6 +33,7 @@ impl Model for TracePictures {
     ghost Value = { PictureTexts };
 
     ghost view = { λ p. record {
+      firsts = p.firsts.items;
       done = string_bytes p.done;
       last = p.last;
       count = p.count;
@@ -41,21 +43,36 @@ impl Model for TracePictures {
     } };
 }
 
-// Whether two points are of the same buffer.
-fn are_of_one(a: &TracePoint, b: &TracePoint) -> bool
-    ensures { result ≡ spec.are_of_one a.now b.now }
+// A number for each kind of buffer.
+#[tactic(auto, unfolding(crate::specs::TracePictures::kind_number))]
+fn kind_number(kind: BufferKind) -> u64
+    ensures { result ≡ spec.kind_number kind }
 {
-    a.pid == b.pid && a.least.is_some() == b.least.is_some()
+    match kind {
+        BufferKind::Transport => 0,
+        BufferKind::Multiplexing => 1,
+        BufferKind::Elementary => 2,
+        BufferKind::Main => 3,
+        BufferKind::TableTransport => 4,
+        BufferKind::System => 5,
+    }
 }
 
-// Whether a point is of another buffer than the last one.
+/// Returns whether a point belongs to the buffer of a kind of a PID.
+pub(crate) fn is_of(pid: u16, kind: BufferKind, point: &TracePoint) -> bool
+    ensures { result ≡ spec.is_of pid kind point.now }
+{
+    point.pid == pid && kind_number(point.buffer) == kind_number(kind)
+}
+
+// Whether a point belongs to another buffer than the last point.
 #[tactic(auto, unfolding(crate::specs::TracePictures::is_other))]
 fn is_other(last: &Option<TracePoint>, point: &TracePoint) -> bool
     ensures { result ≡ spec.is_other last.now point.now }
 {
     match last {
         None => false,
-        Some(last) => !are_of_one(last, point),
+        Some(last) => !is_of(point.pid, point.buffer, last),
     }
 }
 
@@ -72,6 +89,7 @@ impl TracePictures {
         ensures { result ≡ spec.no_pictures }
     {
         TracePictures {
+            firsts: Vec::new(alloc),
             done: String::new(alloc),
             last: None,
             count: 0,
@@ -81,7 +99,7 @@ impl TracePictures {
         }
     }
 
-    // Nothing is under way.
+    // No picture is open.
     fn clear(&mut self)
         ensures { self.new ≡ spec.cleared self.old }
     {
@@ -92,7 +110,7 @@ impl TracePictures {
         self.rows.clear();
     }
 
-    // The picture under way is whole, if there is one.
+    // The open picture is whole, if there is one.
     #[tactic(auto, unfolding(crate::specs::TracePictures::last_picture))]
     fn close(&mut self, labels: &PidLabels) -> Result<(), AllocError>
         ensures { OnOk result (self.new ≡ spec.closed labels.now self.old) }
@@ -111,11 +129,22 @@ impl TracePictures {
         Ok(())
     }
 
-    // A point of the picture under way.
+    // Keeps the first point of a picture.
+    fn open(&mut self, point: &TracePoint) -> Result<(), AllocError>
+        ensures { OnOk result (self.new ≡ spec.with_first self.old point.now) }
+    {
+        if self.count == 0 {
+            self.firsts.push(*point)?;
+        }
+        Ok(())
+    }
+
+    // A point of the open picture.
     fn add(&mut self, point: &TracePoint) -> Result<(), AllocError>
         ensures { OnOk result (self.new ≡ spec.with_point self.old point.now) }
     {
         let row = self.count;
+        self.open(point)?;
         write_step(&mut self.line, row, point)?;
         write_marks(&mut self.marks, row, point)?;
         write_row(&mut self.rows, point)?;
@@ -124,7 +153,7 @@ impl TracePictures {
         Ok(())
     }
 
-    // A point, of the picture under way or of a new one.
+    // A point of the open picture or of a new picture.
     fn take_point(&mut self, labels: &PidLabels, point: &TracePoint) -> Result<(), AllocError>
         ensures { OnOk result (self.new ≡ spec.after_point labels.now self.old point.now) }
     {
@@ -145,7 +174,7 @@ impl TracePictures {
         }
     }
 
-    // The picture under way, after those that are whole.
+    // All pictures: the whole pictures, then the open picture.
     fn write_all(
         &self,
         text: &mut String,

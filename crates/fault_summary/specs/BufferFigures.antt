@@ -1,4 +1,4 @@
--- What the buffers of a stream come to.
+-- The totals of the buffers of a stream.
 use Rattle.std.specs.Prelude.{ℕ, ◌+◌, ◌-◌, ◌*◌, ◌^◌, ◌==◌, min, not, nat_lt, if◌then◌else◌, Bool, Option, Some, None}
 use Rattle.events.specs.declared.event.Event.{Event}
 use Rattle.events.specs.declared.event.Event.TheVariants as events

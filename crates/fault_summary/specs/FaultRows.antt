@@ -1,4 +1,4 @@
--- Faults by kind and source: what those of each come to.
+-- Totals of faults by kind and source.
 use Rattle.std.specs.Prelude.{ℕ, ◌+◌, ◌*◌, nat_eq, List, [], map, Option, Some, None}
 use Rattle.std.specs.Map.{lookup}
 use Rattle.indexmap.specs.IndexMap.{insert_entry}

@@ -1,4 +1,4 @@
--- What is counted of the faults of a stream: lists have the last fault first.
+-- Counts of the faults of a stream: lists have the last fault first.
 use Rattle.std.specs.Prelude.{◌≡◌, ℕ, ◌==◌, List, [], ◌∷◌, filter, map, Option, Some, None}
 use Rattle.events.specs.declared.check_counts.CheckCount.{CheckCount}
 use Rattle.events.specs.declared.check_counts.FaultCount.{FaultCount}
@@ -38,7 +38,7 @@ unfoldable pub totals_in : List Fault → Option FaultTotals
 totals_in [] = None
 totals_in (fault ∷ earlier) = Some (totals_after (totals_in earlier) fault)
 
--- those of a key
+-- the faults of a key
 abbrev pub faults_of : ℕ → List Fault → List Fault
 faults_of key faults = filter (λ f. fault_key f == key) faults
 

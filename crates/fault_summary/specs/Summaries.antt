@@ -1,4 +1,4 @@
--- What the events of a stream come to: its faults by check, and by kind and source, and what its buffers held.
+-- The totals of the events of a stream: its faults by check, and by kind and source, and the bytes in its buffers.
 use Rattle.std.specs.Prelude.{ℕ, ◌+◌, ◌-◌, ◌^◌, ◌==◌, ◌||◌, min, Bool, true, false, List, ◌++◌, length, Option, Some, None}
 use Rattle.events.specs.declared.check_counts.CheckCounts.{CheckCounts}
 use Rattle.events.specs.declared.check_counts.StreamTime.{StreamTime}
@@ -23,7 +23,7 @@ pub record SummaryState : Type 0 where
   pub figures : BufferFigures
   pub varies : Bool
 
--- before the first event, of a stream whose rate is said to vary, or not
+-- before the first event; `varies` if the stream's rate is known to vary
 abbrev pub nothing : Bool → SummaryState
 nothing varies = record { counts = no_faults; rows = no_rows; faults = 0; figures = no_buffer; varies = varies }
 

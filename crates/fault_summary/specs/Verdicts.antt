@@ -11,7 +11,7 @@ use Rattle.fault_summary.specs.BufferFigures.{buffer_verdict, unit_verdict}
 use Rattle.fault_summary.specs.FaultRows.{RowEntries}
 use Rattle.fault_summary.specs.declared.buffer_figures.BufferFigures.{BufferFigures}
 
--- 1. Checks: those that could be made, those of them that failed, and the first of these
+-- 1. Checks: how many could be made, how many of these failed, and the first failed check
 
 abbrev pub no_check : CheckVerdict
 no_check = record { checks = 0; failed = 0; first = None }

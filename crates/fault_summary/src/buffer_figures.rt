@@ -1,4 +1,4 @@
-//! What the buffers of a stream come to.
+//! Totals of the buffers of a stream.
 ghost use Rattle.std.specs.Prelude.{◌≡◌};
 ghost use Rattle.fault_summary.specs.BufferFigures as spec;
 
@@ -17,8 +17,8 @@ pub struct BufferMost {
     pub size: u64,
 }
 
-/// How many buffers there are, how many of them were over their size, and the one that was furthest over it; the units
-/// of all streams.
+/// How many buffers there are, how many of them were over their size, and the buffer with the greatest excess; the
+/// units of all streams.
 #[derive(Clone, Copy)]
 pub struct BufferFigures {
     pub buffers: u64,
@@ -28,7 +28,7 @@ pub struct BufferFigures {
     pub late: u64,
 }
 
-// Whether a buffer is further over its size than another one, by the parts of its size.
+// Returns whether a buffer is further over its size than another one, by the parts of its size.
 fn is_further(next: &BufferMost, than: &BufferMost) -> bool
     ensures { result ≡ spec.is_further next.now than.now }
 {
@@ -169,7 +169,7 @@ impl BufferFigures {
     }
 }
 
-// The kind of the excesses of a buffer.
+// Returns the kind of the excesses of a buffer.
 #[tactic(auto, unfolding(crate::specs::BufferFigures::excess_kind))]
 fn excess_kind(buffer: BufferKind) -> FaultKind
     ensures { result ≡ spec.excess_kind buffer }

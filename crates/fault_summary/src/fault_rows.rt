@@ -14,8 +14,8 @@ const SOURCES: u64 = 1 << 24;
 /// Totals by kind and source.
 type RowEntries = IndexMap<u64, FaultTotals, BuildHasherDefault<FoldHasher>, Global>;
 
-/// What the faults of a stream come to, by kind and source, in the order of their first faults: one entry for each that
-/// has a fault.
+/// Totals of the faults of a stream, by kind and source, in the order of their first faults: one entry for each kind
+/// and source that has a fault.
 #[derive(Drop)]
 pub struct FaultRows {
     rows: RowEntries,

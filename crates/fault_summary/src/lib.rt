@@ -1,4 +1,4 @@
-//! What the events of a transport stream come to: how often each check of ETSI TR 101 290 fails, faults by kind and
+//! Totals of the events of a transport stream: how often each check of ETSI TR 101 290 fails, faults by kind and
 //! stream, and a verdict for a person.
 //!
 //! - [`Summary`]: takes events with their faults; `push_end` appends the rows and the verdict.

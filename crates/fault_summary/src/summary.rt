@@ -1,4 +1,4 @@
-//! What the events of a stream come to.
+//! Totals of the events of a stream.
 ghost use Rattle.std.specs.Prelude.{◌≡◌, ◌++◌, OnOk};
 ghost use Rattle.fault_summary.specs.Summaries as spec;
 
@@ -28,7 +28,7 @@ impl Model for Summary {
     ghost view = { λ s. record { counts = s.counts; rows = s.rows; faults = s.faults; figures = s.figures; varies = s.varies } };
 }
 
-// Whether an event says that the rate varies.
+// Returns whether an event says that the rate varies.
 #[tactic(auto, unfolding(crate::specs::Summaries::is_variable_rule))]
 fn is_variable_rule(event: RuleEvent) -> bool
     ensures { result ≡ spec.is_variable_rule event }
@@ -50,7 +50,7 @@ fn is_variable(event: &Event) -> bool
 }
 
 impl Summary {
-    /// Returns what no event comes to, of a stream whose rate is said to vary, or not.
+    /// Returns the totals of no event; `varies` says whether the rate of the stream varies.
     pub fn new(alloc: Global, varies: bool) -> Summary
         ensures { result ≡ spec.nothing varies }
     {

@@ -17,7 +17,7 @@ fn no_check() -> CheckVerdict
     }
 }
 
-// Whether a check was made and has failed.
+// Returns whether a check was made and has failed.
 fn has_failed(totals: &CheckTotals) -> bool
     ensures { result ≡ spec.has_failed totals.now }
 {
@@ -97,7 +97,7 @@ fn push_faults(
     push_sentence(events, Verdict::Faults(FaultVerdict { faults, rows }))
 }
 
-// Appends what the buffers and the units come to, if there are any.
+// Appends the verdict on the buffers and on the units, if there are any.
 fn push_buffers(
     events: &mut Vec<Event>,
     figures: &BufferFigures,

@@ -12,7 +12,7 @@ no_row = record { packet = 0; left = 0; transport = 0; main = 0; least = None; b
 abbrev pub no_rows : Ring
 no_rows = record { rows = replicate 64 no_row; next = 0; full = false }
 
--- where the next one is written
+-- the place of the next row
 abbrev pub place_in : Ring → ℕ
 place_in ring = ring.next % 64
 
@@ -24,6 +24,6 @@ with_row ring row = record {
   full = ring.full || (place_in ring + 1 == 64);
 }
 
--- those that are kept, in their order
+-- the rows that are kept, in their order
 abbrev pub rows_of : Ring → List TraceRow
 rows_of ring = if ring.full then drop (place_in ring) ring.rows ++ take (place_in ring) ring.rows else take (place_in ring) ring.rows

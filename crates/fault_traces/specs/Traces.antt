@@ -1,4 +1,4 @@
--- The rows around the greatest excess of a buffer: the last 64 of those up to 32 after it.
+-- The rows around the greatest excess of a buffer: the last 64 of the rows up to 32 after it.
 use Rattle.std.specs.Prelude.{ℕ, ◌-◌, ◌==◌, ◌&&◌, nat_lt, Bool, if◌then◌else◌, List, []}
 use Rattle.fault_traces.specs.declared.ring.Ring.{Ring}
 use Rattle.fault_traces.specs.declared.row.TraceRow.{TraceRow}
@@ -25,7 +25,7 @@ trace_after s ring size most =
     else if s.later == 1 then settled s ring
     else s
 
--- where its rows are
+-- the ring that has the rows of a trace
 abbrev pub ring_of : Trace → Ring → Ring
 ring_of s ring = if s.later == 0 then s.ring else ring
 

@@ -39,7 +39,7 @@ impl Trace {
         }
     }
 
-    // The last row of a trace has come. A call of its own: few rows are one.
+    // Takes the last row of a trace. A call of its own: few rows are the last.
     #[inline(never)]
     fn settle(&mut self, ring: &Ring)
         ensures { self.new ≡ spec.settled self.old ring.now }
@@ -48,7 +48,7 @@ impl Trace {
         self.ring = *ring;
     }
 
-    /// Takes the last row of a ring, in which a buffer of a size held so many bytes.
+    /// Takes the last row of a ring, where a buffer with `size` bytes held `most`.
     #[inline(always)]
     pub fn see(&mut self, ring: &Ring, size: u64, most: u128)
         ensures { self.new ≡ spec.trace_after self.old ring.now size most }

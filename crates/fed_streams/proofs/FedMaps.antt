@@ -5,7 +5,7 @@ use Rattle.std.specs.Prelude.{is_some}
 use Rattle.std.proofs.Math.Seq.{drop-cons}
 use Rattle.std.proofs.lemmas.List.{drop_all}
 use Rattle.std.proofs.lemmas.Option.{slice_get_cases}
-use Rattle.demux.specs.Views.{FindingView}
+use Rattle.pid_findings.specs.Views.{FindingView}
 use Rattle.fed_streams.specs.declared.feed_fault.NewMap.{NewMap}
 use Rattle.psi_tables.specs.ProgramMap.{StreamView}
 use Rattle.fed_streams.specs.declared.fed_map.NamedStream.{NamedStream}

@@ -1,7 +1,7 @@
 -- A unit under way that is not cut by what comes after it.
 use Rattle.std.proofs.Common.{◌≡◌, ℕ, ◌==◌, ◌&&◌, Bool, true, false, Option, Some, None, List, ◌∷◌, refl}
 use Rattle.std.specs.Prelude.{is_some, not, unwrap_or}
-use Rattle.demux.specs.Views.{FindingView}
+use Rattle.pid_findings.specs.Views.{FindingView}
 use Rattle.es_units.specs.CarriedUnits.{RoleView, Ignored, Start, Continuation, Interruption, role_of, end_of, is_cut}
 use Rattle.es_units.specs.UnitSteps.{goes_on_as, is_start_cut, lengthened}
 use Rattle.es_moments.specs.WireUnits.{CarriedUnit}

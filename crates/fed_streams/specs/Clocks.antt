@@ -9,7 +9,7 @@ unfoldable pub jumps : Option ℕ → ℕ → Bool
 jumps None base = false
 jumps (Some before) base = nat_lt 900_000 (distance before base)
 
--- a jump is told, and where the discontinuity_indicator says so a clock that goes on too; the first reference tells of none
+-- the jump that the feed reports at a reference: the clock leaps, or the discontinuity_indicator announces a jump; none at the first reference
 unfoldable pub jump_of : Option ℕ → FoundPcr → Option ClockJump
 jump_of None pcr = None
 jump_of (Some before) pcr =

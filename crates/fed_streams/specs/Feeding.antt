@@ -1,11 +1,11 @@
 -- The units of a description's streams from what is found of a stream, finding by finding, each at its moment as soon as it is
 -- whole.
-use Rattle.std.specs.Prelude.{ℕ, ◌+◌, ◌-◌, ◌++◌, ◌==◌, ◌&&◌, ◌||◌, not, max, nat_lt, Bool, false, if◌then◌else◌, Option, Some, None, is_none, is_some, Result}
+use Rattle.std.specs.Prelude.{ℕ, ◌+◌, ◌-◌, ◌++◌, ◌==◌, ◌&&◌, ◌||◌, not, max, nat_lt, Bool, false, if◌then◌else◌, Option, Some, None, is_none, is_some, Result, true}
 use Rattle.std.specs.Prelude.{Ok, Err, List, [], ◌∷◌, length, slice_get, slice_set, ◌≡◌}
 use Rattle.std.specs.Option.{option_to_list}
 use Rattle.pes_packet.specs.AccessUnits.{AccessUnit}
-use Rattle.demux.specs.Views.{FindingView, WhatView, IsDuplicate, BreaksCounter, IsScrambled, IsTruncated, IsSection, IsBadSection, IsPes, IsBadPes}
-use Rattle.demux.specs.Views.{IsBadPacket, IsErrored, IsStray}
+use Rattle.pid_findings.specs.Views.{FindingView, WhatView, IsDuplicate, BreaksCounter, IsScrambled, IsTruncated, IsSection, IsBadSection, IsPes, IsBadPes}
+use Rattle.pid_findings.specs.Views.{IsBadPacket, IsErrored, IsStray}
 use Rattle.demux.specs.Laws.{has_pid}
 use Rattle.es_units.specs.ApartSteps.{is_same_after, place_past, set_apart}
 use Rattle.es_units.specs.CarriedUnits.{first_packet, role_of}
@@ -14,7 +14,7 @@ use Rattle.es_units.specs.UnitSteps.{UnitsSoFar, after_finding, ended_unit, made
 use Rattle.es_moments.specs.declared.stamps.StampFault.{StampFault}
 use Rattle.fed_streams.specs.declared.feed_fault.FeedFault.{FeedFault}
 use Rattle.fed_streams.specs.declared.due.Due.{Due}
-use Rattle.fed_streams.specs.declared.feed_fault.FeedFault.TheVariants.{Stamp, Ahead, Lost, Cut, Map, Other, Packet, Restarted}
+use Rattle.fed_streams.specs.declared.feed_fault.FeedFault.TheVariants.{Stamp, Ahead, Lost, Cut, Stray, Map, Other, Packet, Restarted}
 use Rattle.fed_streams.specs.declared.feed_fault.CutCause.{CutCause}
 use Rattle.fed_streams.specs.declared.feed_fault.CutCause.TheVariants as causes
 use Rattle.fed_streams.specs.declared.feed_fault.CutUnits.{CutUnits}
@@ -36,21 +36,22 @@ use Rattle.es_moments.specs.WireUnits.{CarriedUnit}
 -- 1. A stream
 
 -- a stream: its number in the description, the DTS of its last unit that has a moment, what is kept of its units, whether units
--- follow one another (one has started, and nothing that is told has come since), and how many units that are due with the unit
--- under way are before it in a row, counted up to 63
+-- follow one another (one has started, and nothing that is reported has come since), whether payload in no PES packet has come
+-- since its last PES packet, and how many units that are due with the unit under way are before it in a row, counted up to 63
 pub record FedStreamView : Type 0 where
   pub number : ℕ
   pub before : Option ℕ
   pub units : UnitsSoFar
   pub follow : Bool
+  pub stray : Bool
   pub place : ℕ
 
--- a unit at its moment with the number of its stream, or what is told in its place
+-- a unit at its moment with the number of its stream, or a fault in its place
 abbrev pub Fed : Type 0
 Fed = ℕ × Result AccessUnit FeedFault
 
--- how long after the greatest DTS so far a moment lies, where that is over 10 s: no unit waits longer in a decoder for its DTS
--- (ISO/IEC 13818-1, 2.4.2.6), so one that is due so much later is of another clock
+-- how long after the greatest DTS so far a moment lies, if that is over 10 s: no unit waits longer in a decoder for its DTS (ISO/IEC 13818-1, 2.4.2.6),
+-- so a unit that is due so much later belongs to another clock
 unfoldable pub ahead_of : Option ℕ → ℕ → Option ℕ
 ahead_of None dts = None
 ahead_of (Some greatest) dts = if nat_lt (greatest + 900_000) dts then Some (dts - greatest) else None
@@ -111,7 +112,7 @@ fed_by due o s w = fed_with due o s.number s.before w
 abbrev pub made_by : FedStreamView → FindingView → Option CarriedUnit
 made_by s f = made_whole s.units.split s.units.unit (role_of s.units.pid f)
 
--- the unit under way after it
+-- the open unit after the finding
 abbrev pub unit_after : FedStreamView → FindingView → Option CarriedUnit
 unit_after s f = (after_finding s.units f).unit
 
@@ -123,7 +124,7 @@ same_by s f = is_same_after (made_by s f) (unit_after s f)
 abbrev pub whole_by : FedStreamView → FindingView → Option CarriedUnit
 whole_by s f = set_apart (same_by s f) s.place (made_by s f)
 
--- how many of its row are before the unit under way after it
+-- how many units of its row are before the open unit after the finding
 abbrev pub place_by : FedStreamView → FindingView → ℕ
 place_by s f = place_past (same_by s f) s.place (made_by s f)
 
@@ -133,7 +134,7 @@ lost_by packet (BreaksCounter expected found) = Some (record { packet = packet; 
 lost_by packet _ = None
 
 -- what it is, where it is neither lost packets nor ignored among units: padding_stream (stream_id 0xBE), a packet that comes twice
--- and stray payload are
+-- and payload in no PES packet are
 unfoldable pub cause_of : WhatView → Option CutCause
 cause_of IsDuplicate = None
 cause_of (BreaksCounter expected found) = None
@@ -151,18 +152,34 @@ unfoldable pub cut_at : ℕ → Option CutCause → Option CutUnits
 cut_at packet None = None
 cut_at packet (Some cause) = Some (record { packet = packet; cause = cause })
 
--- it cuts units that follow one another where none is under way after it, with the packet of its first byte
+-- a finding cuts units that follow one another if no unit is open after it; the cut has the packet of its first byte
 abbrev pub cut_by : Bool → FindingView → Option CutUnits
 cut_by cuts f = if cuts then cut_at (first_packet f.packet f.begun) (cause_of f.what) else None
 
-unfoldable pub fault_by : Option Loss → Option CutUnits → Option FeedFault
-fault_by (Some loss) cut = Some (Lost loss)
-fault_by None (Some cut) = Some (Cut cut)
-fault_by None None = None
+-- the packet whose payload is in no PES packet, if it is the first of a run of such packets
+unfoldable pub stray_by : Bool → ℕ → WhatView → Option ℕ
+stray_by first packet (IsStray size) = if first then Some packet else None
+stray_by first packet _ = None
 
--- what is told of it: lost packets in any case
+-- a run of such packets lasts until the next PES packet
+unfoldable pub stray_after : Bool → WhatView → Bool
+stray_after stray (IsStray size) = true
+stray_after stray (IsPes header unended body) = false
+stray_after stray _ = stray
+
+unfoldable pub fault_by : Option Loss → Option CutUnits → Option ℕ → Option FeedFault
+fault_by (Some loss) cut stray = Some (Lost loss)
+fault_by None (Some cut) stray = Some (Cut cut)
+fault_by None None (Some packet) = Some (Stray packet)
+fault_by None None None = None
+
+-- the first packet of a run whose payload is in no PES packet, where units follow one another: it cuts none
+abbrev pub stray_of : FedStreamView → FindingView → Option ℕ
+stray_of s f = stray_by (s.follow && not s.stray) f.packet f.what
+
+-- what is reported of it: lost packets in any case
 abbrev pub told_by : FedStreamView → FindingView → Option FeedFault
-told_by s f = fault_by (lost_by f.packet f.what) (cut_by (s.follow && not (is_some (unit_after s f))) f)
+told_by s f = fault_by (lost_by f.packet f.what) (cut_by (s.follow && not (is_some (unit_after s f))) f) (stray_of s f)
 
 unfoldable pub told_of : ℕ → Option FeedFault → Option Fed
 told_of number None = None
@@ -176,7 +193,7 @@ abbrev pub follow_after : FedStreamView → FindingView → Bool
 follow_after s f = is_some (unit_after s f) || (s.follow && not (is_some (told_by s f)))
 
 abbrev pub after_found : FedStreamView → FindingView → FedStreamView
-after_found s f = record s { units = after_finding s.units f; follow = follow_after s f; place = place_by s f }
+after_found s f = record s { units = after_finding s.units f; follow = follow_after s f; stray = stray_after s.stray f.what; place = place_by s f }
 
 -- all streams, with the moment at which the first unit is due, the constants, what the clock showed last, in units of 90 kHz, once it has
 -- come, the last tick, 0 before the first, the marks that are asked for, the programs' maps, and the stamp of the last unit, if it fell where no clock is known
@@ -261,7 +278,7 @@ after_unit feed f = after_place feed f (place_from f.pid 0 feed.streams)
 abbrev pub fed_unit : FeedView → FindingView → List Fed
 fed_unit feed f = fed_place feed f (place_from f.pid 0 feed.streams)
 
--- a map that changes is told before it; it is of no stream, so a number stands there that says nothing
+-- the fault of a map that changes, before the finding; 255 says that it belongs to no stream
 unfoldable pub map_fed : Option NewMap → Option Fed
 map_fed None = None
 map_fed (Some change) = Some (255, Err (Map change))
@@ -281,7 +298,7 @@ watched feed f =
 
 -- 4. A restart
 
--- a unit of which the fault is a fall is fed
+-- the fed unit has the fault of a fall
 unfoldable pub falls : Fed → Bool
 falls (n, Ok u) = false
 falls (n, Err fault) = is_fall fault
@@ -290,7 +307,7 @@ unfoldable pub is_fallen : Option Fed → Bool
 is_fallen None = false
 is_fallen (Some fed) = falls fed
 
--- what a unit that is whole is, by the packet in which it begins and its DTS on the wire: where a clock is known none falls
+-- how the feed sees a whole unit, by its first packet and its DTS on the wire: if a clock is known, no unit falls
 unfoldable pub seen_of : Option ℕ → Option (ℕ × ℕ) → Option Fed → Seen
 seen_of shown None fed = NoUnit
 seen_of shown (Some (packet, stamp)) fed = if is_none shown && is_fallen fed then Falls packet stamp else Good
@@ -322,7 +339,7 @@ restarted feed seen = record {
   fallen = fallen_after feed.fallen seen;
 }
 
--- a restart is told after the unit that shows it; it is of all streams, so a number stands there that says nothing
+-- the report of a restart, after the unit that shows it; 255 says that it concerns all streams
 unfoldable pub restart_fed : Option Restart → Option Fed
 restart_fed None = None
 restart_fed (Some restart) = Some (255, Err (Restarted restart))
@@ -337,7 +354,7 @@ after_one feed f = after_found_in (watched feed f) f
 abbrev pub fed_found : FeedView → FindingView → List Fed
 fed_found feed f = fed_unit feed f ++ option_to_list (restart_fed (restart_in (after_unit feed f) (seen_in feed f)))
 
--- what is found on no PID: a packet that is none, one with transport_error_indicator, or bytes at the end of a stream
+-- a finding on no PID: a packet that cannot be read, a packet with transport_error_indicator, or bytes at the end of a stream
 unfoldable pub packet_fault_of : ℕ → WhatView → Option PacketFault
 packet_fault_of packet (IsBadPacket error) = Some (Bad packet)
 packet_fault_of packet IsErrored = Some (Errored packet)

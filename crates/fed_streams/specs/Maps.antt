@@ -4,9 +4,9 @@
 use Rattle.std.specs.Prelude.{ℕ, ◌+◌, ◌==◌, ◌&&◌, Bool, false, if◌then◌else◌, Option, Some, None, is_some, option_map, List, [], ◌∷◌, slice_get, slice_set}
 use Rattle.std.specs.List.{list_any}
 use Rattle.psi_tables.specs.ProgramMap.{PmtView, StreamView}
-use Rattle.demux.specs.Views.{FindingView}
-use Rattle.demux.specs.declared.finding.Kind.{Kind}
-use Rattle.demux.specs.declared.finding.Kind.TheVariants as kinds
+use Rattle.pid_findings.specs.Views.{FindingView}
+use Rattle.pid_findings.specs.declared.finding.Kind.{Kind}
+use Rattle.pid_findings.specs.declared.finding.Kind.TheVariants as kinds
 use Rattle.program_tables.specs.ProgramMaps.{program_map}
 use Rattle.fed_streams.specs.declared.fed_map.CurrentMap.{CurrentMap}
 use Rattle.fed_streams.specs.declared.fed_map.NamedStream.{NamedStream}
@@ -21,11 +21,11 @@ pub record MapView : Type 0 where
   pub current : Option CurrentMap
   pub named : List NamedStream
 
--- what is kept of a program map table that is in force
+-- the parts that are kept from the program map table in force
 abbrev pub current_of : PmtView → CurrentMap
 current_of pmt = record { version = pmt.header.version_number; pcr_pid = pmt.pcr_pid }
 
--- a section begins as one of a program map table: its table_id is 2
+-- a section of a program map table begins: its table_id is 2
 unfoldable pub is_map : Option (ℕ × Kind) → Bool
 is_map None = false
 is_map (Some (packet, kinds.Table id)) = id == 2
@@ -59,7 +59,7 @@ map_change m packet (Some current) = change_from m.program_number packet current
 
 -- 2. The first map that a finding has
 
--- its number; the first of these has number k
+-- the number of the map of a finding; the first of these maps has number k
 unfoldable pub map_from : FindingView → ℕ → List MapView → Option ℕ
 map_from f k [] = None
 map_from f k (m ∷ ms) = if is_some (current_found m.program_number f) then Some k else map_from f (k + 1) ms
@@ -98,12 +98,12 @@ unfoldable pub clock_pid : List MapView → Option ℕ
 clock_pid [] = None
 clock_pid (m ∷ ms) = pcr_pid_of m.current
 
--- 4. The streams that a description has of a program, beside those that its first map names, by PID and stream_type
+-- 4. The streams that a description has of a program, other than the streams that its first map names, by PID and stream_type
 
 unfoldable pub is_named : List StreamView → NamedStream → Bool
 is_named streams n = list_any (λ s. s.stream_type == n.stream_type && s.elementary_pid == n.pid) streams
 
--- the first one that the map does not name
+-- the first stream that the map does not name
 unfoldable pub first_other : List StreamView → List NamedStream → Option NamedStream
 first_other streams [] = None
 first_other streams (n ∷ ns) = if is_named streams n then first_other streams ns else Some n

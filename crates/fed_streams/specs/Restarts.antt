@@ -7,7 +7,7 @@ use Rattle.es_moments.specs.declared.stamps.StampFault.{StampFault}
 use Rattle.es_moments.specs.declared.stamps.StampFault.TheVariants.{DtsNotIncreasing, PtsOutOfRange, DtsTooFar}
 use Rattle.fed_streams.specs.Origins.{origin_jumped}
 use Rattle.fed_streams.specs.declared.feed_fault.FeedFault.{FeedFault}
-use Rattle.fed_streams.specs.declared.feed_fault.FeedFault.TheVariants.{Stamp, Ahead, Lost, Cut, Map, Clock, Other, Packet, Restarted, Silent, Slipped}
+use Rattle.fed_streams.specs.declared.feed_fault.FeedFault.TheVariants.{Stamp, Ahead, Lost, Cut, Stray, Map, Clock, Other, Packet, Restarted, Silent, Slipped}
 use Rattle.fed_streams.specs.declared.feed_fault.Restart.{Restart}
 use Rattle.fed_streams.specs.declared.origin.Origin.{Origin}
 use Rattle.fed_streams.specs.declared.restart.Seen.{Seen}
@@ -15,7 +15,7 @@ use Rattle.fed_streams.specs.declared.restart.Seen.TheVariants.{NoUnit, Good, Fa
 
 -- 1. A unit that falls
 
--- its DTS is over a second before that of the unit before it
+-- its DTS is over a second before the DTS of the unit before it
 unfoldable pub is_stamp_fall : StampFault → Bool
 is_stamp_fall (DtsNotIncreasing by) = nat_lt 90_000 by
 is_stamp_fall (PtsOutOfRange after limit) = false
@@ -26,6 +26,7 @@ is_fall (Stamp fault) = is_stamp_fall fault
 is_fall (Ahead by) = false
 is_fall (Lost loss) = false
 is_fall (Cut cut) = false
+is_fall (Stray packet) = false
 is_fall (Map change) = false
 is_fall (Clock jump) = false
 is_fall (Other other) = false

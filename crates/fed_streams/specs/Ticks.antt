@@ -1,14 +1,13 @@
--- What a clock reference of the input does to the feed. It moves time on where the streams are silent: a second behind the clock a tick is fed, a
--- record of stream 255 without bytes, after which no unit comes that is due before it. A unit under way whose DTS the clock has passed by a
--- second (less 63 units of 90 kHz: the next one may set it apart by so much) is whole, since at its DTS all of it is in the decoder's buffer
--- (ISO/IEC 13818-1, 2.4.2.6). And where the clock jumps, it is taken to
--- come 0.3 s after the greatest DTS so far, so that units which begin after it, and are due after it, go on from there, and no stream's
--- first one comes sooner after its last one than usual.
+-- The effect of a clock reference of the input on the feed. It moves time on where the streams are silent: a second behind the clock a tick is fed, a
+-- record of stream 255 without bytes, after which no unit comes that is due before it. An open unit whose DTS the clock has passed by a second (less 63
+-- units of 90 kHz: the next unit may set it apart by so much) is whole, since at its DTS all its bytes are in the decoder's buffer (ISO/IEC 13818-1,
+-- 2.4.2.6). A clock that jumps is taken to come 0.3 s after the greatest DTS so far: units which begin after the jump, and are due after it, continue
+-- from there, and no stream's first unit comes sooner after its last unit than usual.
 use Rattle.std.specs.Prelude.{◌≡◌, ◌<◌, ℕ, ◌+◌, ◌-◌, ◌++◌, ◌^◌, ◌&&◌, nat_le, nat_lt, Bool, true, false, if◌then◌else◌, Option, Some, None, IfSome, Ok, Err}
 use Rattle.std.specs.Prelude.{List, [], ◌∷◌, All, slice_get}
 use Rattle.std.specs.Option.{option_to_list}
 use Rattle.demux.specs.Stream.{StreamState, found_in, taken}
-use Rattle.demux.specs.Views.{FindingView}
+use Rattle.pid_findings.specs.Views.{FindingView}
 use Rattle.es_units.specs.ApartSteps.{place_past}
 use Rattle.es_moments.specs.Stamps.{distance, dts_at}
 use Rattle.es_units.specs.UnitSteps.{ended_unit}
@@ -38,9 +37,9 @@ unfoldable pub late_of : Option ℕ → ℕ → ℕ → Option ℕ
 late_of None greatest shown = None
 late_of (Some base) greatest shown = late_by greatest (distance (base + greatest) shown)
 
--- 2. Units under way
+-- 2. Open units
 
--- when the unit under way is due, once its constant is fixed
+-- when the open unit is due, once its constant is fixed
 unfoldable pub due_at : Option ℕ → Option ℕ → ℕ → Option ℕ
 due_at None before dts = None
 due_at (Some base) before dts = Some (dts_at base before dts)
@@ -56,16 +55,16 @@ unfoldable pub is_passed_by : ℕ → Option ℕ → Bool
 is_passed_by late None = false
 is_passed_by late (Some due) = nat_le (due - 63) late
 
--- it is due by this moment, or would be, if it were set apart from the next one in a row
+-- the open unit is due by this moment, or would be if it were set apart from the next unit in a row
 abbrev pub is_passed : Origin → ℕ → FedStreamView → Bool
 is_passed o late s = is_passed_by late (under_way o s)
 
--- the first stream of which it is; the first of these has number k
+-- the number of the first stream that the clock has passed; the first stream of the list has number k
 unfoldable pub passed_from : Origin → ℕ → ℕ → List FedStreamView → Option ℕ
 passed_from o late k [] = None
 passed_from o late k (s ∷ ss) = if is_passed o late s then Some k else passed_from o late (k + 1) ss
 
--- without it: which unit comes next is not known when it ends, so it is of no row with that
+-- the stream without its open unit: the next unit is not known when it ends, so both are in no row
 abbrev pub without_unit : FedStreamView → FedStreamView
 without_unit s = record s {
   units = record { pid = s.units.pid; split = s.units.split; unit = None };
@@ -86,7 +85,7 @@ after_end feed k = after_end_at feed k (slice_get feed.streams k)
 abbrev pub fed_end : FeedView → ℕ → List Fed
 fed_end feed k = fed_end_at feed (slice_get feed.streams k)
 
--- 3. A tick, where no unit under way is due by it; none of a moment that no unit may have
+-- 3. A tick, if no open unit is due by it; none at a moment that no unit may have
 
 abbrev pub is_tick : ℕ → ℕ → Bool
 is_tick greatest late = nat_lt greatest late && nat_le late (2 ^ 52)
@@ -119,7 +118,7 @@ last_unit feed = greatest_from 0 feed.streams
 abbrev pub is_silence : FeedView → ℕ → Bool
 is_silence feed late = nat_le feed.ticked (last_unit feed + 900_000) && nat_lt (last_unit feed + 900_000) late
 
--- it is told before that tick; it is of no stream, so a number stands there that says nothing
+-- the report of a silence, before that tick; 255 says that it belongs to no stream
 abbrev pub silence : FeedView → ℕ → List Fed
 silence feed late = if is_silence feed late then (255, Err (Silent (last_unit feed))) ∷ [] else []
 
@@ -134,7 +133,7 @@ unfoldable pub fed_passed : FeedView → ℕ → Option ℕ → List Fed
 fed_passed feed late None = fed_tick feed late
 fed_passed feed late (Some k) = fed_end feed k
 
--- time goes on to this moment
+-- the feed after time has moved to this moment
 abbrev pub after_moment : FeedView → ℕ → FeedView
 after_moment feed late = after_passed feed late (passed_from feed.origin late 0 feed.streams)
 
@@ -154,7 +153,7 @@ late_in feed shown = late_of feed.origin.now (greatest_of feed) shown
 
 -- 4. A clock reference of the clock
 
--- how long after the greatest DTS so far a clock that jumps goes on
+-- how long after the greatest DTS so far a clock that jumps continues, in units of 90 kHz: 0.3 s
 abbrev pub jump_pause : ℕ
 jump_pause = 27_000
 
@@ -175,7 +174,7 @@ with_shown feed pcr =
       fallen = feed.fallen;
     }
 
--- a jump is told before what it does; it is of no stream, so a number stands there that says nothing
+-- the report of a jump, before its effect; 255 says that it belongs to no stream
 unfoldable pub jump_fed : Option ClockJump → Option Fed
 jump_fed None = None
 jump_fed (Some jump) = Some (255, Err (Clock jump))
@@ -186,7 +185,7 @@ after_shown feed pcr = after_late (with_shown feed pcr) (late_in (with_shown fee
 abbrev pub fed_shown : FeedView → FoundPcr → List Fed
 fed_shown feed pcr = option_to_list (jump_fed (jump_of feed.shown pcr)) ++ fed_late (with_shown feed pcr) (late_in (with_shown feed pcr) pcr.base)
 
--- one of another PID does nothing
+-- a reference on another PID has no effect
 abbrev pub after_own : FeedView → FoundPcr → FeedView
 after_own feed pcr = if is_on pcr.pid (clock_pid feed.maps) then after_shown feed pcr else feed
 
@@ -201,7 +200,7 @@ unfoldable pub fed_pcr : FeedView → Option FoundPcr → List Fed
 fed_pcr feed None = []
 fed_pcr feed (Some pcr) = fed_own feed pcr
 
--- 5. Packets one after another: of each what is found in it, with the marks that are asked for, and then its clock reference
+-- 5. Packets one after another: the findings in each packet, with the marks that are asked for, and then its clock reference
 
 abbrev pub after_packet : FeedView → List FindingView → Option FoundPcr → FeedView
 after_packet feed found pcr = after_pcr (after_all feed (all_marked feed.marking found)) pcr
@@ -219,14 +218,14 @@ fed_packets s feed (packet ∷ packets) =
     fed_packet feed (found_in s packet) (pcr_at s.packets packet)
     ++ fed_packets (taken s packet) (after_packet feed (found_in s packet) (pcr_at s.packets packet)) packets
 
--- 6. What is said of ticks
+-- 6. A statement about ticks
 
--- of a stream each unit that was fed was due before a moment, and the unit under way is due after it, also if it is set apart
+-- each unit of a stream that was fed was due before a moment, and its open unit is due after it, even if it is set apart
 pub record IsPast (o : Origin) (moment : ℕ) (s : FedStreamView) : Type 0 where
   pub fed : IfSome s.before (λ dts. dts < moment)
   pub later : IfSome (under_way o s) (λ due. moment + 63 < due)
 
--- so it is of all streams where a tick is fed
+-- this is true of all streams when a tick is fed
 abbrev pub TicksArePast : Type 0
 TicksArePast = (feed : FeedView) (late : ℕ) → passed_from feed.origin late 0 feed.streams ≡ None → is_tick (greatest_of feed) late ≡ true →
     All (IsPast feed.origin late) feed.streams

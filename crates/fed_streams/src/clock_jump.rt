@@ -7,7 +7,7 @@ use crate::feed_fault::ClockJump;
 use es_moments::distance;
 use packet_pcr::FoundPcr;
 
-/// The furthest that a clock goes on from one reference to the next, in units of 90 kHz: 10 s.
+/// The longest step of a clock from one reference to the next, in units of 90 kHz: 10 s.
 const MAX_STEP: u64 = 900_000;
 
 /// Returns whether the clock jumps to a reference from what it showed before.
@@ -21,7 +21,7 @@ pub fn is_jump(pcr: FoundPcr, before: Option<u64>) -> bool
     }
 }
 
-/// Returns what is told of a reference after what the clock showed before.
+/// Returns the report on a reference after what the clock showed before, if it jumps.
 #[tactic(auto, unfolding(crate::specs::Clocks::jump_of))]
 pub fn jump(pcr: FoundPcr, before: Option<u64>) -> Option<ClockJump>
     ensures { result ≡ spec.jump_of before pcr }

@@ -2,11 +2,11 @@
 
 ghost use Rattle.std.specs.Prelude.{◌≡◌, ◌<◌, IfSome, Some, is_some, length, option_map, slice_get, slice_set};
 ghost use Rattle.psi_tables.specs.ProgramMap.{pmt_view, streams_of};
-ghost use Rattle.demux.specs.Shown.{finding_view};
+ghost use Rattle.pid_findings.specs.Shown.{finding_view};
 ghost use Rattle.fed_streams.specs.Maps as spec;
 
 use crate::feed_fault::{NewMap, OtherStream};
-use demux::{Finding, Kind};
+use pid_findings::{Finding, Kind};
 use program_tables::last_program_map;
 use psi_tables::{Pmt, Program, Streams};
 use std::marker::Model;
@@ -48,7 +48,7 @@ impl Model for FedMap {
     ghost view = { λ m. record { program_number = m.program_number; current = m.current; named = m.named.items } };
 }
 
-// Whether a section begins as one of a program map table.
+// Returns whether a section begins like a program map section.
 #[tactic(auto, unfolding(crate::specs::Maps::is_map))]
 fn is_map(begun: Option<(u64, Kind)>) -> bool
     ensures { result ≡ spec.is_map begun }
@@ -85,7 +85,7 @@ fn map_found<'f>(program_number: u16, finding: &'f Finding<'_>) -> Option<Pmt<'f
     map_on(program_number, finding)
 }
 
-// What is kept of the map of a program that a finding has.
+// Returns version and PCR_PID of the map of a program that a finding has.
 #[tactic(auto, unfolding(crate::specs::Maps::current_found))]
 fn current_found(program_number: u16, finding: &Finding<'_>) -> Option<CurrentMap>
     ensures { result ≡ spec.current_found program_number (finding_view finding.now) }
@@ -124,7 +124,7 @@ fn first_other(streams: Streams<'_>, named: &[NamedStream]) -> Option<NamedStrea
     None
 }
 
-// What is told of it.
+// Returns the report on such a stream.
 #[tactic(auto, unfolding(crate::specs::Maps::other_of))]
 fn other_of(program: u16, packet: u64, named: Option<NamedStream>) -> Option<OtherStream>
     ensures { result ≡ spec.other_of program packet named }

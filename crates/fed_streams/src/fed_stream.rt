@@ -3,7 +3,7 @@
 ghost use Rattle.std.specs.Prelude.{◌≡◌, ◌≤◌, ◌<◌, ◌^◌, ◌&&◌, ◌||◌, not, IfOk, IfSome, OnOk, None, false, is_some};
 ghost use Rattle.std.specs.Prelude.{true};
 ghost use Rattle.demux.specs.Laws.{has_pid};
-ghost use Rattle.demux.specs.Shown.{finding_view};
+ghost use Rattle.pid_findings.specs.Shown.{finding_view};
 ghost use Rattle.es_units.specs.ApartSteps as apart;
 ghost use Rattle.es_units.specs.CarriedUnits as units;
 ghost use Rattle.es_units.specs.UnitSteps.{ended_unit, none_so_far, start_of};
@@ -15,10 +15,10 @@ use crate::due::Due;
 use crate::feed_fault::{CutCause, CutUnits, FeedFault, Loss};
 use crate::moments::feed;
 use crate::origin::Origin;
-use demux::{Finding, Kind, What};
 use es_moments::{WireUnit, dts_at};
 use es_units::{UnitTaker, place_past, set_apart};
 use pes_packet::Unit;
+use pid_findings::{Finding, Kind, What};
 use std::alloc::{AllocError, Global};
 use std::marker::Model;
 
@@ -31,6 +31,7 @@ pub struct FedStream {
     before: Option<u64>,
     taker: UnitTaker,
     follow: bool,
+    stray: bool,
     place: u8,
 }
 
@@ -45,19 +46,19 @@ pub struct FedFound {
     pub told: Option<(u8, Result<Unit, FeedFault>)>,
 }
 
-// A contract sees what is kept of the stream; the PID is that of its units.
+// A contract sees the stream's state; its PID is the PID of its units.
 impl Model for FedStream {
     ghost use Rattle.std.specs.Prelude.{◌≡◌, ◌≤◌, ◌^◌, IfSome};
     ghost use Rattle.fed_streams.specs.Feeding.{FedStreamView};
 
     ghost Value = { FedStreamView };
 
-    ghost view = { λ s. record { number = s.number; before = s.before; units = s.taker; follow = s.follow; place = s.place } };
+    ghost view = { λ s. record { number = s.number; before = s.before; units = s.taker; follow = s.follow; stray = s.stray; place = s.place } };
 
     ghost invariant = { λ s. (s.taker.pid ≡ s.pid) × IfSome s.before (λ dts. dts ≤ 2 ^ 52) × (s.place ≤ 63) };
 }
 
-// The loss that a finding tells of, if it tells of one.
+// Returns the loss of packets before a finding, if there is one.
 #[tactic(auto, unfolding(crate::specs::Feeding::lost_by))]
 fn loss_of(finding: &Finding<'_>) -> Option<Loss>
     ensures { result ≡ spec.lost_by (finding_view finding.now).packet (finding_view finding.now).what }
@@ -124,17 +125,49 @@ fn cut_of(cuts: bool, finding: &Finding<'_>) -> Option<CutUnits>
     }
 }
 
-// What a finding tells of, if it may cut units or not.
+// Returns the packet of a finding, if its payload is in no PES packet and this is the first of such packets.
+#[tactic(auto, unfolding(crate::specs::Feeding::stray_by))]
+fn stray_of(first: bool, finding: &Finding<'_>) -> Option<u64>
+    ensures { result ≡ spec.stray_by first (finding_view finding.now).packet (finding_view finding.now).what }
+{
+    match &finding.what {
+        What::Stray(_) => {
+            if first {
+                return Some(finding.packet);
+            }
+            None
+        }
+        _ => None,
+    }
+}
+
+// Returns whether payload in no PES packet has come after the last PES packet.
+#[tactic(auto, unfolding(crate::specs::Feeding::stray_after))]
+fn stray_after(stray: bool, finding: &Finding<'_>) -> bool
+    ensures { result ≡ spec.stray_after stray (finding_view finding.now).what }
+{
+    match &finding.what {
+        What::Stray(_) => true,
+        What::Pes { .. } => false,
+        _ => stray,
+    }
+}
+
+// Returns the report on a finding that may cut units or not, and may be the first stray payload or not.
 #[tactic(auto, unfolding(crate::specs::Feeding::fault_by))]
-fn fault_of(cuts: bool, finding: &Finding<'_>) -> Option<FeedFault>
+fn fault_of(cuts: bool, first: bool, finding: &Finding<'_>) -> Option<FeedFault>
     ensures { result ≡ spec.fault_by (spec.lost_by (finding_view finding.now).packet (finding_view finding.now).what)
-        (spec.cut_by cuts (finding_view finding.now)) }
+        (spec.cut_by cuts (finding_view finding.now))
+        (spec.stray_by first (finding_view finding.now).packet (finding_view finding.now).what) }
 {
     match loss_of(finding) {
         Some(loss) => Some(FeedFault::Lost(loss)),
         None => match cut_of(cuts, finding) {
             Some(cut) => Some(FeedFault::Cut(cut)),
-            None => None,
+            None => match stray_of(first, finding) {
+                Some(packet) => Some(FeedFault::Stray(packet)),
+                None => None,
+            },
         },
     }
 }
@@ -150,7 +183,7 @@ fn start_of(whole: &Option<WireUnit>) -> Option<(u64, u64)>
     }
 }
 
-// What is told of the stream of a number.
+// Returns the report on the stream with a number.
 #[tactic(auto, unfolding(crate::specs::Feeding::told_of))]
 fn told_of(number: u8, fault: Option<FeedFault>) -> Option<(u8, Result<Unit, FeedFault>)>
     ensures { result ≡ spec.told_of number fault }
@@ -165,7 +198,7 @@ impl FedStream {
     /// Returns a stream of a PID before its first unit, with its number in the description. Of a unit after which
     /// something is lost a part may be, so it is left out.
     pub fn new(number: u8, pid: u16) -> FedStream
-        ensures { result ≡ record { number = number; before = None; units = none_so_far pid true; follow = false; place = 0 } }
+        ensures { result ≡ record { number = number; before = None; units = none_so_far pid true; follow = false; stray = false; place = 0 } }
     {
         FedStream {
             number,
@@ -173,6 +206,7 @@ impl FedStream {
             before: None,
             taker: UnitTaker::new(pid, true),
             follow: false,
+            stray: false,
             place: 0,
         }
     }
@@ -195,7 +229,7 @@ impl FedStream {
         }
     }
 
-    // Whether a unit is under way.
+    // Returns whether a unit is unfinished.
     #[tactic(auto, unfolding(es_units::specs::UnitSteps::start_of))]
     fn is_under_way(&self) -> bool
         ensures { result ≡ is_some self.now.units.unit }
@@ -203,18 +237,22 @@ impl FedStream {
         self.taker.under_way().is_some()
     }
 
-    // A finding was taken: what is told of it, and whether units follow one another after it.
+    // Returns the report on a finding that was taken, and keeps whether units follow one another after it.
     fn tell(&mut self, finding: &Finding<'_>) -> Option<FeedFault>
         ensures told { result ≡ spec.fault_by (spec.lost_by (finding_view finding.now).packet (finding_view finding.now).what)
-            (spec.cut_by (self.old.follow && not (is_some self.old.units.unit)) (finding_view finding.now)) }
+            (spec.cut_by (self.old.follow && not (is_some self.old.units.unit)) (finding_view finding.now))
+            (spec.stray_of self.old (finding_view finding.now)) }
         ensures follow { self.new ≡ record self.old {
           follow
               = is_some self.old.units.unit || (self.old.follow && not (is_some result));
+          stray = spec.stray_after self.old.stray (finding_view finding.now).what;
         } }
     {
         let is_under_way = self.is_under_way();
-        let fault = fault_of(self.follow && !is_under_way, finding);
+        let first = self.follow && !self.stray;
+        let fault = fault_of(self.follow && !is_under_way, first, finding);
         self.follow = is_under_way || (self.follow && fault.is_none());
+        self.stray = stray_after(self.stray, finding);
         fault
     }
 
@@ -232,8 +270,8 @@ impl FedStream {
         set_apart(same, place, made)
     }
 
-    /// Takes a finding, and gives the unit that it makes whole at its moment, or why it can't have one; and what is
-    /// told of it.
+    /// Takes a finding, and returns the unit that it makes whole at its moment, or why the unit can't have one; and the
+    /// report on the finding.
     pub fn take(
         &mut self,
         alloc: &Global,
@@ -277,7 +315,7 @@ impl FedStream {
         }
     }
 
-    // When the unit under way is due, once its constant is fixed.
+    // Returns when the unfinished unit is due, once its constant is fixed.
     #[tactic(auto, unfolding(crate::specs::Ticks::under_way_at, crate::specs::Ticks::due_at, es_units::specs::UnitSteps::start_of))]
     fn under_way(&self, origin: Origin) -> Option<u64>
         requires { IsOrigin origin }
@@ -292,7 +330,7 @@ impl FedStream {
         }
     }
 
-    /// Returns whether its unit under way is due by a moment, or would be, if it were set apart from the next one.
+    /// Returns whether its unfinished unit is due by a moment, or would be if it were set apart from the next unit.
     #[tactic(auto, unfolding(crate::specs::Ticks::is_passed_by))]
     pub fn is_passed(&self, origin: Origin, late: u64) -> bool
         requires { IsOrigin origin }

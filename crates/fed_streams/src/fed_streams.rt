@@ -2,7 +2,7 @@
 
 ghost use Rattle.std.specs.Prelude.{◌≡◌, ◌<◌, ◌≤◌, ◌^◌, IfOk, IfSome, OnOk, Some, false, length, map, slice_get};
 ghost use Rattle.std.specs.Prelude.{slice_set};
-ghost use Rattle.demux.specs.Shown.{finding_view};
+ghost use Rattle.pid_findings.specs.Shown.{finding_view};
 ghost use Rattle.es_units.specs.UnitSteps.{ended_unit, start_of};
 ghost use Rattle.fed_streams.specs.Feeding as spec;
 ghost use Rattle.fed_streams.specs.Origins.{IsOrigin};
@@ -12,8 +12,8 @@ use crate::due::Due;
 use crate::fed_stream::{FedFound, FedStream};
 use crate::feed_fault::FeedFault;
 use crate::origin::Origin;
-use demux::Finding;
 use pes_packet::Unit;
+use pid_findings::Finding;
 use std::alloc::{AllocError, Global};
 
 /// Returns the first stream of a PID.
@@ -49,7 +49,7 @@ pub fn greatest_of(ticked: u64, streams: &[FedStream]) -> u64
     greatest
 }
 
-/// Returns the first stream whose unit under way is due by a moment.
+/// Returns the first stream whose unfinished unit is due by a moment.
 pub fn passed_place(origin: Origin, late: u64, streams: &[FedStream]) -> Option<usize>
     requires { IsOrigin origin }
     ensures value { result ≡ ticks.passed_from origin late 0 streams.now }
@@ -92,7 +92,7 @@ pub fn take_at(
     stream.take(alloc, due, origin, finding)
 }
 
-/// Has the unit under way of the stream at a place end.
+/// Ends the unfinished unit of the stream at a place.
 pub fn end_at(
     streams: &mut Vec<FedStream>,
     k: usize,

@@ -20,11 +20,11 @@ pub enum CutCause {
     Scrambled,
     /// A PES packet or a section that is cut short.
     Truncated,
-    /// A section, or what is none where one should stand.
+    /// A section, or bytes in its place that are no section.
     Section,
     /// A PES packet whose header is refused.
     BadPes,
-    /// A PES packet without a PTS that goes on with no unit under way: that is of another stream_id, or has ended.
+    /// A PES packet without a PTS that continues no unit: the unit has another stream_id, or has ended.
     NoPts,
 }
 
@@ -82,7 +82,7 @@ pub enum PacketFault {
     Bad(u64),
     /// A packet of this index has transport_error_indicator.
     Errored(u64),
-    /// So many bytes are left at the end of the stream.
+    /// This number of bytes is left at the end of the stream.
     Rest(usize),
 }
 
@@ -117,6 +117,8 @@ pub enum FeedFault {
     Lost(Loss),
     /// Its units are cut by something else than lost packets.
     Cut(CutUnits),
+    /// The payload of this packet, the first of some, is in no PES packet.
+    Stray(u64),
     /// A program's map changes.
     Map(NewMap),
     /// The clock jumps.

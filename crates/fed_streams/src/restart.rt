@@ -49,7 +49,7 @@ fn falls(fed: &(u8, Result<Unit, FeedFault>)) -> bool
     }
 }
 
-// Whether what is fed is the fault of a unit that falls.
+// Returns whether a unit is reported because its stamp falls.
 #[tactic(auto, unfolding(crate::specs::Feeding::is_fallen))]
 fn is_fallen(fed: &Option<(u8, Result<Unit, FeedFault>)>) -> bool
     ensures { result ≡ feeding.is_fallen fed.now }
@@ -60,7 +60,7 @@ fn is_fallen(fed: &Option<(u8, Result<Unit, FeedFault>)>) -> bool
     }
 }
 
-/// Returns what a unit is that is whole: where it begins, its DTS as its header has it, and what is fed.
+/// Returns how a whole unit fits the clock, by its first packet, the DTS of its header, and its feed.
 #[tactic(auto, unfolding(crate::specs::Feeding::seen_of))]
 pub fn seen_of(
     shown: Option<u64>,
@@ -81,7 +81,7 @@ pub fn seen_of(
     }
 }
 
-// Whether the stamp of a unit that falls is near that of the one before.
+// Returns whether the stamp of a unit that falls is near the stamp of the unit before.
 #[tactic(auto, unfolding(crate::specs::Restarts::is_again))]
 fn is_again(fallen: Option<u64>, stamp: u64) -> bool
     ensures { result ≡ spec.is_again fallen stamp }

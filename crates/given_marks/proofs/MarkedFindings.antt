@@ -4,8 +4,8 @@ use Rattle.std.proofs.Common.{set, get_or, refl, sym, ap, ap₂, arith}
 use Rattle.std.proofs.lemmas.Bool.{eqb-true}
 use Rattle.std.proofs.lemmas.List.{append_assoc, append-nil, drop_all, drop_more, drop-set-lt, map-append, take_all, take_more_set}
 use Rattle.demux.specs.Laws.{found_of, has_pid}
-use Rattle.demux.specs.Views.{FindingView, WhatView, IsDuplicate, BreaksCounter, IsScrambled, IsTruncated, IsSection, IsBadSection, IsPes, IsBadPes}
-use Rattle.demux.specs.Views.{IsBadPacket, IsErrored, IsStray}
+use Rattle.pid_findings.specs.Views.{FindingView, WhatView, IsDuplicate, BreaksCounter, IsScrambled, IsTruncated, IsSection, IsBadSection, IsPes, IsBadPes}
+use Rattle.pid_findings.specs.Views.{IsBadPacket, IsErrored, IsStray}
 use Rattle.given_marks.specs.Laws.{MarkedByThePid, NothingIsMarked}
 use Rattle.given_marks.specs.Marking.{MarkingView, all_marked, can_begin, is_aligned, is_begin, marked, no_marking, type_of, with_access, with_alignment}
 

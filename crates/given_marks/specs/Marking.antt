@@ -1,16 +1,16 @@
--- Marks that a user asks for, set on what is found in a stream before its units are taken: at which PES packets a decoder may begin, and
--- that PES packets are aligned. A mark that is there stays.
+-- Marks that a user asks for, set on the findings in a stream before its units are taken: the PES packets at which a decoder may begin, and whether PES
+-- packets are aligned. A mark that is there stays.
 use Rattle.std.specs.Prelude.{ℕ, ◌==◌, Bool, true, false, if◌then◌else◌, Option, Some, None, List, [], ◌∷◌, map}
 use Rattle.std.specs.List.{list_any}
 use Rattle.pes_packet.specs.declared.marks.PesFlags.{PesFlags}
 use Rattle.pes_packet.specs.declared.reading.PesHeader.{PesHeader}
-use Rattle.demux.specs.declared.finding.Kind.{Kind}
-use Rattle.demux.specs.declared.finding.Kind.TheVariants.{Table, Pes}
-use Rattle.demux.specs.Views.{FindingView, WhatView, IsPes}
+use Rattle.pid_findings.specs.declared.finding.Kind.{Kind}
+use Rattle.pid_findings.specs.declared.finding.Kind.TheVariants.{Table, Pes}
+use Rattle.pid_findings.specs.Views.{FindingView, WhatView, IsPes}
 use Rattle.stream_coding.specs.AccessPoints.{is_access_point}
 use Rattle.given_marks.specs.declared.marking.TypedPid.{TypedPid}
 
--- what is asked for: the PIDs of which access points are marked, each with its stream_type, and the PIDs whose PES packets are aligned
+-- the marks that are asked for: the PIDs whose access points are marked, each with its stream_type, and the PIDs whose PES packets are aligned
 pub record MarkingView : Type 0 where
   pub access : List TypedPid
   pub aligned : List ℕ
@@ -29,7 +29,7 @@ unfoldable pub can_begin : Option ℕ → List ℕ → Bool
 can_begin None body = false
 can_begin (Some stream_type) body = is_access_point stream_type body
 
--- with a PES packet of a PID, by what it has after its header
+-- an access point begins with a PES packet of a PID, by the bytes after its header
 unfoldable pub is_begin : List TypedPid → Option ℕ → WhatView → Bool
 is_begin types (Some pid) (IsPes header unended body) = can_begin (type_of pid types) body
 is_begin types pid what = false

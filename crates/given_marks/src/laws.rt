@@ -7,7 +7,7 @@ pub fn nothing_is_marked()
     ensures { NothingIsMarked }
 {}
 
-/// States that the findings of a PID are marked by what is asked for of that PID alone.
+/// States that the findings of a PID are marked as asked for this PID alone.
 pub fn marked_by_the_pid()
     ensures { MarkedByThePid }
 {}

@@ -1,12 +1,12 @@
-//! What is asked for, and the findings that are marked by it.
+//! The marks that are asked for, set on findings.
 
 ghost use Rattle.std.specs.Prelude.{◌≡◌, ◌==◌, map};
 ghost use Rattle.std.specs.List.{list_any};
-ghost use Rattle.demux.specs.Shown.{finding_view, part_bytes, what_view};
+ghost use Rattle.pid_findings.specs.Shown.{finding_view, part_bytes, what_view};
 ghost use Rattle.given_marks.specs.Marking as spec;
 
-use demux::{Finding, Kind, What};
 use pes_packet::{PesFlags, PesHeader};
+use pid_findings::{Finding, Kind, What};
 use std::alloc::Global;
 use std::marker::Model;
 use std::mem;
@@ -22,7 +22,7 @@ pub struct TypedPid {
 /// The marks that are asked for.
 #[derive(Drop)]
 pub struct Marking {
-    /// The PIDs of which access points are marked, with their stream_types.
+    /// The PIDs whose access points are marked, with their stream_types.
     pub access: Vec<TypedPid>,
     /// The PIDs whose PES packets are aligned.
     pub aligned: Vec<u16>,
@@ -60,7 +60,7 @@ fn can_begin(stream_type: Option<u8>, body: &[u8]) -> bool
     }
 }
 
-// Whether a decoder may begin with what is found of a PID.
+// Returns whether a decoder may begin with a finding of a PID.
 #[tactic(auto, unfolding(crate::specs::Marking::is_begin))]
 fn is_begin(types: &[TypedPid], pid: Option<u16>, what: &What<'_>) -> bool
     ensures { result ≡ spec.is_begin types.now pid (what_view what.now) }
@@ -92,7 +92,7 @@ fn with_access(begun: Option<(u64, Kind)>) -> Option<(u64, Kind)>
     }
 }
 
-// Whether a PID is one of these.
+// Returns whether a PID is in a list.
 fn is_among(pids: &[u16], pid: u16) -> bool
     ensures { result ≡ list_any (λ p. p == pid) pids.now }
 {
@@ -135,7 +135,7 @@ fn aligned_header(header: PesHeader) -> PesHeader
     }
 }
 
-// What is found, with such a header if it is a PES packet.
+// Returns what a finding has, with such a header if it is a PES packet.
 #[tactic(auto, unfolding(crate::specs::Marking::with_alignment))]
 fn with_alignment<'a>(what: What<'a>) -> What<'a>
     ensures { what_view result ≡ spec.with_alignment (what_view what.entry) }
@@ -155,7 +155,7 @@ fn with_alignment<'a>(what: What<'a>) -> What<'a>
 }
 
 impl Marking {
-    /// Returns a marking by which nothing is marked.
+    /// Returns a marking that marks nothing.
     pub fn none(alloc: Global) -> Marking
         ensures { result ≡ spec.no_marking }
     {

@@ -27,7 +27,7 @@ impl<T: Read, A: Allocator> BufferedInput<T, A> {
         BufferedInput { reader, faults: 0 }
     }
 
-    // One more call has failed.
+    // Counts one more failed call.
     fn count_failure(&mut self)
         ensures reader { reader_of self.new ≡ reader_of self.old }
         ensures counts { CountsOne (failures_of self.old) (failures_of self.new) }

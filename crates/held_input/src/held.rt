@@ -15,7 +15,7 @@ pub trait HeldInput: Source {
         ensures front { IfSome (Self.remaining self.now) (λ xs. StartsWith xs result.now) };
 }
 
-/// It holds none, so far as it can tell.
+/// Holds no bytes, as far as it knows.
 impl<T: Read> HeldInput for Counted<T> {
     ghost held = { λ _. [] };
 

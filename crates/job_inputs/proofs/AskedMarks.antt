@@ -1,6 +1,6 @@
 -- Options that ask for no mark.
 use Rattle.std.proofs.Common.{◌≡◌, ◌∙◌, false, List, [], refl, ap}
-use Rattle.demux.specs.Views.{FindingView}
+use Rattle.pid_findings.specs.Views.{FindingView}
 use Rattle.given_marks.specs.Marking.{MarkingView, all_marked, no_marking}
 use Rattle.given_marks.proofs.MarkedFindings.{nothing_marked}
 use Rattle.job_inputs.specs.AskedMarks.{NoneIsAsked, marking_of}

@@ -1,6 +1,6 @@
 -- An input of streams that are found has them.
 use Rattle.std.proofs.Common.{◌≡◌, ◌≤◌, Bool, List, Result, Ok, Err, IfOk, All, length, sym, subst}
-use Rattle.demux.specs.Views.{FindingView}
+use Rattle.pid_findings.specs.Views.{FindingView}
 use Rattle.job_programs.specs.FoundUnits.{FitsQueue, IsMoved}
 use Rattle.job_programs.specs.declared.refusal.JobError.{JobError}
 use Rattle.job_inputs.specs.JobInput.{JobInputView, AreStreams}

@@ -6,7 +6,7 @@ use Rattle.std.specs.Prelude.{ok_or}
 use Rattle.std.proofs.lemmas.Bool.{cases_Bool, leb-false}
 use Rattle.std.proofs.lemmas.List.Elements.{All-append, All-cons, All-head, All-nil, All-tail}
 use Rattle.std.proofs.lemmas.Option.{option_and_then_some}
-use Rattle.demux.specs.Views.{FindingView}
+use Rattle.pid_findings.specs.Views.{FindingView}
 use Rattle.job_units.specs.Declarations.{too_many}
 use Rattle.job_inputs.specs.JobInput.{JobInputView, AreStreams}
 use Rattle.job_programs.specs.JobStreams.{TimedStreamView}

@@ -1,7 +1,7 @@
 -- The streams on the wire of which those of a job are made.
 use Rattle.std.proofs.Common.{◌≡◌, ◌∙◌, ◌==◌, ◌++◌, ℕ, List, length, Some, None, Ok, All, sym, ap, ap₂, subst, if◌then◌else◌}
 use Rattle.std.specs.Prelude.{ok_or}
-use Rattle.demux.specs.Views.{FindingView}
+use Rattle.pid_findings.specs.Views.{FindingView}
 use Rattle.program_tables.specs.Association.{association}
 use Rattle.stream_programs.specs.PidAssignment.{assigned_pids}
 use Rattle.stream_programs.specs.Programs.{programs_of}

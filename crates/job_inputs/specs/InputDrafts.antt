@@ -1,6 +1,6 @@
 -- What a job is made of before the bytes of its units are taken.
 use Rattle.std.specs.Prelude.{ℕ, List, map, Result}
-use Rattle.demux.specs.Views.{FindingView}
+use Rattle.pid_findings.specs.Views.{FindingView}
 use Rattle.job_programs.specs.declared.refusal.JobRefusal.{JobRefusal}
 use Rattle.job_programs.specs.declared.warning.Warning.{Warning}
 use Rattle.job_programs.specs.Information.{JobInformationView}
@@ -10,7 +10,7 @@ use Rattle.job_programs.specs.JobPrograms.{JobProgramView}
 use Rattle.job_programs.specs.JobTables.{JobTableView}
 use Rattle.job_units.specs.Moments.{StreamMomentsView, timed_stream}
 
--- of each stream the moments of its units alone are known
+-- a draft of an input: of its streams' units only the moments are kept
 pub record InputDraftView : Type 0 where
   pub information : JobInformationView
   pub base0 : ℕ

@@ -1,10 +1,10 @@
--- What a job is made of: the programs and streams of a transport stream, and what is declared of their units.
+-- The input of a job: the programs and streams of a transport stream, and the declarations of their units.
 use Rattle.std.specs.Prelude.{ℕ, ◌==◌, ◌&&◌, not, Bool, true, false, if◌then◌else◌, List, [], ◌∷◌, ◌++◌, length, map, filter, flat_map, ok_or, Option, Some}
 use Rattle.std.specs.Prelude.{None, Result, Ok, ◌≤◌, All}
 use Rattle.std.specs.List.{list_any}
 use Rattle.std.specs.Option.{option_or}
 use Rattle.psi_tables.specs.declared.pat.programs.Program.{Program}
-use Rattle.demux.specs.Views.{FindingView}
+use Rattle.pid_findings.specs.Views.{FindingView}
 use Rattle.es_units.specs.Damage.{is_scrambled}
 use Rattle.program_tables.specs.Association.{AssociationView, association}
 use Rattle.stream_programs.specs.PidAssignment.{assigned_pids}
@@ -35,8 +35,8 @@ use Rattle.job_programs.specs.JobTables.{JobTableView, job_tables, told}
 use Rattle.job_programs.specs.JobStreams.{TimedStreamView, WireStreamView}
 use Rattle.job_programs.specs.FoundUnits.{IsMoved, FitsQueue}
 
--- the information is what is said of the transport stream as a whole; base0 is what the system clock shows as the run begins; each stream
--- has what is counted of it and what it declares; tables are private sections that do not change; the warnings say what is not taken as it stands
+-- `information` is about the transport stream as a whole; `base0` is the system clock at the begin of the run; each stream has its counts and
+-- its declaration; tables are private sections that do not change; the warnings say what is not taken as it is in the stream
 pub record JobInputView : Type 0 where
   pub information : JobInformationView
   pub base0 : ℕ
@@ -73,14 +73,14 @@ change_warnings a named findings =
     ((packet_warnings findings ++ association_warnings a findings) ++ all_map_warnings NamedStreams findings named)
     ++ all_map_warnings Descriptors findings named
 
--- and about what is left out of the tables, PES packets of no program, what options name and is not there, and the network
+-- these warnings, and warnings about tables left out in part, PES packets of no program, missing things that options name, and the network
 unfoldable pub table_warnings : JobOptionsView → AssociationView → List Program → List FindingView → FoundProgramsView → List Warning
 table_warnings options a named findings found =
     (((change_warnings a named findings ++ map warnings.Table found.left_out) ++ stray_warnings options.without a findings)
     ++ option_warnings options.programs options.without options.buffers options.names options.aligned a found.streams)
     ++ network_warnings options.network a.transport_stream_id findings
 
--- and about streams that are not carried
+-- these warnings, and warnings about streams that are not carried
 unfoldable pub stream_warnings : JobOptionsView → ℕ → List FindingView → AssociationView → List Program → FoundProgramsView → List Warning
 stream_warnings options count findings a named found =
     table_warnings options a named findings found ++ all_left_out_warnings options count findings found.streams
@@ -89,7 +89,7 @@ stream_warnings options count findings a named found =
 unfoldable pub service_warnings : List ServiceNameView → List FindingView → List JobProgramView → List Warning
 service_warnings names findings programs = text_warnings names findings programs ++ programs_information findings programs
 
--- and about programs, what of the streams is in no unit, and services
+-- these warnings, and warnings about programs, findings of streams that are in no unit, and services
 unfoldable pub job_warnings : JobOptionsView → ℕ → List FindingView → AssociationView → List Program → FoundProgramsView → List ProgramPids →
     List WireStreamView → List Warning
 job_warnings options count findings a named found assigned streams =
@@ -173,7 +173,7 @@ with_programs options count findings a named found =
     unless (if length found.programs == 0 then Some (refusals.NoProgram (numbers_named a.programs)) else None)
     (and_then (with_pids options count findings a named found) (ok_or (assigned_pids found) refusals.Pids))
 
--- an association: of its programs those that are asked for
+-- the programs of an association that are asked for
 abbrev pub named_of : JobOptionsView → AssociationView → List Program
 named_of options a = filter (is_selected_program options.programs) a.programs
 

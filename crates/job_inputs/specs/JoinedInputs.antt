@@ -6,7 +6,7 @@ use Rattle.std.specs.Str.{bytes_eq}
 use Rattle.pes_packet.specs.AccessUnits.{AccessUnit}
 use Rattle.pes_packet.specs.Units.{units_of}
 use Rattle.description_parts.specs.Described.{Described, DescribedStream}
-use Rattle.demux.specs.Views.{FindingView}
+use Rattle.pid_findings.specs.Views.{FindingView}
 use Rattle.job_text.specs.DescriptionParts.{NetworkPartView}
 use Rattle.job_programs.specs.Answers.{and_then, unless}
 use Rattle.job_inputs.specs.ClockConstants.{IsMovedBy, clock_of}
@@ -27,7 +27,7 @@ use Rattle.job_inputs.specs.declared.joined_inputs.Origin.{Origin}
 use Rattle.job_programs.specs.declared.refusal.JobRefusal.{JobRefusal}
 use Rattle.job_programs.specs.declared.refusal.JobRefusal.TheVariants as refusals
 
--- the programs and streams of all inputs so far; of each stream where it was found; and what is told of the inputs after the first
+-- the programs and streams of all inputs so far; for each stream where it was found; and the notes on the inputs after the first
 pub record JoinedInputsView : Type 0 where
   pub input : JobInputView
   pub origins : List Origin
@@ -39,7 +39,7 @@ pub record JoinedInputsView : Type 0 where
 abbrev pub most_events : ℕ
 most_events = 256
 
--- the first one's, but for what is said of programs: there are a service description table, and the events of both, as many as may be
+-- the information of the first input; for programs, a service description table and the events of both inputs, up to the greatest number
 unfoldable pub information_joined : JobInformationView → JobInformationView → JobInformationView
 information_joined a b = record {
   transport_stream_id = a.transport_stream_id;
@@ -65,7 +65,7 @@ joined a b = record {
   warnings = a.warnings ++ b.warnings;
 }
 
--- 2. What is told of an input after the first
+-- 2. Notes on an input after the first
 
 abbrev pub note : ℕ → NoteCause → InputNote
 note input cause = record { input = input; cause = cause }
@@ -74,7 +74,7 @@ note input cause = record { input = input; cause = cause }
 unfoldable pub is_same_network : NetworkPartView → NetworkPartView → Bool
 is_same_network a b = a.id == b.id && (bytes_eq a.name b.name && bytes_eq a.descriptors b.descriptors)
 
--- the network of an input is not that of the job
+-- whether the network of an input differs from the job's network
 unfoldable pub is_other_network : Option NetworkPartView → Option NetworkPartView → Bool
 is_other_network a None = false
 is_other_network None (Some n) = true
@@ -94,11 +94,11 @@ pid_note input n = note input (Pid n)
 unfoldable pub number_notes : RenumberingView → JobInputView → List InputNote
 number_notes r m = map (program_note r.input) (others r.programs (program_numbers m)) ++ map (pid_note r.input) (others r.pids (found_pids m))
 
--- so many events are over what a description may have
+-- the number of events beyond the most that a description may have
 abbrev pub surplus : JobInformationView → JobInformationView → ℕ
 surplus a b = min (length a.events + length b.events) (2 ^ 64 - 1) - most_events
 
--- all that is told: of an input as it was, beside those before it; the network and the time of a job are those of the first input
+-- all notes on an input, as it was, beside the inputs before it; a job has the network and the time of the first input
 unfoldable pub input_notes : RenumberingView → JobInputView → JobInputView → List InputNote
 input_notes r a m =
     ((number_notes r m ++ note_if (is_other_network a.information.network m.information.network) r.input Network)
@@ -117,7 +117,7 @@ origins_in input m = map (origin_in input m.programs) m.streams
 unfoldable pub first_input : JobInputView → JoinedInputsView
 first_input m = record { input = m; origins = origins_in 0 m; notes = [] }
 
--- those so far and one more, with its new numbers
+-- the inputs so far and one more, with its new numbers
 unfoldable pub with_renumbered : JoinedInputsView → JobInputView → RenumberingView → JoinedInputsView
 with_renumbered j m r = record {
   input = joined j.input (renumbered r m);
@@ -137,7 +137,7 @@ unfoldable pub with_inputs : ℕ → JoinedInputsView → List JobInputView → 
 with_inputs number j [] = Ok j
 with_inputs number j (m ∷ ms) = and_then (λ more. with_inputs (number + 1) more ms) (with_input number j m)
 
--- the first one and those after it
+-- the first input joined with the inputs after it
 abbrev pub joined_inputs : JobInputView → List JobInputView → Result JoinedInputsView JobRefusal
 joined_inputs first more = with_inputs 1 (first_input first) more
 
@@ -149,7 +149,7 @@ findings_in [] number = []
 findings_in (f ∷ fs) zero = f
 findings_in (f ∷ fs) (suc n) = findings_in fs n
 
--- the units of a stream are those that are found of its PID in its input, at moments by one constant
+-- the units of a stream are the units found on its PID in its input, at moments by one constant
 abbrev pub IsFoundIn : Bool → List (List FindingView) → Origin → TimedStreamView → Type 0
 IsFoundIn made inputs o t = AreFound made (findings_in inputs o.input) o.pid t.units
 
@@ -164,7 +164,7 @@ pub record AreStreamsIn (made : Bool) (inputs : List (List FindingView)) (j : Jo
   pub fits : All FitsQueue j.input.streams
   pub stream_count : length j.input.streams ≤ 32
 
--- those of inputs that are joined do
+-- the streams of joined inputs have such units
 abbrev pub JoinedAreStreams : Type 0
 JoinedAreStreams = (made : Bool) (inputs : List (List FindingView)) (first : JobInputView) (more : List JobInputView) (j : JoinedInputsView) →
     AreMadeOf made inputs 0 (first ∷ more) → joined_inputs first more ≡ Ok j → AreStreamsIn made inputs j
@@ -175,15 +175,15 @@ JoinedAreStreams = (made : Bool) (inputs : List (List FindingView)) (first : Job
 abbrev pub found_in : Bool → List (List FindingView) → Origin → List AccessUnit
 found_in made inputs o = map (λ u. u.unit) (source_of made o.pid (findings_in inputs o.input))
 
--- those of a stream are moved by the constant of its clock in its input
+-- the units of a stream are moved by the constant of its clock in its input
 abbrev pub IsMovedIn : Bool → List (List FindingView) → (ℕ → ProgramClock → ℕ) → Origin → TimedStreamView → Type 0
 IsMovedIn made inputs constant o t = AreMoved (found_in made inputs o) (constant o.input o.clock) t.units
 
--- in an input, of this number: by one of these constants
+-- the same in the input of this number, by one of these constants
 abbrev pub IsMovedByOne : Bool → List (List FindingView) → (ℕ → ProgramClock → ℕ) → ℕ → JobInputView → TimedStreamView → Type 0
 IsMovedByOne made inputs constant number m t = IsMovedBy made (findings_in inputs number) (constant number (clock_of m.programs t)) t
 
--- so are all in inputs numbered from `number` on
+-- the same for all streams of inputs numbered from `number` on
 unfoldable pub AreMovedByOne : Bool → List (List FindingView) → (ℕ → ProgramClock → ℕ) → ℕ → List JobInputView → Type 0
 AreMovedByOne made inputs constant number [] = ⊤
 AreMovedByOne made inputs constant number (m ∷ ms) =
@@ -197,13 +197,13 @@ JoinedKeepConstants = (made : Bool) (inputs : List (List FindingView)) (constant
 
 -- 6. The units of a job of joined inputs
 
--- those of a stream are found on the PID in the input where it was found, and keep what the description declares
+-- the units of a stream are found on its PID in its input, and are within the description's declaration
 pub record IsStreamIn (made : Bool) (inputs : List (List FindingView)) (o : Origin) (d : Described) (s : DescribedStream) (us : List AccessUnit) : Type 0 where
   pub found : AreFound made (findings_in inputs o.input) o.pid us
   pub declares : Declares d s us
   pub fits : length us ≤ 1_048_576
 
--- so have all streams of the description, in the order in which they were found
+-- all streams of the description have such units, in the order in which the streams were found
 pub record AreUnitsIn (made : Bool) (inputs : List (List FindingView)) (origins : List Origin) (d : Described) (units : List (ℕ × AccessUnit)) : Type 0 where
   pub same : length origins ≡ length d.streams
   pub streams : (k : ℕ) (o : Origin) (s : DescribedStream) → slice_get origins k ≡ Some o → slice_get d.streams k ≡ Some s →

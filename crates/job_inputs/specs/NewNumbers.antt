@@ -8,23 +8,23 @@ use Rattle.job_inputs.specs.declared.new_numbers.NewNumber.{NewNumber}
 
 -- 1. One number
 
--- in place of one that is taken: the first free one from it on, up to 8,190; else the first free one from `least` on
+-- in place of a number that is taken: the first free number from it on, up to 8,190; otherwise the first free number from `least` on
 unfoldable pub new_place : ℕ → List ℕ → ℕ → Option ℕ
 new_place least taken number = option_or (least_free number taken) (least_free least taken)
 
--- where a number of an input stands: where it did, if no input before has it
+-- the new number for a number of an input: the number itself, if no input before has it
 unfoldable pub place_of : ℕ → List ℕ → List ℕ → ℕ → Option ℕ
 place_of least before taken number = if is_taken number before then new_place least taken number else Some number
 
 -- 2. All numbers of an input
 
--- those given before, and those of further numbers one after another; taken are those of the inputs before, all of this one, and those given before
+-- the numbers given before, and the new numbers for further numbers in order; taken are all numbers of earlier inputs, of this input, and given before
 unfoldable pub places_after : ℕ → List ℕ → List ℕ → List ℕ → List ℕ → Option (List ℕ)
 places_after least before own given [] = Some given
 places_after least before own given (number ∷ numbers) =
     option_and_then (λ place. places_after least before own (given ++ place ∷ []) numbers) (place_of least before ((before ++ own) ++ given) number)
 
--- of each in order the number that it becomes, if there are enough
+-- the new number for each number in order, if there are enough
 abbrev pub places_of : ℕ → List ℕ → List ℕ → Option (List ℕ)
 places_of least before own = places_after least before own [] own
 
@@ -48,13 +48,13 @@ is_other n = not (n.from == n.to)
 unfoldable pub becoming : List NewNumber → ℕ → NewNumber
 becoming all number = record { from = number; to = becomes all number }
 
--- of these numbers those that become others
+-- the numbers that change
 abbrev pub others : List NewNumber → List ℕ → List NewNumber
 others all numbers = filter is_other (map (becoming all) numbers)
 
--- 4. What is true of them
+-- 4. Laws
 
--- the numbers before are apart, and so are those of the input: then all are, those before and those that are given
+-- if the numbers before are distinct, and the numbers of the input too, then the numbers before and the given numbers are all distinct
 abbrev pub PlacesAreApart : Type 0
 PlacesAreApart = (least : ℕ) (before own places : List ℕ) → IsDistinct nat_eq before → IsDistinct nat_eq own → places_of least before own ≡ Some places →
     IsDistinct nat_eq (before ++ places)

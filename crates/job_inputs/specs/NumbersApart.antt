@@ -1,4 +1,4 @@
--- Programs of a transport stream have numbers of their own, and what it carries stands on PIDs of its own (ISO/IEC 13818-1, 2.4.4).
+-- The programs of a transport stream have distinct program_numbers, and its streams, maps and tables distinct PIDs (ISO/IEC 13818-1, 2.4.4).
 use Rattle.std.specs.Prelude.{◌≡◌, nat_eq, List, ◌∷◌, Ok, All}
 use Rattle.std.specs.List.{IsDistinct}
 use Rattle.job_inputs.specs.JobInput.{JobInputView}
@@ -10,7 +10,7 @@ pub record AreApart (m : JobInputView) : Type 0 where
   pub programs : IsDistinct nat_eq (program_numbers m)
   pub pids : IsDistinct nat_eq (all_pids m)
 
--- so it is of inputs that are joined, where it is so of each
+-- the numbers and PIDs of joined inputs are distinct, if they are distinct in each input
 abbrev pub JoinedAreApart : Type 0
 JoinedAreApart = (first : JobInputView) (more : List JobInputView) (j : JoinedInputsView) → All AreApart (first ∷ more) → joined_inputs first more ≡ Ok j →
     AreApart j.input

@@ -1,4 +1,4 @@
--- An input of a job beside those before it: its programs and PIDs have new numbers where those before have them.
+-- An input of a job beside the inputs before it: a program_number or a PID that an earlier input has is replaced by a new one.
 use Rattle.std.specs.Prelude.{ℕ, List, ◌++◌, map, Option, option_map, option_and_then}
 use Rattle.job_text.specs.DescriptionParts.{EventPartView}
 use Rattle.job_programs.specs.Information.{JobInformationView}
@@ -20,14 +20,14 @@ pub record RenumberingView : Type 0 where
 abbrev pub program_numbers : JobInputView → List ℕ
 program_numbers m = map (λ p. p.number) m.programs
 
--- the PIDs of maps, of streams and of private sections, which it had before; and those of clock references, which it was given
+-- the PIDs of maps, of streams and of private sections, which the input had; and the PIDs of clock references, which it was given
 abbrev pub found_pids : JobInputView → List ℕ
 found_pids m = map (λ p. p.map_pid) m.programs ++ (map (λ s. s.pid) m.streams ++ map (λ t. t.pid) m.tables)
 
 abbrev pub all_pids : JobInputView → List ℕ
 all_pids m = found_pids m ++ map (λ p. p.pcr_pid) m.programs
 
--- what those of an input become beside those before it: new numbers of programs from 1 on, new PIDs from 32 on
+-- the new program_numbers of an input, from 1 on, beside the inputs before it; and its new PIDs, from 32 on
 abbrev pub new_programs : JobInputView → JobInputView → Option (List NewNumber)
 new_programs before m = new_numbers 1 (program_numbers before) (program_numbers m)
 
@@ -42,7 +42,7 @@ renumbering_of input before m = option_and_then (λ programs. renumbering_with i
 
 -- 2. The input with these
 
--- the clock of a program stays that of its input
+-- a program keeps the clock of its input
 unfoldable pub program_with : RenumberingView → JobProgramView → JobProgramView
 program_with r p = record {
   number = becomes r.programs p.number;
@@ -97,7 +97,7 @@ information_with r i = record {
   services = i.services;
 }
 
--- its units, what is declared and told of them, and its sections stay
+-- its units, declarations, warnings and sections stay the same
 unfoldable pub renumbered : RenumberingView → JobInputView → JobInputView
 renumbered r m = record {
   information = information_with r m.information;

@@ -1,18 +1,18 @@
-//! The marks that the options of a job ask for, set on what is found in a stream.
+//! The marks that the options of a job ask for, set on the findings of a stream.
 
 ghost use Rattle.std.specs.Prelude.{◌≡◌, IfOk, Some, map};
-ghost use Rattle.demux.specs.Shown.{finding_view};
+ghost use Rattle.pid_findings.specs.Shown.{finding_view};
 ghost use Rattle.job_inputs.specs.AskedMarks as spec;
 
 use crate::input_draft::selected_programs;
-use demux::Finding;
 use given_marks::{Marking, TypedPid};
 use job_programs::JobOptions;
+use pid_findings::Finding;
 use program_tables::{Association, named_programs};
 use std::alloc::{AllocError, Global};
 use stream_programs::{FoundStream, found_programs};
 
-// The PID of a stream, and its stream_type.
+// Returns the PID of a stream, and its stream_type.
 fn typed_pid(stream: &FoundStream) -> TypedPid
     ensures { result ≡ spec.typed_pid stream.now }
 {
@@ -22,7 +22,7 @@ fn typed_pid(stream: &FoundStream) -> TypedPid
     }
 }
 
-// Those of streams.
+// Returns the PID and the stream_type of each stream.
 fn typed_pids(alloc: Global, streams: &[FoundStream]) -> Result<Vec<TypedPid>, AllocError>
     ensures { IfOk result (λ types. types.items ≡ map spec.typed_pid streams.now) }
 {
@@ -32,7 +32,7 @@ fn typed_pids(alloc: Global, streams: &[FoundStream]) -> Result<Vec<TypedPid>, A
         .collect(alloc)
 }
 
-// Those of the streams of an association's programs that are taken.
+// Returns the PID and the stream_type of each stream of the selected programs.
 #[tactic(auto, unfolding(crate::specs::AskedMarks::types_by))]
 fn types_in(
     alloc: Global,
@@ -48,7 +48,7 @@ fn types_in(
     typed_pids(alloc, &found.streams)
 }
 
-// Those of which access points are marked.
+// Returns the streams whose access points are marked: all of the selected programs, if the option asks for it.
 #[tactic(auto, unfolding(crate::specs::AskedMarks::marking_of, crate::specs::AskedMarks::types_by))]
 fn access_of(
     alloc: Global,
@@ -67,7 +67,7 @@ fn access_of(
     }
 }
 
-// The marks that are asked for.
+// Returns the marks that the options ask for.
 #[tactic(auto, unfolding(crate::specs::AskedMarks::marking_of))]
 fn marking_of(
     alloc: Global,
@@ -81,7 +81,7 @@ fn marking_of(
     Ok(Marking { access, aligned })
 }
 
-/// Returns what is found in a stream with the marks that the options ask for.
+/// Sets the marks that the options ask for on the findings of a stream.
 pub fn mark_as_asked(
     alloc: Global,
     options: &JobOptions<'_>,

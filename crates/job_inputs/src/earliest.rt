@@ -8,14 +8,14 @@ use crate::job_tables::JobTable;
 use job_programs::job_stream::is_stream_of;
 use job_programs::{JobProgram, WireStream};
 
-/// The first unit is due two seconds after the first slot, in units of 90 kHz: a unit may be sent a second before it is
-/// due, and in the other second each table that it needs has come. Half a second more if a program map section has more
-/// than one packet.
+/// The first unit is due two seconds after the first slot, in units of 90 kHz: its packets may be sent in the second
+/// before it is due, and the tables that it needs in the second before that. If a program map section has more than one
+/// packet, the first unit is due half a second later.
 const EARLIEST: u64 = 180_000;
 
 const LATER: u64 = 225_000;
 
-// The bytes of a stream in the program map section of a program.
+// Returns the bytes of a stream in the program map section of a program.
 #[tactic(auto, unfolding(job_units::specs::Moments::entry_size))]
 fn entry_size(number: u16, stream: &WireStream<'_>) -> usize
     ensures { result ≡ spec.entry_size number stream.now }
@@ -27,7 +27,7 @@ fn entry_size(number: u16, stream: &WireStream<'_>) -> usize
     }
 }
 
-// The bytes of all streams, or the greatest number if they are more.
+// Returns the bytes of all streams, or the greatest number if they are more.
 fn entries_size(number: u16, streams: &[WireStream<'_>]) -> usize
     ensures { result ≡ min (sum_by (spec.entry_size number) streams.now) (2 ^ 64 - 1) }
 {
@@ -38,7 +38,7 @@ fn entries_size(number: u16, streams: &[WireStream<'_>]) -> usize
     size
 }
 
-// The bytes of sections in the program map section of a program.
+// Returns the bytes of sections in the program map section of a program.
 #[tactic(auto, unfolding(job_units::specs::Moments::table_size))]
 fn table_size(number: u16, table: &JobTable) -> usize
     ensures { result ≡ spec.table_size number table.now }
@@ -50,7 +50,7 @@ fn table_size(number: u16, table: &JobTable) -> usize
     }
 }
 
-// The bytes of all sections, or the greatest number if they are more.
+// Returns the bytes of all sections, or the greatest number if they are more.
 fn tables_size(number: u16, tables: &[JobTable]) -> usize
     ensures { result ≡ min (sum_by (spec.table_size number) tables.now) (2 ^ 64 - 1) }
 {
@@ -61,7 +61,7 @@ fn tables_size(number: u16, tables: &[JobTable]) -> usize
     size
 }
 
-// Whether the program map section of a program has more than one packet.
+// Returns whether the program map section of a program has more than one packet.
 #[tactic(auto, unfolding(job_units::specs::Moments::map_size, job_units::specs::Moments::is_long_map))]
 fn is_long_map(program: &JobProgram, tables: &[JobTable], streams: &[WireStream<'_>]) -> bool
     ensures { result ≡ spec.is_long_map tables.now streams.now program.now }
@@ -72,7 +72,7 @@ fn is_long_map(program: &JobProgram, tables: &[JobTable], streams: &[WireStream<
     size.saturating_add(sections) > 183
 }
 
-// Whether that of any program has.
+// Returns whether the program map section of any program has more than one packet.
 fn has_long_map(programs: &[JobProgram], tables: &[JobTable], streams: &[WireStream<'_>]) -> bool
     ensures { result ≡ list_any (spec.is_long_map tables.now streams.now) programs.now }
 {

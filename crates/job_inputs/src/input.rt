@@ -1,7 +1,7 @@
 //! The input of a job: the programs and streams of a transport stream, and the declarations of their units.
 
 ghost use Rattle.std.specs.Prelude.{◌≡◌, ◌≤◌, IfOk, All, length, map};
-ghost use Rattle.demux.specs.Shown.{finding_view};
+ghost use Rattle.pid_findings.specs.Shown.{finding_view};
 ghost use Rattle.job_programs.specs.Answers.{Answers};
 ghost use Rattle.job_inputs.specs.ClockConstants.{HasConstants, KeepDistances};
 ghost use Rattle.job_inputs.specs.InputDrafts as drafts;
@@ -12,7 +12,6 @@ ghost use Rattle.job_inputs.specs.JobInput.{AreStreams};
 
 use crate::input_draft::{InputDraft, input_draft};
 use crate::job_tables::JobTable;
-use demux::Finding;
 use job_programs::program_clock::is_clock_on;
 use job_programs::{JobError, JobInformation, JobOptions, JobProgram, TimedStream, Warning};
 use job_units::buffer_warnings::push_buffer_warnings;
@@ -21,6 +20,7 @@ use job_units::declarations::{count_units, too_long, too_many};
 use job_units::stream_measures::all_measured;
 use job_units::timed_streams::timed_streams;
 use job_units::{StreamChoice, UnitCounts};
+use pid_findings::Finding;
 use std::alloc::Global;
 use std::marker::Model;
 
@@ -81,7 +81,7 @@ impl JobInput {
     }
 }
 
-// With what is declared of streams whose units have their moments.
+// Adds the declarations of streams, whose units are already timed.
 #[tactic(auto, unfolding(crate::specs::JobInput::with_moved, crate::specs::JobInput::with_unit_counts, job_programs::specs::Answers::unless, job_programs::specs::Answers::and_then, job_programs::specs::Answers::Answers, job_programs::specs::Answers::Refuses), using(job_programs::proofs::AndThen::then_refuses))]
 fn with_moved(
     alloc: Global,
@@ -134,7 +134,7 @@ fn with_moved(
     })
 }
 
-// With the units of a draft, whose bodies are moved out of the findings.
+// Adds the units of a draft, whose bodies are moved out of the findings.
 #[tactic(auto, unfolding(crate::specs::InputDrafts::finished, job_programs::specs::Answers::Answers, job_programs::specs::Answers::Refuses))]
 fn finished(
     alloc: Global,
@@ -168,7 +168,7 @@ fn finished(
     )
 }
 
-// What a job of these findings is made of, whose units' bodies are moved out of them.
+// Makes the input of a job of these findings, whose units' bodies are moved out of them.
 #[tactic(auto, unfolding(job_programs::specs::Answers::Leads, job_programs::specs::Answers::Answers, job_programs::specs::Answers::Refuses))]
 fn input_of(
     alloc: Global,

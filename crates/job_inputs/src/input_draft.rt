@@ -2,7 +2,7 @@
 
 ghost use Rattle.std.specs.Prelude.{◌≡◌, ◌++◌, IfOk, OnOk, All, filter, map};
 ghost use Rattle.es_units.specs.PidPlaces.{AreLinks, pids_in};
-ghost use Rattle.demux.specs.Shown.{finding_view};
+ghost use Rattle.pid_findings.specs.Shown.{finding_view};
 ghost use Rattle.job_inputs.specs.InputDrafts as drafts;
 ghost use Rattle.job_units.specs.Moments as moments;
 ghost use Rattle.job_inputs.specs.JobInput as spec;
@@ -13,7 +13,6 @@ ghost use Rattle.job_programs.specs.Answers.{Leads};
 use crate::earliest::earliest_of;
 use crate::job_tables::{JobTable, job_tables, told};
 use crate::nothing_carried::nothing_carried;
-use demux::Finding;
 use es_units::PidLinks;
 use given_values::ServiceName;
 use job_programs::clock_base::base0_of;
@@ -36,13 +35,14 @@ use job_programs::{
 };
 use job_units::moved_streams::{first_base, moved_streams};
 use job_units::wire_streams::wire_streams;
+use pid_findings::Finding;
 use program_tables::{Association, MapPart, named_programs};
 use psi_tables::Program;
 use std::alloc::{AllocError, Global};
 use std::marker::Model;
 use stream_programs::{FoundPrograms, ProgramPids, assigned_pids, found_programs};
 
-/// What a job is made of, but for the bytes of its units and what is declared of them.
+/// The input of a job before the bytes of its units and the declarations of its streams are added.
 #[derive(Drop)]
 pub(crate) struct InputDraft {
     pub information: JobInformation,
@@ -70,7 +70,7 @@ impl Model for InputDraft {
     } };
 }
 
-// Whether a program is taken.
+// Returns whether a program is taken.
 #[tactic(auto, unfolding(job_programs::specs::JobOptions::is_selected_program))]
 fn is_selected_program(selected: &[u16], program: &Program) -> bool
     ensures { result ≡ is_selected_program selected.now program.now }
@@ -93,7 +93,7 @@ pub(crate) fn selected_programs(
         .collect(alloc)
 }
 
-// The warnings about packets and about tables that change.
+// Returns the warnings about packets and about tables that change.
 #[tactic(auto, unfolding(crate::specs::JobInput::change_warnings))]
 fn change_warnings(
     alloc: Global,
@@ -112,7 +112,7 @@ fn change_warnings(
     Ok(warnings)
 }
 
-// The warnings about packets, about the tables, about what options name, and about the network.
+// Returns the warnings about packets, about the tables, about what options name, and about the network.
 #[tactic(auto, unfolding(crate::specs::JobInput::table_warnings))]
 fn table_warnings(
     alloc: Global,
@@ -143,7 +143,7 @@ fn table_warnings(
     Ok(warnings)
 }
 
-// With the moments of streams whose units are as on the wire.
+// Adds the moments of streams whose units are as on the wire.
 #[tactic(auto, unfolding(crate::specs::JobInput::with_streams, job_programs::specs::Answers::unless, job_programs::specs::Answers::and_then, job_programs::specs::Answers::Leads, crate::specs::InputDrafts::finished, job_programs::specs::Answers::Refuses), using(job_programs::proofs::AndThen::then_refuses))]
 fn with_streams(
     alloc: Global,
@@ -208,7 +208,7 @@ fn push_service_warnings(
     push_information_warnings(alloc, programs, findings, warnings)
 }
 
-// With the streams of programs that are given PIDs.
+// Adds the streams of programs that have PIDs.
 #[tactic(auto, unfolding(crate::specs::JobInput::with_pids, crate::specs::JobInput::with_found, crate::specs::JobInput::job_warnings, crate::specs::JobInput::stream_warnings, job_programs::specs::Answers::Leads, job_programs::specs::Answers::Refuses))]
 fn with_pids(
     alloc: Global,
@@ -255,7 +255,7 @@ fn with_pids(
     )
 }
 
-// With the PIDs of programs that are found.
+// Adds the PIDs of the programs found.
 #[tactic(auto, unfolding(crate::specs::JobInput::with_programs, job_programs::specs::Answers::and_then, job_programs::specs::Answers::unless, job_programs::specs::Answers::Leads, job_programs::specs::Answers::Refuses))]
 fn with_programs(
     alloc: Global,
@@ -289,7 +289,7 @@ fn with_programs(
     )
 }
 
-// With the programs of an association.
+// Adds the programs of an association.
 #[tactic(auto, unfolding(crate::specs::JobInput::with_association, job_programs::specs::Answers::Leads, job_programs::specs::Answers::Refuses))]
 fn with_association(
     alloc: Global,

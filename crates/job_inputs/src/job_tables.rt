@@ -2,16 +2,16 @@
 
 ghost use Rattle.std.specs.Prelude.{◌≡◌, ◌==◌, ◌++◌, [], find, IfOk, OnOk, map, option_map};
 ghost use Rattle.std.specs.List.{list_any, flat_map};
-ghost use Rattle.demux.specs.Shown.{finding_view};
+ghost use Rattle.pid_findings.specs.Shown.{finding_view};
 ghost use Rattle.job_programs.specs.JobStreams.{is_stream_of};
 ghost use Rattle.job_programs.specs.JobTables as spec;
 
-use demux::Finding;
 use es_moments::FoundUnit;
 use job_programs::job_stream::is_stream_of;
 use job_programs::{JobProgram, Warning, WireStream};
 use job_units::wire_streams::is_selected_stream;
 use other_tables::{SteadySections, steady_sections};
+use pid_findings::Finding;
 use std::alloc::{AllocError, Global};
 use std::marker::Model;
 use stream_programs::{FoundStream, TableOmission};
@@ -51,7 +51,7 @@ impl Model for JobTable {
     } };
 }
 
-// The packets from the first of some units to the last.
+// Returns the packets from the first of some units to the last.
 #[tactic(auto, unfolding(job_programs::specs::JobTables::packet_at, job_programs::specs::JobTables::packet_span))]
 fn packet_span(units: &[FoundUnit<'_>]) -> u64
     ensures { result ≡ spec.packet_span units.now }
@@ -66,14 +66,14 @@ fn packet_span(units: &[FoundUnit<'_>]) -> u64
     }
 }
 
-// The first stream of a program.
+// Returns the first stream of a program.
 fn first_of<'a, 'f>(number: u16, streams: &'a [WireStream<'f>]) -> Option<&'a WireStream<'f>>
     ensures { option_map (λ s. s.now) result ≡ find (is_stream_of number) streams.now }
 {
     streams.iter().find(|stream| is_stream_of(number, stream))
 }
 
-// The packets from the first unit of that stream to its last.
+// Returns the packets from the first unit of a program's first stream to its last unit.
 #[tactic(auto, unfolding(job_programs::specs::JobTables::span_if))]
 fn span_of(number: u16, streams: &[WireStream<'_>]) -> u64
     ensures { result ≡ spec.span_if (find (is_stream_of number) streams.now) }
@@ -84,7 +84,7 @@ fn span_of(number: u16, streams: &[WireStream<'_>]) -> u64
     }
 }
 
-// A table of these sections.
+// Makes a table of these sections.
 #[tactic(auto, unfolding(job_programs::specs::JobTables::table_of))]
 fn table_of(
     alloc: Global,
@@ -105,7 +105,7 @@ fn table_of(
     })
 }
 
-// Whether some programs have one of this number.
+// Returns whether a program of this number is among `programs`.
 fn has_program(number: u16, programs: &[JobProgram]) -> bool
     ensures { result ≡ list_any (λ p. p.number == number) programs.now }
 {
@@ -115,8 +115,8 @@ fn has_program(number: u16, programs: &[JobProgram]) -> bool
 // A description has as many bytes of descriptors of a table at most.
 const MOST_DESCRIPTORS: usize = 700;
 
-// Whether sections are not left out, are of one of these programs, and have descriptors that a description has room
-// for.
+// Returns whether a job takes the sections of a stream: they are not left out, a program of the job lists them, and a
+// description has room for their descriptors.
 #[tactic(auto, unfolding(job_programs::specs::JobTables::can_take))]
 fn can_take(without: &[u16], programs: &[JobProgram], entry: &FoundStream) -> bool
     ensures { result ≡ spec.can_take without.now programs.now entry.now }
@@ -151,7 +151,7 @@ fn push_table(
     Ok(())
 }
 
-// The tables of all sections that do not change.
+// Returns the tables of all sections that do not change.
 fn all_tables(
     alloc: Global,
     without: &[u16],
@@ -201,7 +201,7 @@ pub(crate) fn job_tables(
     Ok(tables)
 }
 
-// Whether sections of this program and PID are carried.
+// Returns whether sections of this program and PID are carried.
 #[tactic(auto, unfolding(job_programs::specs::JobTables::has_table))]
 fn has_table(tables: &[JobTable], program: u16, pid: u16) -> bool
     ensures { result ≡ spec.has_table tables.now program pid }
@@ -211,7 +211,7 @@ fn has_table(tables: &[JobTable], program: u16, pid: u16) -> bool
         .any(|table| table.program == program && table.pid == pid)
 }
 
-// Whether a warning is not of sections that are carried.
+// Returns whether a warning is not of sections that are carried.
 #[tactic(auto, unfolding(job_programs::specs::JobTables::is_told, job_programs::specs::JobTables::is_left_out))]
 fn is_told(tables: &[JobTable], warning: &Warning) -> bool
     ensures { result ≡ spec.is_told tables.now warning.now }

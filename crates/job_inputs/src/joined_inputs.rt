@@ -2,7 +2,7 @@
 
 ghost use Rattle.std.specs.Prelude.{◌≡◌, ◌≤◌, ◌++◌, ◌∷◌, Bool, IfErr, IfOk, List, Ok, OnOk, length, map, take, ℕ};
 ghost use Rattle.std.specs.List.{AllZip};
-ghost use Rattle.demux.specs.Views.{FindingView};
+ghost use Rattle.pid_findings.specs.Views.{FindingView};
 ghost use Rattle.job_programs.specs.Answers.{Answers, Refuses};
 ghost use Rattle.job_inputs.specs.JoinedInputs.{AreMadeOf, AreMovedByOne, AreStreamsIn, IsMovedIn};
 ghost use Rattle.job_inputs.specs.JoinedInputs as spec;
@@ -42,15 +42,15 @@ pub enum NoteCause {
     Program(NewNumber),
     /// A map or a stream has a new PID.
     Pid(NewNumber),
-    /// Its network is not that of the job, which is the first input's.
+    /// The input's network differs from the network of the first input, which the job has.
     Network,
-    /// Its time is not that of the job.
+    /// The input's time (TDT) is not used: the job has the time of the first input.
     Time,
     /// This number of events is over what a description may have.
     Events(usize),
 }
 
-/// The same with the number of the input, from 0 on.
+/// A note, and the number of its input, from 0 on.
 #[derive(Clone, Copy, PartialEq, Eq)]
 pub struct InputNote {
     pub input: usize,
@@ -74,7 +74,7 @@ impl Model for JoinedInputs {
     ghost view = { λ j. record { input = j.input; origins = j.origins.items; notes = j.notes.items } };
 }
 
-// Two lists, one after the other.
+// Returns one list after another.
 fn both<T: Drop>(one: Vec<T>, other: Vec<T>) -> Result<Vec<T>, AllocError>
     ensures { IfOk result (λ all. all.items ≡ one.items ++ other.items) }
 {
@@ -84,7 +84,7 @@ fn both<T: Drop>(one: Vec<T>, other: Vec<T>) -> Result<Vec<T>, AllocError>
     Ok(all)
 }
 
-// The events of both, as many as may be.
+// Returns the events of both inputs, up to the most of a description.
 fn both_events(one: Vec<JobEvent>, other: Vec<JobEvent>) -> Result<Vec<JobEvent>, AllocError>
     ensures { IfOk result (λ events. events.items ≡ take spec.most_events (one.items ++ other.items)) }
 {
@@ -93,7 +93,7 @@ fn both_events(one: Vec<JobEvent>, other: Vec<JobEvent>) -> Result<Vec<JobEvent>
     Ok(events)
 }
 
-// What is said of the whole.
+// Joins the events of two inputs; network and time are of the first input.
 #[tactic(auto, unfolding(crate::specs::JoinedInputs::information_joined))]
 fn information_joined(
     one: JobInformation,
@@ -116,7 +116,7 @@ fn information_joined(
     })
 }
 
-// Two inputs as one.
+// Joins two inputs.
 #[tactic(auto, unfolding(crate::specs::JoinedInputs::joined))]
 fn joined(one: JobInput, other: JobInput) -> Result<JobInput, AllocError>
     ensures { IfOk result (λ m. m ≡ spec.joined one other) }
@@ -133,7 +133,7 @@ fn joined(one: JobInput, other: JobInput) -> Result<JobInput, AllocError>
     })
 }
 
-// Whether two networks are one.
+// Returns whether two networks are one.
 #[tactic(auto, unfolding(crate::specs::JoinedInputs::is_same_network))]
 fn is_same_network(one: &JobNetwork, other: &JobNetwork) -> bool
     ensures { result ≡ spec.is_same_network one.now other.now }
@@ -143,7 +143,7 @@ fn is_same_network(one: &JobNetwork, other: &JobNetwork) -> bool
         && one.descriptors.as_slice() == other.descriptors.as_slice()
 }
 
-// Whether the network of an input is not that of the job.
+// Returns whether an input names a network that differs from the network of the job.
 #[tactic(auto, unfolding(crate::specs::JoinedInputs::is_other_network))]
 fn is_other_network(one: &Option<JobNetwork>, other: &Option<JobNetwork>) -> bool
     ensures { result ≡ spec.is_other_network one.now other.now }
@@ -170,7 +170,7 @@ fn push_program_notes(
     Ok(())
 }
 
-// Appends those about new PIDs.
+// Appends a note for each new PID.
 fn push_pid_notes(
     input: usize,
     changed: &[NewNumber],
@@ -201,7 +201,7 @@ fn push_number_notes(
     push_pid_notes(numbers.input, &pids, notes)
 }
 
-// Appends a note, if a thing is so.
+// Appends a note, if `is_so`.
 #[tactic(auto, unfolding(crate::specs::JoinedInputs::note_if))]
 fn push_if(
     is_so: bool,
@@ -217,7 +217,7 @@ fn push_if(
     Ok(())
 }
 
-// Appends what is told of an input as it was, beside those before it.
+// Appends the notes about an input, beside the inputs before it.
 #[tactic(auto, unfolding(crate::specs::JoinedInputs::input_notes))]
 fn push_input_notes(
     alloc: Global,
@@ -239,7 +239,7 @@ fn push_input_notes(
     push_if(surplus > 0, number, NoteCause::Events(surplus), notes)
 }
 
-// Where a stream of an input was found.
+// Returns where a stream of an input was found.
 #[tactic(auto, unfolding(crate::specs::JoinedInputs::origin_in))]
 fn origin_in(number: usize, programs: &[JobProgram], stream: &TimedStream) -> Origin
     ensures { result ≡ spec.origin_in number programs.now stream.now }
@@ -251,7 +251,7 @@ fn origin_in(number: usize, programs: &[JobProgram], stream: &TimedStream) -> Or
     }
 }
 
-// Where those of an input were.
+// Returns where each stream of an input was found.
 fn origins_in(alloc: Global, number: usize, input: &JobInput) -> Result<Vec<Origin>, AllocError>
     ensures { IfOk result (λ origins. origins.items ≡ spec.origins_in number input.now) }
 {
@@ -263,7 +263,7 @@ fn origins_in(alloc: Global, number: usize, input: &JobInput) -> Result<Vec<Orig
         .collect(alloc)
 }
 
-// The first input alone.
+// Returns the first input alone, before any input is joined.
 #[tactic(auto, unfolding(crate::specs::JoinedInputs::first_input))]
 fn first_input(alloc: Global, input: JobInput) -> Result<JoinedInputs, AllocError>
     ensures { IfOk result (λ j. j ≡ spec.first_input input) }
@@ -276,7 +276,7 @@ fn first_input(alloc: Global, input: JobInput) -> Result<JoinedInputs, AllocErro
     })
 }
 
-// Those so far and one more, with its new numbers.
+// Joins an input, with its new numbers, to the inputs before it.
 #[tactic(auto, unfolding(crate::specs::JoinedInputs::with_renumbered))]
 fn with_renumbered(
     alloc: Global,
@@ -297,7 +297,7 @@ fn with_renumbered(
     })
 }
 
-// No more programs and streams than a description may have.
+// Refuses more programs or streams than a description may have.
 #[tactic(auto, unfolding(crate::specs::JoinedInputs::within_limits, job_programs::specs::Answers::unless, job_programs::specs::Answers::Answers, job_programs::specs::Answers::Refuses))]
 fn within_limits(all: JoinedInputs) -> Result<JoinedInputs, JobError>
     ensures { Answers (spec.within_limits all) result }
@@ -308,7 +308,7 @@ fn within_limits(all: JoinedInputs) -> Result<JoinedInputs, JobError>
     }
 }
 
-// Those so far and one more.
+// Joins an input to the inputs before it.
 #[tactic(auto, unfolding(crate::specs::JoinedInputs::with_input, job_programs::specs::Answers::and_then, job_programs::specs::Answers::Answers, job_programs::specs::Answers::Refuses))]
 fn with_input(
     alloc: Global,
@@ -324,7 +324,7 @@ fn with_input(
     within_limits(with_renumbered(alloc, all, input, &numbers)?)
 }
 
-// All of them, one after another.
+// Joins all inputs, one after another.
 #[tactic(auto, unfolding(job_programs::specs::Answers::Refuses))]
 fn all_joined(alloc: Global, first: JobInput, more: Vec<JobInput>) -> Result<JoinedInputs, JobError>
     ensures joined { IfOk result (λ j. spec.joined_inputs first more.items ≡ Ok j) }

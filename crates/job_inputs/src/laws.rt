@@ -4,7 +4,7 @@ ghost use Rattle.job_inputs.specs.AskedMarks.{NoneIsAsked};
 ghost use Rattle.job_inputs.specs.NewNumbers.{PlacesAreApart};
 ghost use Rattle.job_inputs.specs.NumbersApart.{JoinedAreApart};
 
-/// States that options that ask for no mark change nothing of what is found.
+/// States that the findings stay as they are if the options ask for no mark.
 pub fn none_is_asked()
     ensures { NoneIsAsked }
 {}

@@ -20,7 +20,7 @@ mod joined_inputs;
 mod new_numbers;
 mod renumbered_inputs;
 
-// What holds of them.
+// Laws about inputs.
 mod laws;
 
 pub use asked_marks::mark_as_asked;

@@ -1,4 +1,4 @@
-//! New numbers for programs, and new PIDs, where the inputs before have them.
+//! New program numbers and PIDs in place of numbers that earlier inputs have.
 
 ghost use Rattle.std.specs.Prelude.{◌≡◌, ◌==◌, ◌++◌, IfOk, filter, find, map, option_map, zip};
 ghost use Rattle.job_inputs.specs.NewNumbers as spec;
@@ -14,7 +14,8 @@ pub struct NewNumber {
     pub to: u16,
 }
 
-// In place of a number that is taken.
+// Returns the number in place of a number that is taken: the first free number from it on, or otherwise from `least`
+// on.
 #[tactic(auto, unfolding(crate::specs::NewNumbers::new_place))]
 fn new_place(least: u16, taken: &[u16], number: u16) -> Option<u16>
     ensures { result ≡ spec.new_place least taken.now number }
@@ -22,7 +23,7 @@ fn new_place(least: u16, taken: &[u16], number: u16) -> Option<u16>
     free_pid(number, taken).or(free_pid(least, taken))
 }
 
-// Where a number of an input stands, beside those of the inputs before.
+// Returns the number that an input's number becomes beside the numbers of the inputs before.
 #[tactic(auto, unfolding(crate::specs::NewNumbers::place_of, stream_programs::specs::FreePids::is_taken, job_programs::specs::JobOptions::is_among))]
 fn place_of(least: u16, before: &[u16], taken: &[u16], number: u16) -> Option<u16>
     ensures { result ≡ spec.place_of least before.now taken.now number }
@@ -34,7 +35,7 @@ fn place_of(least: u16, before: &[u16], taken: &[u16], number: u16) -> Option<u1
     }
 }
 
-// These numbers and those.
+// Returns the numbers of both lists.
 fn both(alloc: Global, one: &[u16], other: &[u16]) -> Result<Vec<u16>, AllocError>
     ensures { IfOk result (λ numbers. numbers.items ≡ one.now ++ other.now) }
 {
@@ -43,7 +44,7 @@ fn both(alloc: Global, one: &[u16], other: &[u16]) -> Result<Vec<u16>, AllocErro
     Ok(numbers)
 }
 
-// Where the numbers of an input stand, one after another.
+// Returns the new number of each number of an input, in their order.
 fn places_of(
     alloc: Global,
     least: u16,
@@ -65,7 +66,7 @@ fn places_of(
     Ok(Some(given))
 }
 
-// Each number beside the place that it is given.
+// Pairs each number with its new number.
 fn pairs(alloc: Global, own: &[u16], places: &[u16]) -> Result<Vec<NewNumber>, AllocError>
     ensures { IfOk result (λ pairs. pairs.items ≡ map spec.new_number (zip own.now places.now)) }
 {
@@ -78,9 +79,9 @@ fn pairs(alloc: Global, own: &[u16], places: &[u16]) -> Result<Vec<NewNumber>, A
         .collect(alloc)
 }
 
-/// Returns what the numbers of an input become beside those of the inputs before: a number that none of these has
-/// stays; another becomes the first free one from it on, up to 8,190, else the first from `least` on. Free is what no
-/// input has. `None` where there is none left.
+/// Returns the numbers of an input as they are in the job. A number that no earlier input has stays. Another number
+/// becomes the first free number from it on, up to 8,190, or else from `least` on; free are numbers that no input has.
+/// `None` if no number is free.
 pub(crate) fn new_numbers(
     alloc: Global,
     least: u16,
@@ -96,7 +97,7 @@ pub(crate) fn new_numbers(
     }
 }
 
-// The first of these pairs for a number.
+// Returns the first pair of a number.
 fn first_of(all: &[NewNumber], number: u16) -> Option<&NewNumber>
     ensures { option_map (λ n. n.now) result ≡ find (λ n. n.from == number) all.now }
 {
@@ -128,7 +129,7 @@ pub(crate) fn all_become(
         .collect(alloc)
 }
 
-// A number beside what it becomes.
+// Pairs a number with its new number.
 #[tactic(auto, unfolding(crate::specs::NewNumbers::becoming))]
 fn becoming(all: &[NewNumber], number: u16) -> NewNumber
     ensures { result ≡ spec.becoming all.now number }
@@ -139,7 +140,7 @@ fn becoming(all: &[NewNumber], number: u16) -> NewNumber
     }
 }
 
-// Each of these numbers beside what it becomes.
+// Pairs each of these numbers with its new number.
 fn each_becoming(
     alloc: Global,
     all: &[NewNumber],
@@ -153,7 +154,7 @@ fn each_becoming(
         .collect(alloc)
 }
 
-// Whether a number becomes another one.
+// Returns whether a number becomes another one.
 #[tactic(auto, unfolding(crate::specs::NewNumbers::is_other))]
 fn is_other(number: &NewNumber) -> bool
     ensures { result ≡ spec.is_other number.now }
@@ -161,7 +162,7 @@ fn is_other(number: &NewNumber) -> bool
     number.from != number.to
 }
 
-// Those that do.
+// Returns the numbers that become other numbers.
 fn changed(alloc: Global, each: &[NewNumber]) -> Result<Vec<NewNumber>, AllocError>
     ensures { IfOk result (λ changed. changed.items ≡ filter spec.is_other each.now) }
 {
@@ -171,7 +172,7 @@ fn changed(alloc: Global, each: &[NewNumber]) -> Result<Vec<NewNumber>, AllocErr
         .collect(alloc)
 }
 
-/// Of these numbers those that become others.
+/// Returns each of these numbers that changes, with its new number.
 pub(crate) fn others(
     alloc: Global,
     all: &[NewNumber],

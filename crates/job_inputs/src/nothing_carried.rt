@@ -5,7 +5,7 @@ ghost use Rattle.job_inputs.specs.JobInput as spec;
 
 use job_programs::{JobRefusal, Warning, WireStream};
 
-// The refusal for a warning, if there is one; `some` if streams are carried.
+// Returns the refusal for a warning, if there is one; `some` if streams are carried.
 #[tactic(auto, unfolding(crate::specs::JobInput::why_nothing))]
 fn why_nothing(some: bool, warning: Warning) -> Option<JobRefusal>
     ensures { result ≡ spec.why_nothing some warning }
@@ -29,7 +29,7 @@ fn why_nothing(some: bool, warning: Warning) -> Option<JobRefusal>
     }
 }
 
-// That for the first one that has one.
+// Returns the refusal for the first warning that has one.
 fn first_why(some: bool, warnings: &[Warning]) -> Option<JobRefusal>
     ensures { result ≡ spec.first_why some warnings.now }
 {
@@ -41,8 +41,8 @@ fn first_why(some: bool, warnings: &[Warning]) -> Option<JobRefusal>
     None
 }
 
-/// Returns the refusal of a transport stream of which no stream is carried, since none can be written, is clear, or
-/// fits a job; if `strict`, also if one stream is not carried.
+/// Returns the refusal of a transport stream if no stream can be carried: each cannot be written, is scrambled or does
+/// not fit a job. If `strict`, a single stream that is not carried is refused too.
 #[tactic(auto, unfolding(crate::specs::JobInput::nothing_carried))]
 pub(crate) fn nothing_carried(
     strict: bool,

@@ -11,7 +11,7 @@ use job_programs::{JobEvent, JobInformation, JobProgram, TimedStream};
 use std::alloc::{AllocError, Global};
 use std::marker::Model;
 
-/// The least number of a program that is given anew, and the least PID.
+/// The least new number of a program, and the least new PID.
 const LEAST_PROGRAM: u16 = 1;
 
 const LEAST_PID: u16 = 32;
@@ -83,7 +83,7 @@ pub(crate) fn found_pids(alloc: Global, input: &JobInput) -> Result<Vec<u16>, Al
     Ok(pids)
 }
 
-// And of its clock references.
+// Returns all PIDs of an input, also of its clock references.
 fn all_pids(alloc: Global, input: &JobInput) -> Result<Vec<u16>, AllocError>
     ensures { IfOk result (λ pids. pids.items ≡ spec.all_pids input.now) }
 {
@@ -93,7 +93,7 @@ fn all_pids(alloc: Global, input: &JobInput) -> Result<Vec<u16>, AllocError>
     Ok(pids)
 }
 
-// What the numbers of programs become beside those of an input before.
+// Returns the new program numbers of an input, beside the inputs before it.
 fn new_programs(
     alloc: Global,
     before: &JobInput,
@@ -107,7 +107,7 @@ fn new_programs(
     new_numbers(alloc, LEAST_PROGRAM, &taken, &own)
 }
 
-// What PIDs become.
+// Returns the new PIDs of an input, beside the inputs before it.
 fn new_pids(
     alloc: Global,
     before: &JobInput,
@@ -120,7 +120,7 @@ fn new_pids(
     new_numbers(alloc, LEAST_PID, &taken, &own)
 }
 
-/// Returns what the numbers and PIDs of an input become beside those before it; `None` where there are none left.
+/// Returns the new program numbers and PIDs of an input, beside the inputs before it; `None` if no number is free.
 #[tactic(auto, unfolding(crate::specs::RenumberedInputs::renumbering_of, crate::specs::RenumberedInputs::renumbering_with))]
 pub(crate) fn renumbering_of(
     alloc: Global,
@@ -143,7 +143,7 @@ pub(crate) fn renumbering_of(
     }))
 }
 
-// A program with its new numbers.
+// Returns a program with its new numbers.
 #[tactic(auto, unfolding(crate::specs::RenumberedInputs::program_with))]
 fn program_with(numbers: &Renumbering, program: JobProgram) -> JobProgram
     ensures { result ≡ spec.program_with numbers.now program }
@@ -157,7 +157,7 @@ fn program_with(numbers: &Renumbering, program: JobProgram) -> JobProgram
     }
 }
 
-// A stream with its own.
+// Returns a stream with its new numbers.
 #[tactic(auto, unfolding(crate::specs::RenumberedInputs::stream_with))]
 fn stream_with(
     alloc: Global,
@@ -177,7 +177,7 @@ fn stream_with(
     })
 }
 
-// A private table with its own.
+// Returns a private table with its new numbers.
 #[tactic(auto, unfolding(crate::specs::RenumberedInputs::table_with))]
 fn table_with(numbers: &Renumbering, table: JobTable) -> JobTable
     ensures { result ≡ spec.table_with numbers.now table }
@@ -191,7 +191,7 @@ fn table_with(numbers: &Renumbering, table: JobTable) -> JobTable
     }
 }
 
-// An event with that of its program.
+// Returns an event with the new number of its program.
 #[tactic(auto, unfolding(crate::specs::RenumberedInputs::event_with))]
 fn event_with(numbers: &Renumbering, event: JobEvent) -> JobEvent
     ensures { result ≡ spec.event_with numbers.now event }
@@ -258,7 +258,7 @@ fn push_events(
     Ok(())
 }
 
-// What is said of the whole, with the numbers of its events.
+// Returns the information of a job with the new program numbers in its events.
 #[tactic(auto, unfolding(crate::specs::RenumberedInputs::information_with))]
 fn information_with(
     alloc: Global,

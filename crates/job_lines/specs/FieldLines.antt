@@ -32,11 +32,11 @@ field_line f = codes "pid " ++ decimal f.pid ++ field_text f.field
 abbrev pub field_lines : List FieldLeftOut → List ℕ
 field_lines fields = flat_map field_line fields
 
--- a PID of a stream that is carried; for a field of packets also one of a table that is carried, or of a program's clock
+-- whether a field is on the PID of a carried stream; for a field of packets also of a carried table, or of a program's clock
 abbrev pub is_carried : JobInputView → FieldLeftOut → Bool
 is_carried m f = has_stream m f.pid || (is_of_packet f.field && (carries_table m f.pid || has_clock m f.pid))
 
--- a field by which a viewer loses nothing is reported where all are
+-- whether a field is reported: a field that costs a viewer nothing only if all lines are asked for
 abbrev pub is_told : Bool → JobInputView → FieldLeftOut → Bool
 is_told all m f = is_carried m f && (all || is_loss f.field)
 

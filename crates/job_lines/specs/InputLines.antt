@@ -1,4 +1,4 @@
--- The lines about one of several inputs: each has the number of the input, from 1 on, and the name of its file.
+-- The lines about one input of several: each has the number of the input, from 1 on, and the name of its file.
 use Rattle.std.specs.Prelude.{ℕ, ◌+◌, ◌-◌, ◌^◌, min, Bool, true, false, List, [], ◌++◌, flat_map, codes, decimal, unwrap_or, slice_get}
 use Rattle.std.specs.List.{list_any}
 use Rattle.job_inputs.specs.declared.joined_inputs.InputNote.{InputNote}
@@ -11,13 +11,13 @@ use Rattle.job_inputs.specs.declared.joined_inputs.NoteCause.TheVariants.{Events
 unfoldable pub input_head : ℕ → List ℕ → List ℕ
 input_head number name = codes "input " ++ decimal (min (number + 1) (2 ^ 64 - 1)) ++ codes " " ++ name ++ codes ":"
 
--- the line above those of an input
+-- the line above the lines of an input
 unfoldable pub input_line : ℕ → List ℕ → List ℕ
 input_line number name = input_head number name ++ codes "\n"
 
--- 2. What becomes of it beside those before it
+-- 2. What changes in an input beside the inputs before it
 
--- a program or a PID has a new number; the network and the time of the job are those of the first input; so many events are too many
+-- a program or a PID has a new number; the job has the network and the time of the first input; this many events are too many
 unfoldable pub cause_text : NoteCause → List ℕ
 cause_text (Program n) = codes " program " ++ decimal n.from ++ codes " is " ++ decimal n.to ++ codes "\n"
 cause_text (Pid n) = codes " pid " ++ decimal n.from ++ codes " is " ++ decimal n.to ++ codes "\n"
@@ -36,9 +36,9 @@ note_line names n = input_head n.input (name_of names n.input) ++ cause_text n.c
 abbrev pub note_lines : List (List ℕ) → List InputNote → List ℕ
 note_lines names notes = flat_map (note_line names) notes
 
--- 3. What is lost
+-- 3. Losses
 
--- it says that something is lost: a network, or events; a new number is no loss, and there is one time
+-- whether a note reports a loss: a network, or events; a new number is no loss, and a job has one time
 unfoldable pub is_cause_loss : NoteCause → Bool
 is_cause_loss (Program n) = false
 is_cause_loss (Pid n) = false

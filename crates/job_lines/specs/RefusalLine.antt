@@ -48,7 +48,7 @@ unfoldable pub way_text : ℕ → Option GreaterBuffers → List ℕ
 way_text pid None = codes "\n"
 way_text pid (Some b) = greater_text pid b.rx b.main
 
--- the programs that a transport stream names: the first four, and the number of the others
+-- the programs that a transport stream names: the first four, and the number of further ones
 unfoldable pub first_text : Option ℕ → List ℕ
 first_text None = codes "none"
 first_text (Some number) = decimal number

@@ -1,4 +1,4 @@
--- The lines for packets: those that do not stand in step, and those of other sizes.
+-- The lines for packets that are out of step or of another size.
 use Rattle.std.specs.Prelude.{ℕ, List, ◌++◌, flat_map, codes, decimal}
 use Rattle.packet_sync.specs.declared.packet_sizes.OtherPackets.{OtherPackets}
 use Rattle.packet_sync.specs.declared.packet_sizes.OtherPackets.TheVariants.{Timed, Corrected}

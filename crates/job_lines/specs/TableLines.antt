@@ -26,7 +26,7 @@ other_table_line t = codes "pid " ++ decimal t.pid ++ codes " has " ++ decimal t
 abbrev pub other_table_lines : List OtherTable → List ℕ
 other_table_lines tables = flat_map other_table_line tables
 
--- those that are not carried; one without which a viewer loses nothing is reported where all are
+-- whether a table that is not carried is reported: one that costs a viewer nothing only if all lines are asked for
 abbrev pub is_told : Bool → JobInputView → OtherTable → Bool
 is_told all m t = not (carries_table m t.pid) && (all || is_loss t.kind)
 

@@ -23,7 +23,7 @@ use Rattle.job_lines.specs.RefusalLine.{named_text, refusal_line}
 
 -- 1. A line each
 
--- what is left out of the tables
+-- the line for an omission of the tables
 unfoldable pub table_line : TableOmission → List ℕ
 table_line (table.NoMap program) = codes "program " ++ decimal program ++ codes " has no PMT: left out\n"
 table_line (table.ConditionalAccess program) = codes "CA descriptors of program " ++ decimal program ++ codes " left out\n"
@@ -72,7 +72,7 @@ packet_text NetworkSurplus = codes " NIT says other or more than one network and
 unfoldable pub packet_line : ℕ → PacketWarning → List ℕ
 packet_line packet what = codes "packet " ++ decimal packet ++ packet_text what
 
--- a map that is other than the last one of its program
+-- the text for a map that differs from the last map of its program
 unfoldable pub map_text : MapPart → List ℕ
 map_text NamedStreams = codes " names other streams: the last is used\n"
 map_text Descriptors = codes " has descriptors that the last one has not: left out\n"
@@ -107,7 +107,7 @@ leak_line pid rate leak = codes "pid " ++ decimal pid ++ codes " asks for " ++ d
 unfoldable pub frames_line : ℕ → ℕ → List ℕ
 frames_line pid frames = codes "pid " ++ decimal pid ++ codes " has units of up to " ++ decimal frames ++ codes " frames: declared without frames\n"
 
--- a stream that is left out: the line of the refusal that it would be, and one that says so
+-- the lines for a stream that is left out: the line of the refusal that it would be, and a line that says so
 unfoldable pub left_out_line : ℕ → JobRefusal → List ℕ
 left_out_line pid why = refusal_line why ++ codes "pid " ++ decimal pid ++ codes " left out\n"
 
@@ -142,7 +142,7 @@ abbrev pub is_open_ended : Warning → Bool
 is_open_ended (warning.Units pid left_out) = is_unknown_end left_out.cause
 is_open_ended _ = false
 
--- that is reported unless the input is said to be whole; a warning that says of no loss is reported where all are
+-- whether a warning is reported: an open end only if the input is not declared whole; a warning about no loss only if all lines are asked for
 unfoldable pub is_told : Reporting → Warning → Bool
 is_told r w = not (r.whole && is_open_ended w) && (r.all || is_damage w)
 

@@ -10,7 +10,7 @@ use packet_sync::{Field, FieldLeftOut};
 use std::alloc::{AllocError, Global};
 use std::fmt::Write;
 
-// What is said of a field.
+// Returns the words about a field, after its PID.
 #[tactic(auto, unfolding(crate::specs::FieldLines::field_text))]
 fn field_text(field: Field) -> &'static str
     ensures { result.now ≡ spec.field_text field }
@@ -34,7 +34,7 @@ fn field_text(field: Field) -> &'static str
     }
 }
 
-// The line of a field on a PID.
+// Appends the line of a field on a PID.
 #[tactic(auto, unfolding(crate::specs::FieldLines::field_line))]
 fn write_field(left_out: &FieldLeftOut, text: &mut String) -> Result<(), AllocError>
     ensures { OnOk result (string_bytes text.new ≡ string_bytes text.old ++ spec.field_line left_out.now) }
@@ -63,15 +63,15 @@ fn is_carried(input: &JobInput, left_out: &FieldLeftOut) -> bool
         || (field.is_of_packet() && (input.carries_table(pid) || input.has_clock(pid)))
 }
 
-// Returns whether a field is reported: all that are carried, or those by which a viewer loses something.
+// Returns whether a field of a carried PID is reported: every field if `all`, otherwise only a loss to a viewer.
 fn is_told(all: bool, input: &JobInput, left_out: &FieldLeftOut) -> bool
     ensures { result ≡ spec.is_told all input.now left_out.now }
 {
     is_carried(input, left_out) && (all || left_out.field.is_loss())
 }
 
-/// Returns the fields that are reported: of streams that are carried, and in packets also of tables and clocks; all, or
-/// those by which a viewer loses something.
+/// Returns the fields to report: on PIDs of carried streams, and for fields of packets also of carried tables and
+/// clocks; every such field if `all`, otherwise only a loss to a viewer.
 pub fn told_fields(
     alloc: Global,
     all: bool,
@@ -87,7 +87,7 @@ pub fn told_fields(
         .collect(alloc)
 }
 
-/// Returns whether a viewer may lose something by any of these.
+/// Returns whether any of the fields is a loss to a viewer.
 pub fn are_needed(fields: &[FieldLeftOut]) -> bool
     ensures { result ≡ list_any (λ f. is_loss f.field) fields.now }
 {

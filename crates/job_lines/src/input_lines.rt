@@ -7,7 +7,7 @@ use job_inputs::{InputNote, NoteCause};
 use std::alloc::AllocError;
 use std::fmt::Write;
 
-// Which input it is.
+// Appends the number of an input.
 #[tactic(auto, unfolding(crate::specs::InputLines::input_head))]
 fn write_head(number: usize, name: &str, text: &mut String) -> Result<(), AllocError>
     ensures { OnOk result (string_bytes text.new ≡ string_bytes text.old ++ spec.input_head number name.now) }
@@ -25,7 +25,7 @@ pub fn write_input(number: usize, name: &str, text: &mut String) -> Result<(), A
     text.push_str("\n")
 }
 
-// What becomes of an input.
+// Appends the change to an input.
 #[tactic(auto, unfolding(crate::specs::InputLines::cause_text))]
 fn write_cause(cause: NoteCause, text: &mut String) -> Result<(), AllocError>
     ensures { OnOk result (string_bytes text.new ≡ string_bytes text.old ++ spec.cause_text cause) }
@@ -45,7 +45,7 @@ fn write_cause(cause: NoteCause, text: &mut String) -> Result<(), AllocError>
     }
 }
 
-// The name of an input.
+// Returns the name of an input.
 fn name_of<'a>(names: &[&'a str], number: usize) -> &'a str
     ensures { result.now ≡ spec.name_of (map (λ s. s.now) names.now) number }
 {
@@ -55,7 +55,7 @@ fn name_of<'a>(names: &[&'a str], number: usize) -> &'a str
     }
 }
 
-// The line of a note.
+// Appends the line of a note.
 #[tactic(auto, unfolding(crate::specs::InputLines::note_line))]
 fn write_note(names: &[&str], note: InputNote, text: &mut String) -> Result<(), AllocError>
     ensures { OnOk result (string_bytes text.new ≡ string_bytes text.old
@@ -76,7 +76,7 @@ pub fn write_notes(names: &[&str], notes: &[InputNote], text: &mut String) -> Re
     Ok(())
 }
 
-// Whether it says that something is lost.
+// Returns whether the note reports a loss.
 #[tactic(auto, unfolding(crate::specs::InputLines::is_cause_loss))]
 fn is_cause_loss(cause: NoteCause) -> bool
     ensures { result ≡ spec.is_cause_loss cause }
@@ -87,7 +87,7 @@ fn is_cause_loss(cause: NoteCause) -> bool
     }
 }
 
-/// Returns whether any of these notes says that something is lost.
+/// Returns whether any of the notes reports a loss.
 pub fn are_lost(notes: &[InputNote]) -> bool
     ensures { result ≡ spec.are_lost notes.now }
 {

@@ -1,7 +1,7 @@
 //! Lines of a job: what is left out, changed or refused.
 //!
-//! `Reporting` says which lines are reported: all, those that say of a loss, or refusals alone. There is a line for each
-//! thing that is left out or changed, and a line for a refusal; `specs/` has the text of each:
+//! `Reporting` says which lines are reported: all, only losses, or only refusals. Each thing that is left out or
+//! changed has a line, and so has a refusal; `specs/` has the text of each:
 //!
 //! - `slip_lines`: packets that are not in step or have another size.
 //! - `field_lines`: fields that are not written again.

@@ -11,10 +11,10 @@ use job_programs::{GreaterBuffers, JobRefusal, NamedNumbers};
 use std::alloc::AllocError;
 use std::fmt::Write;
 
-// A DTS that falls by more, in units of 90 kHz, may be the first one of a second recording: 1 s.
+// A DTS that is this much lower, in units of 90 kHz (1 s), may begin a second recording.
 const FALL: u64 = 90_000;
 
-// A stream_id that no unit may have.
+// Appends a stream_id that no unit may have.
 #[tactic(auto, unfolding(crate::specs::RefusalLine::refusal_line))]
 fn write_id(packet: u64, pid: u16, id: u8, text: &mut String) -> Result<(), AllocError>
     ensures { OnOk result
@@ -26,7 +26,7 @@ fn write_id(packet: u64, pid: u16, id: u8, text: &mut String) -> Result<(), Allo
     )
 }
 
-// Two stream_ids on one PID.
+// Appends two stream_ids on one PID.
 #[tactic(auto, unfolding(crate::specs::RefusalLine::refusal_line))]
 fn write_ids(packet: u64, pid: u16, id: u8, first: u8, text: &mut String) -> Result<(), AllocError>
     ensures { OnOk result (string_bytes text.new
@@ -38,7 +38,7 @@ fn write_ids(packet: u64, pid: u16, id: u8, first: u8, text: &mut String) -> Res
     )
 }
 
-// Time stamps that can't be moments of a run.
+// Appends why time stamps can't be moments of a run.
 #[tactic(auto, unfolding(crate::specs::RefusalLine::stamps_text))]
 fn write_stamps(fault: StampFault, text: &mut String) -> Result<(), AllocError>
     ensures { OnOk result (string_bytes text.new ≡ string_bytes text.old ++ spec.stamps_text fault) }
@@ -52,7 +52,7 @@ fn write_stamps(fault: StampFault, text: &mut String) -> Result<(), AllocError>
     }
 }
 
-// Whether DTS fall by more than a second, as where two recordings were joined.
+// Returns whether DTS fall by more than a second, as where two recordings were joined.
 #[tactic(auto, unfolding(crate::specs::RefusalLine::has_fallen))]
 fn has_fallen(fault: StampFault) -> bool
     ensures { result ≡ spec.has_fallen fault }
@@ -64,7 +64,7 @@ fn has_fallen(fault: StampFault) -> bool
     }
 }
 
-// What would mend these.
+// Appends how to take two recordings that were joined.
 #[tactic(auto, unfolding(crate::specs::RefusalLine::fallen_text))]
 fn write_fallen(fallen: bool, text: &mut String) -> Result<(), AllocError>
     ensures { OnOk result (string_bytes text.new ≡ string_bytes text.old ++ spec.fallen_text fallen) }
@@ -76,7 +76,7 @@ fn write_fallen(fallen: bool, text: &mut String) -> Result<(), AllocError>
     }
 }
 
-// What would mend time stamps, if something would.
+// Appends how to mend time stamps, if there is a way.
 #[tactic(auto, unfolding(crate::specs::RefusalLine::remedy_text))]
 fn write_remedy(mended: bool, fault: StampFault, text: &mut String) -> Result<(), AllocError>
     ensures { OnOk result (string_bytes text.new ≡ string_bytes text.old ++ spec.remedy_text mended fault) }
@@ -88,7 +88,7 @@ fn write_remedy(mended: bool, fault: StampFault, text: &mut String) -> Result<()
     }
 }
 
-// A unit with such time stamps.
+// Appends a unit whose time stamps can't be moments of a run.
 #[tactic(auto, unfolding(crate::specs::RefusalLine::refusal_line))]
 fn write_stamps_of(
     packet: u64,
@@ -105,7 +105,7 @@ fn write_stamps_of(
     write_remedy(mended, fault, text)
 }
 
-// PTS from which no DTS can be made.
+// Appends why no DTS can be made from the PTS.
 #[tactic(auto, unfolding(crate::specs::RefusalLine::making_text))]
 fn write_making(fault: DtsFault, text: &mut String) -> Result<(), AllocError>
     ensures { OnOk result (string_bytes text.new ≡ string_bytes text.old ++ spec.making_text fault) }
@@ -119,7 +119,7 @@ fn write_making(fault: DtsFault, text: &mut String) -> Result<(), AllocError>
     }
 }
 
-// A stream with such PTS.
+// Appends a stream whose PTS give no DTS.
 #[tactic(auto, unfolding(crate::specs::RefusalLine::refusal_line))]
 fn write_making_of(pid: u16, fault: DtsFault, text: &mut String) -> Result<(), AllocError>
     ensures { OnOk result
@@ -129,7 +129,7 @@ fn write_making_of(pid: u16, fault: DtsFault, text: &mut String) -> Result<(), A
     write_making(fault, text)
 }
 
-// More units than a queue takes.
+// Appends that a stream has more units than a queue takes.
 #[tactic(auto, unfolding(crate::specs::RefusalLine::refusal_line))]
 fn write_count(pid: u16, count: usize, text: &mut String) -> Result<(), AllocError>
     ensures { OnOk result
@@ -138,7 +138,7 @@ fn write_count(pid: u16, count: usize, text: &mut String) -> Result<(), AllocErr
     write!(text, "pid {pid} has {count} units: more than 1048576\n")
 }
 
-// A unit that is too large for a PES packet of its stream.
+// Appends a unit that is too large for a PES packet of its stream.
 #[tactic(auto, unfolding(crate::specs::RefusalLine::refusal_line))]
 fn write_size(pid: u16, size: usize, text: &mut String) -> Result<(), AllocError>
     ensures { OnOk result
@@ -147,7 +147,7 @@ fn write_size(pid: u16, size: usize, text: &mut String) -> Result<(), AllocError
     write!(text, "pid {pid} unit of {size} bytes is too large\n")
 }
 
-// Units that their buffers do not hold.
+// Appends units that their buffers do not hold.
 #[tactic(auto, unfolding(crate::specs::RefusalLine::unfit_text))]
 fn write_unfit(pid: u16, size: u32, rx: u32, main: u32, text: &mut String) -> Result<(), AllocError>
     ensures { OnOk result (string_bytes text.new ≡ string_bytes text.old ++ spec.unfit_text pid size rx main) }
@@ -158,7 +158,7 @@ fn write_unfit(pid: u16, size: u32, rx: u32, main: u32, text: &mut String) -> Re
     )
 }
 
-// Greater buffers that would take units.
+// Appends greater buffers that would take units.
 #[tactic(auto, unfolding(crate::specs::RefusalLine::greater_text))]
 fn write_greater(pid: u16, rx: u32, main: u32, text: &mut String) -> Result<(), AllocError>
     ensures { OnOk result (string_bytes text.new ≡ string_bytes text.old ++ spec.greater_text pid rx main) }
@@ -166,7 +166,7 @@ fn write_greater(pid: u16, rx: u32, main: u32, text: &mut String) -> Result<(), 
     write!(text, "; --buffers {pid}:{rx}:{main} would carry it\n")
 }
 
-// The buffers that would take units that their own do not hold, if there are any.
+// Appends the buffers that would take units, if the stream's own buffers do not hold them and greater buffers do.
 #[tactic(auto, unfolding(crate::specs::RefusalLine::way_text))]
 fn write_way(pid: u16, way: Option<GreaterBuffers>, text: &mut String) -> Result<(), AllocError>
     ensures { OnOk result (string_bytes text.new ≡ string_bytes text.old ++ spec.way_text pid way) }
@@ -177,7 +177,7 @@ fn write_way(pid: u16, way: Option<GreaterBuffers>, text: &mut String) -> Result
     }
 }
 
-// Units that are too large for their buffers.
+// Appends units that are too large for their buffers.
 #[tactic(auto, unfolding(crate::specs::RefusalLine::refusal_line))]
 fn write_buffers(
     pid: u16,
@@ -194,7 +194,7 @@ fn write_buffers(
     write_way(pid, way, text)
 }
 
-// A description that is refused.
+// Appends that the description is refused.
 #[tactic(auto, unfolding(crate::specs::RefusalLine::refusal_line))]
 fn write_description(fault: DescFault, text: &mut String) -> Result<(), AllocError>
     ensures { OnOk result
@@ -204,7 +204,7 @@ fn write_description(fault: DescFault, text: &mut String) -> Result<(), AllocErr
     write_fault(&[], fault, text)
 }
 
-// The first program that is named.
+// Appends the first program named.
 #[tactic(auto, unfolding(crate::specs::RefusalLine::first_text))]
 fn write_first(number: Option<u16>, text: &mut String) -> Result<(), AllocError>
     ensures { OnOk result (string_bytes text.new ≡ string_bytes text.old ++ spec.first_text number) }
@@ -215,7 +215,7 @@ fn write_first(number: Option<u16>, text: &mut String) -> Result<(), AllocError>
     }
 }
 
-// A program after it.
+// Appends a further program.
 #[tactic(auto, unfolding(crate::specs::RefusalLine::next_text))]
 fn write_next(number: Option<u16>, text: &mut String) -> Result<(), AllocError>
     ensures { OnOk result (string_bytes text.new ≡ string_bytes text.old ++ spec.next_text number) }
@@ -226,7 +226,7 @@ fn write_next(number: Option<u16>, text: &mut String) -> Result<(), AllocError>
     }
 }
 
-// How many programs follow the first four.
+// Appends how many programs follow the first four.
 #[tactic(auto, unfolding(crate::specs::RefusalLine::more_text))]
 fn write_more(count: usize, text: &mut String) -> Result<(), AllocError>
     ensures { OnOk result (string_bytes text.new ≡ string_bytes text.old ++ spec.more_text count) }
@@ -250,7 +250,7 @@ pub fn write_named(there: NamedNumbers, text: &mut String) -> Result<(), AllocEr
     write_more(there.count, text)
 }
 
-// No program that is asked for.
+// Appends that the stream has no program that the options select.
 #[tactic(auto, unfolding(crate::specs::RefusalLine::refusal_line))]
 fn write_no_program(there: NamedNumbers, text: &mut String) -> Result<(), AllocError>
     ensures { OnOk result

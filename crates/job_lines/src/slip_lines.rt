@@ -7,7 +7,7 @@ use packet_sync::{OtherPackets, Slip};
 use std::alloc::AllocError;
 use std::fmt::Write;
 
-// The line of a slip.
+// Appends the line of a slip.
 #[tactic(auto, unfolding(crate::specs::SlipLines::slip_line))]
 fn write_slip(slip: &Slip, text: &mut String) -> Result<(), AllocError>
     ensures { OnOk result (string_bytes text.new ≡ string_bytes text.old ++ spec.slip_line slip.now) }

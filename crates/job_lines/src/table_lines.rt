@@ -10,7 +10,7 @@ use other_tables::{OtherTable, TableKind};
 use std::alloc::{AllocError, Global};
 use std::fmt::Write;
 
-// The name of a table.
+// Returns the name of a table.
 #[tactic(auto, unfolding(crate::specs::TableLines::kind_name))]
 fn kind_name(kind: TableKind) -> &'static str
     ensures { result.now ≡ spec.kind_name kind }
@@ -29,7 +29,7 @@ fn kind_name(kind: TableKind) -> &'static str
     }
 }
 
-// The line of a table.
+// Appends the line of a table.
 #[tactic(auto, unfolding(crate::specs::TableLines::other_table_line))]
 fn write_other_table(table: &OtherTable, text: &mut String) -> Result<(), AllocError>
     ensures { OnOk result (string_bytes text.new ≡ string_bytes text.old ++ spec.other_table_line table.now) }
@@ -50,7 +50,7 @@ pub fn write_other_tables(tables: &[OtherTable], text: &mut String) -> Result<()
     Ok(())
 }
 
-// Returns whether a table is reported: it is not carried, and all are reported or a viewer loses something without it.
+// Returns whether a table is reported: it is not carried, and `all` is set or a viewer loses something without it.
 fn is_told(all: bool, input: &JobInput, table: &OtherTable) -> bool
     ensures { result ≡ spec.is_told all input.now table.now }
 {

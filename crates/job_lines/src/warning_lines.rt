@@ -14,7 +14,7 @@ use std::alloc::{AllocError, Global};
 use std::fmt::Write;
 use stream_programs::TableOmission;
 
-// The line for what is left out of the tables.
+// Appends the line for an item of the tables that is left out.
 #[tactic(auto, unfolding(crate::specs::WarningLines::table_line))]
 fn write_table(left_out: TableOmission, text: &mut String) -> Result<(), AllocError>
     ensures { OnOk result (string_bytes text.new ≡ string_bytes text.old ++ spec.table_line left_out) }
@@ -66,7 +66,7 @@ fn write_table(left_out: TableOmission, text: &mut String) -> Result<(), AllocEr
     }
 }
 
-// Why a finding on a PID is in no unit.
+// Appends why a finding on a PID is in no unit.
 #[tactic(auto, unfolding(crate::specs::WarningLines::reason_text))]
 fn write_reason(cause: UnitWarningCause, text: &mut String) -> Result<(), AllocError>
     ensures { OnOk result (string_bytes text.new ≡ string_bytes text.old ++ spec.reason_text cause) }
@@ -98,7 +98,7 @@ fn write_reason(cause: UnitWarningCause, text: &mut String) -> Result<(), AllocE
     }
 }
 
-// The line for a stream with a stream_id that can't be written.
+// Appends the line for a stream with a stream_id that can't be written.
 #[tactic(auto, unfolding(crate::specs::WarningLines::id_line))]
 fn write_id(
     program: u16,
@@ -115,7 +115,7 @@ fn write_id(
     )
 }
 
-// The line for a finding on a PID.
+// Appends the line for a finding on a PID.
 fn write_unit(pid: u16, warning: UnitWarning, text: &mut String) -> Result<(), AllocError>
     ensures { OnOk result (string_bytes text.new ≡ string_bytes text.old ++ spec.unit_line pid warning) }
 {
@@ -124,7 +124,7 @@ fn write_unit(pid: u16, warning: UnitWarning, text: &mut String) -> Result<(), A
     write_reason(warning.cause, text)
 }
 
-// What is said of a packet, after its number.
+// Returns the words about a packet, after its number.
 #[tactic(auto, unfolding(crate::specs::WarningLines::packet_text))]
 fn packet_text(what: PacketWarning) -> &'static str
     ensures { result.now ≡ spec.packet_text what }
@@ -139,7 +139,7 @@ fn packet_text(what: PacketWarning) -> &'static str
     }
 }
 
-// The line for a packet.
+// Appends the line for a packet.
 #[tactic(auto, unfolding(crate::specs::WarningLines::packet_line))]
 fn write_packet(packet: u64, what: PacketWarning, text: &mut String) -> Result<(), AllocError>
     ensures { OnOk result (string_bytes text.new ≡ string_bytes text.old ++ spec.packet_line packet what) }
@@ -148,7 +148,7 @@ fn write_packet(packet: u64, what: PacketWarning, text: &mut String) -> Result<(
     text.push_str(packet_text(what))
 }
 
-// In what the map of a program is other, after its number.
+// Returns the part of a program's map that differs, for the line after the program's number.
 #[tactic(auto, unfolding(crate::specs::WarningLines::map_text))]
 fn map_text(part: MapPart) -> &'static str
     ensures { result.now ≡ spec.map_text part }
@@ -159,7 +159,7 @@ fn map_text(part: MapPart) -> &'static str
     }
 }
 
-// The line for the map of a program.
+// Appends the line for the map of a program.
 #[tactic(auto, unfolding(crate::specs::WarningLines::map_line))]
 fn write_map(program: u16, packet: u64, part: MapPart, text: &mut String) -> Result<(), AllocError>
     ensures { OnOk result (string_bytes text.new ≡ string_bytes text.old ++ spec.map_line program packet part) }
@@ -168,7 +168,7 @@ fn write_map(program: u16, packet: u64, part: MapPart, text: &mut String) -> Res
     text.push_str(map_text(part))
 }
 
-// What is said of a program that is not there, before the programs that are.
+// Appends that a selected program is missing, before the list of programs.
 #[tactic(auto, unfolding(crate::specs::WarningLines::missing_front))]
 fn write_missing_front(program: u16, text: &mut String) -> Result<(), AllocError>
     ensures { OnOk result (string_bytes text.new ≡ string_bytes text.old ++ spec.missing_front program) }
@@ -176,7 +176,7 @@ fn write_missing_front(program: u16, text: &mut String) -> Result<(), AllocError
     write!(text, "program {program} is not there; the PAT names ")
 }
 
-// The line for a program that is not there.
+// Appends the line for a program that is not there.
 #[tactic(auto, unfolding(crate::specs::WarningLines::missing_line))]
 fn write_missing(program: u16, named: NamedNumbers, text: &mut String) -> Result<(), AllocError>
     ensures { OnOk result (string_bytes text.new ≡ string_bytes text.old ++ spec.missing_line program named) }
@@ -185,7 +185,7 @@ fn write_missing(program: u16, named: NamedNumbers, text: &mut String) -> Result
     write_named(named, text)
 }
 
-// The line for a program.
+// Appends the line for a program.
 #[tactic(auto, unfolding(crate::specs::WarningLines::program_line))]
 fn write_program(program: u16, what: ProgramWarning, text: &mut String) -> Result<(), AllocError>
     ensures { OnOk result (string_bytes text.new ≡ string_bytes text.old ++ spec.program_line program what) }
@@ -203,7 +203,7 @@ fn write_program(program: u16, what: ProgramWarning, text: &mut String) -> Resul
     }
 }
 
-// The line for the buffer that a stream says.
+// Appends the line for the buffer size in a stream's own headers.
 #[tactic(auto, unfolding(crate::specs::WarningLines::header_line))]
 fn write_header_buffer(
     pid: u16,
@@ -220,7 +220,7 @@ fn write_header_buffer(
     )
 }
 
-// The line for the leak that nothing keeps.
+// Appends the line for the leak that nothing keeps.
 #[tactic(auto, unfolding(crate::specs::WarningLines::leak_line))]
 fn write_leak(pid: u16, rate: u64, leak: u32, text: &mut String) -> Result<(), AllocError>
     ensures { OnOk result (string_bytes text.new ≡ string_bytes text.old ++ spec.leak_line pid rate leak) }
@@ -231,7 +231,7 @@ fn write_leak(pid: u16, rate: u64, leak: u32, text: &mut String) -> Result<(), A
     )
 }
 
-// The line for access units that a main buffer does not hold one by one.
+// Appends the line for access units that a main buffer does not hold one by one.
 #[tactic(auto, unfolding(crate::specs::WarningLines::frames_line))]
 fn write_frames(pid: u16, frames: u8, text: &mut String) -> Result<(), AllocError>
     ensures { OnOk result (string_bytes text.new ≡ string_bytes text.old ++ spec.frames_line pid frames) }
@@ -242,7 +242,7 @@ fn write_frames(pid: u16, frames: u8, text: &mut String) -> Result<(), AllocErro
     )
 }
 
-// The lines for a stream that is left out.
+// Appends the lines for a stream that is left out.
 #[tactic(auto, unfolding(crate::specs::WarningLines::left_out_line))]
 fn write_left_out(pid: u16, why: JobRefusal, text: &mut String) -> Result<(), AllocError>
     ensures { OnOk result (string_bytes text.new ≡ string_bytes text.old ++ spec.left_out_line pid why) }
@@ -251,7 +251,7 @@ fn write_left_out(pid: u16, why: JobRefusal, text: &mut String) -> Result<(), Al
     write!(text, "pid {pid} left out\n")
 }
 
-// The line of a warning.
+// Appends the line of a warning.
 #[tactic(auto, unfolding(crate::specs::WarningLines::warning_line))]
 fn write_warning(warning: Warning, text: &mut String) -> Result<(), AllocError>
     ensures { OnOk result (string_bytes text.new ≡ string_bytes text.old ++ spec.warning_line warning) }
@@ -311,7 +311,7 @@ fn is_unknown_end(cause: UnitWarningCause) -> bool
     }
 }
 
-// Whether a warning is that the end of a PES packet is not known.
+// Returns whether a warning is that the end of a PES packet is not known.
 fn is_open_ended(warning: &Warning) -> bool
     ensures { result ≡ spec.is_open_ended warning.now }
 {
@@ -346,7 +346,7 @@ pub fn told_warnings(
     Ok(told)
 }
 
-// Whether a run of packets with this cause has one line: whether they are stray and not scrambled.
+// Returns whether a run of packets with this cause has one line: whether they are stray and not scrambled.
 fn run_cause(cause: UnitWarningCause) -> Option<bool>
     ensures { result ≡ spec.run_cause cause }
 {
@@ -357,7 +357,7 @@ fn run_cause(cause: UnitWarningCause) -> Option<bool>
     }
 }
 
-// The run of a warning: its PID, and whether its packets are stray.
+// Returns the run of a warning: its PID, and whether its packets are stray.
 fn run_of(warning: Warning) -> Option<(u16, bool)>
     ensures { result ≡ spec.run_of warning }
 {
@@ -370,7 +370,7 @@ fn run_of(warning: Warning) -> Option<(u16, bool)>
     }
 }
 
-// Whether a packet is of the same run as the one in the warning before it.
+// Returns whether a packet is of the same run as the packet in the warning before.
 fn goes_on(before: Option<(u16, bool)>, now: Option<(u16, bool)>) -> bool
     ensures { result ≡ spec.goes_on before now }
 {
@@ -383,7 +383,7 @@ fn goes_on(before: Option<(u16, bool)>, now: Option<(u16, bool)>) -> bool
     }
 }
 
-// The line of a warning, unless it is of the same run of packets as the one before.
+// Appends the line of a warning, unless its packet is of the same run as the packet of the warning before.
 fn write_after(
     before: Option<(u16, bool)>,
     warning: Warning,
@@ -409,7 +409,7 @@ pub fn write_warnings(all: &[Warning], text: &mut String) -> Result<(), AllocErr
     Ok(())
 }
 
-/// Returns whether any of the warnings says that something is lost.
+/// Returns whether any of the warnings reports a loss.
 pub fn is_damaged(warnings: &[Warning]) -> bool
     ensures { result ≡ are_damaged warnings.now }
 {

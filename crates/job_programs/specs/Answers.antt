@@ -29,7 +29,7 @@ unfoldable pub Answers : {A : Type 0} → Result A JobRefusal → Result A JobEr
 Answers answer (Ok value) = answer ≡ Ok value
 Answers answer (Err error) = Refuses answer error
 
--- a call gives that from which these steps lead to exactly this, unless it is out of memory or refuses the same
+-- the steps `next` lead from a call's value to exactly this answer, unless the call is out of memory or gives the same refusal
 unfoldable pub Leads : {A B : Type 0} → Result B JobRefusal → (A → Result B JobRefusal) → Result A JobError → Type 0
 Leads answer next (Ok value) = answer ≡ next value
 Leads answer next (Err error) = Refuses answer error

@@ -7,7 +7,7 @@ use Rattle.given_values.specs.declared.clock_base.ClockBase.TheVariants.{Lasting
 unfoldable pub lasts : ℕ → Bool
 lasts base = nat_le (base + 3_888_000_000) (2 ^ 33)
 
--- by what is asked for, and what the clock of the first stream shows
+-- the clock at the begin, by the option and by the clock of the first stream
 unfoldable pub base0_of : ClockBase → ℕ → ℕ
 base0_of Lasting own = if lasts own then own else 0
 base0_of Input own = own

@@ -1,7 +1,7 @@
 -- The events of a job's programs, the moment at which its run begins, and what of service information is left out.
 use Rattle.std.specs.Prelude.{ℕ, List, map, slice_get, codes, Option, Some, None, option_map, flat_map}
 use Rattle.std.specs.Option.{option_or}
-use Rattle.demux.specs.Views.{FindingView}
+use Rattle.pid_findings.specs.Views.{FindingView}
 use Rattle.job_text.specs.DescriptionParts.{EventPartView}
 use Rattle.service_information.specs.CivilTimes.{civil_text}
 use Rattle.service_information.specs.Events.{FoundEventView, stream_events}
@@ -19,7 +19,7 @@ numbers_of programs = map (λ p. p.number) programs
 unfoldable pub job_events : List FindingView → List JobProgramView → List FoundEventView
 job_events findings programs = stream_events (numbers_of programs) findings
 
--- 1. The moment of the first slot: the one that is given, else that of the stream, else the start of the first event
+-- 1. The moment of the first slot: the given moment, otherwise the stream's, otherwise the start of the first event
 
 unfoldable pub first_start : List FoundEventView → Option ℕ
 first_start events = option_map (λ e. e.start) (slice_get events 0)

@@ -1,7 +1,7 @@
 -- The units of a stream at the moments of a run.
 use Rattle.std.specs.Prelude.{◌≡◌, ◌≤◌, ◌<◌, ℕ, ◌^◌, Bool, true, false, None, List, map, length}
 use Rattle.pes_packet.specs.AccessUnits.{AccessUnit}
-use Rattle.demux.specs.Views.{FindingView}
+use Rattle.pid_findings.specs.Views.{FindingView}
 use Rattle.es_moments.specs.ApartUnits.{apart_units}
 use Rattle.es_units.specs.CarriedUnits.{carried_units}
 use Rattle.es_moments.specs.MadeDts.{made_units}
@@ -31,7 +31,7 @@ pub record AreFound (made : Bool) (findings : List FindingView) (pid : ℕ) (us 
   pub base : ℕ
   pub moved : AreMoved (map (λ w. w.unit) (source_of made pid findings)) base us
 
--- the units of a stream are those that are found of its PID
+-- the units of a stream are the units found on its PID
 abbrev pub IsCarried : Bool → List FindingView → WireStreamView → Type 0
 IsCarried made findings s = s.units ≡ source_of made s.pid findings
 

@@ -2,7 +2,7 @@
 use Rattle.std.specs.Prelude.{ℕ, ◌||◌, Bool, List, [], map, is_some, unwrap_or, Option, Some, None, option_map}
 use Rattle.std.specs.Option.{option_or}
 use Rattle.std.specs.List.{list_any}
-use Rattle.demux.specs.Views.{FindingView}
+use Rattle.pid_findings.specs.Views.{FindingView}
 use Rattle.job_text.specs.DescriptionParts.{EventPartView, NetworkPartView}
 use Rattle.ts_services.specs.NetworkInformation.{FoundNetworkView, stream_network}
 use Rattle.ts_services.specs.Networks.{network}
@@ -29,7 +29,7 @@ pub record JobInformationView : Type 0 where
 
 -- 1. The service description table
 
--- a service of one of these programs is described, or given a name
+-- whether the service of a program is described, or is given a name
 unfoldable pub has_service : List ServiceNameView → List FindingView → ℕ → Bool
 has_service names findings number = is_some (service number findings) || is_some (name_given number names)
 
@@ -38,7 +38,7 @@ has_services names findings programs = list_any (λ p. has_service names finding
 
 -- 2. The network
 
--- original_network_id: the one that is given, that of the services, or that of the network information table
+-- original_network_id: the given one, otherwise the services', otherwise the network information table's
 unfoldable pub original_of : Option NetworkNameView → ℕ → List FindingView → Option ℕ
 original_of given id findings = option_or (option_or (original_given given) (network findings)) (option_map (λ n. n.original) (stream_network id findings))
 
@@ -46,7 +46,7 @@ original_of given id findings = option_or (option_or (original_given given) (net
 unfoldable pub network_of : NetworkNameView → NetworkPartView
 network_of n = record { id = n.id; name = n.name; descriptors = [] }
 
--- that of the stream, its name with at most 200 bytes
+-- the stream's network, its name with at most 200 bytes
 unfoldable pub network_found : FoundNetworkView → NetworkPartView
 network_found n = record { id = n.id; name = decode_text 200 n.name; descriptors = n.descriptors }
 

@@ -2,7 +2,7 @@
 use Rattle.std.specs.Prelude.{ℕ, ◌==◌, ◌||◌, ◌&&◌, Bool, false, is_none, if◌then◌else◌, List, [], ◌∷◌, map, filter, find, flat_map, zip, Option, Some, None}
 use Rattle.std.specs.Prelude.{length, option_map, slice_get}
 use Rattle.std.specs.List.{list_any}
-use Rattle.demux.specs.Views.{FindingView}
+use Rattle.pid_findings.specs.Views.{FindingView}
 use Rattle.psi_tables.specs.declared.pat.programs.Program.{Program}
 use Rattle.stream_programs.specs.Programs.{FoundProgramView}
 use Rattle.ts_services.specs.Services.{FoundServiceView, service}
@@ -41,7 +41,7 @@ unfoldable pub clock_if : ℕ → Option JobProgramView → ProgramClock
 clock_if number None = Own number
 clock_if number (Some p) = p.clock
 
--- of programs that of the first one of a number
+-- the clock of the first program with a number
 unfoldable pub clock_in : List JobProgramView → ℕ → ProgramClock
 clock_in programs number = clock_if number (find (λ p. p.number == number) programs)
 
@@ -49,7 +49,7 @@ clock_in programs number = clock_if number (find (λ p. p.number == number) prog
 unfoldable pub has_stream : List WireStreamView → FoundProgramView × ProgramPids → Bool
 has_stream streams p = list_any (is_stream_of p.0.number) streams
 
--- those that have one, each with the PIDs that it is given
+-- the programs with a stream, each with the PIDs that it is given
 abbrev pub job_programs : List WireStreamView → List FoundProgramView → List ProgramPids → List JobProgramView
 job_programs streams programs assigned = map program_with_pids (filter (has_stream streams) (zip programs assigned))
 
@@ -68,7 +68,7 @@ is_unread given None = false
 is_unread None (Some s) = has_unread s.provider || has_unread s.name
 is_unread (Some n) (Some s) = is_none n.provider && has_unread s.provider
 
--- that of a program's service
+-- the warning about the texts of a program's service
 unfoldable pub text_warning : List ServiceNameView → List FindingView → JobProgramView → List Warning
 text_warning names findings p = if is_unread (name_given p.number names) (service p.number findings) then warning.Program p.number UnreadText ∷ [] else []
 

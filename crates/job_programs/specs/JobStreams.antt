@@ -5,8 +5,7 @@ use Rattle.pes_packet.specs.AccessUnits.{AccessUnit}
 use Rattle.job_programs.specs.JobOptions.{is_among}
 use Rattle.es_moments.specs.WireUnits.{CarriedUnit}
 
--- an elementary stream of a program: what its map says, the stream_id of its PES packets, the other programs that share it, and its
--- units
+-- an elementary stream of a program: what its map says, the stream_id of its PES packets, the further programs that share it, and its units
 pub record JobStreamView (U : Type 0) : Type 0 where
   pub program : ℕ
   pub pid : ℕ

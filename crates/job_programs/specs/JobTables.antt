@@ -4,7 +4,7 @@ use Rattle.std.specs.Prelude.{slice_get, unwrap_or, Option, Some, None, option_m
 use Rattle.std.specs.Int.{div_ceil}
 use Rattle.std.specs.List.{list_any}
 use Rattle.pes_packet.specs.AccessUnits.{AccessUnit}
-use Rattle.demux.specs.Views.{FindingView}
+use Rattle.pid_findings.specs.Views.{FindingView}
 use Rattle.job_text.specs.DescriptionParts.{TablePartView}
 use Rattle.job_text.specs.Texts.{table_text}
 use Rattle.other_tables.specs.SteadySections.{SteadySectionsView, steady_sections}
@@ -18,8 +18,8 @@ use Rattle.job_programs.specs.JobPrograms.{JobProgramView}
 use Rattle.job_programs.specs.JobStreams.{TimedStreamView, WireStreamView, is_stream_of}
 use Rattle.es_moments.specs.WireUnits.{CarriedUnit}
 
--- what the map of its program says, the sections in the order in which they come first, the greatest number of packets from one start of a
--- section to the next, and the packets from the first unit of the program's first stream to its last
+-- what the map of its program says, the sections in the order of their first appearance, the greatest number of packets from one start of a
+-- section to the next, and the packets from the first unit of the program's first stream to its last unit
 pub record JobTableView : Type 0 where
   pub program : ℕ
   pub pid : ℕ
@@ -29,9 +29,9 @@ pub record JobTableView : Type 0 where
   pub gap : ℕ
   pub packets : ℕ
 
--- 1. How far apart sections come in time
+-- 1. The time between sections
 
--- the packet in which one of some units begins; 0 where there is none
+-- the packet in which the unit at an index begins; 0 if there is no such unit
 unfoldable pub packet_at : List CarriedUnit → ℕ → ℕ
 packet_at units index = unwrap_or (option_map (λ u. u.packet) (slice_get units index)) 0
 
@@ -39,7 +39,7 @@ packet_at units index = unwrap_or (option_map (λ u. u.packet) (slice_get units 
 unfoldable pub packet_span : List CarriedUnit → ℕ
 packet_span units = packet_at units (length units - 1) - packet_at units 0
 
--- the DTS of one of some units; 0 where there is none
+-- the DTS of the unit at an index; 0 if there is no such unit
 unfoldable pub dts_at : List AccessUnit → ℕ → ℕ
 dts_at units index = unwrap_or (option_map (λ u. u.dts) (slice_get units index)) 0
 
@@ -47,7 +47,7 @@ dts_at units index = unwrap_or (option_map (λ u. u.dts) (slice_get units index)
 unfoldable pub tick_span : List AccessUnit → ℕ
 tick_span units = dts_at units (length units - 1) - dts_at units 0
 
--- the time of a number of packets where others of a stream take so many ticks, in ms, up; 1 to 30,000, which is what it is where no packets are known
+-- the time of `gap` packets, if `packets` packets take `ticks`, in ms, rounded up, from 1 to 30,000; 30,000 if no packets are known
 unfoldable pub limit_of : ℕ → ℕ → ℕ → ℕ
 limit_of gap packets ticks = if packets == 0 then 30_000 else max 1 (min 30_000 (div_ceil (gap * ticks) (packets * 90)))
 
@@ -76,7 +76,7 @@ table_if streams e (Some steady) = table_of streams e steady ∷ []
 abbrev pub most_descriptors : ℕ
 most_descriptors = 700
 
--- it is not left out, its program is one of these, and its descriptors have room in a description
+-- whether a table can be taken: it is not left out, its program is taken, and its descriptors have room in a description
 unfoldable pub can_take : List ℕ → List JobProgramView → FoundStreamView → Bool
 can_take without programs e = is_selected_stream without e && (list_any (λ p. p.number == e.program) programs && nat_le (length e.descriptors) most_descriptors)
 
@@ -89,13 +89,13 @@ tables_on without count findings programs streams e =
 unfoldable pub job_tables : List ℕ → ℕ → List FindingView → List JobProgramView → List WireStreamView → List FoundStreamView → List JobTableView
 job_tables without count findings programs streams entries = take 16 (flat_map (tables_on without count findings programs streams) entries)
 
--- 3. What is no longer told
+-- 3. Warnings that tables make void
 
--- sections of this program and PID are carried
+-- whether sections of this program and PID are carried
 unfoldable pub has_table : List JobTableView → ℕ → ℕ → Bool
 has_table tables program pid = list_any (λ t. t.program == program && t.pid == pid) tables
 
--- of what is left out of the tables
+-- whether an omission of the tables still holds
 unfoldable pub is_left_out : List JobTableView → TableOmission → Bool
 is_left_out tables (NoPes program pid stream_type) = not (has_table tables program pid)
 is_left_out tables _ = true

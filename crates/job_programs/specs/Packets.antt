@@ -1,6 +1,6 @@
--- Whether a stream is one of packets of 188 bytes (ISO/IEC 13818-1, 2.4.3.2).
+-- Whether a stream has packets of 188 bytes (ISO/IEC 13818-1, 2.4.3.2).
 use Rattle.std.specs.Prelude.{ℕ, ◌/◌, nat_lt, Bool, true, false, if◌then◌else◌, List, count_by, Option, Some, None}
-use Rattle.demux.specs.Views.{WhatView, IsBadPacket, FindingView}
+use Rattle.pid_findings.specs.Views.{WhatView, IsBadPacket, FindingView}
 use Rattle.job_programs.specs.declared.refusal.JobRefusal.{JobRefusal}
 use Rattle.job_programs.specs.declared.refusal.JobRefusal.TheVariants.{NoPackets}
 

@@ -1,10 +1,10 @@
--- By which clock the time stamps of a program count (ISO/IEC 13818-1, 2.4.2.2).
+-- The clock of a program's time stamps (ISO/IEC 13818-1, 2.4.2.2).
 use Rattle.std.specs.Prelude.{ℕ, ◌==◌, Bool, false, if◌then◌else◌}
 use Rattle.job_programs.specs.declared.program_clock.ProgramClock.{ProgramClock}
 use Rattle.job_programs.specs.declared.program_clock.ProgramClock.TheVariants.{References, Own}
 
--- that of a program whose map names this PID for its clock references (2.4.4.9): programs with one such PID have one clock, and a
--- program without references (0x1FFF) has one of its own
+-- the clock of a program with this PCR_PID (2.4.4.9): programs with the same PCR_PID share one clock, and a program without references
+-- (0x1FFF) has its own
 unfoldable pub clock_by : ℕ → ℕ → ProgramClock
 clock_by number pcr_pid = if pcr_pid == 8191 then Own number else References pcr_pid
 

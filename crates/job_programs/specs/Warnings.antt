@@ -1,9 +1,9 @@
--- Warnings about a stream that is not taken as it stands.
+-- Warnings about a stream that is not taken as it is.
 use Rattle.std.specs.Prelude.{ℕ, ◌==◌, Bool, true, false, is_some, if◌then◌else◌, List, [], ◌∷◌, ◌++◌, length, map, flat_map, Option, Some, None}
 use Rattle.std.specs.Prelude.{option_to_list}
 use Rattle.std.specs.List.{list_any}
 use Rattle.psi_tables.specs.declared.pat.programs.Program.{Program}
-use Rattle.demux.specs.Views.{WhatView, IsTruncated, IsBadPacket, IsErrored, FindingView}
+use Rattle.pid_findings.specs.Views.{WhatView, IsTruncated, IsBadPacket, IsErrored, FindingView}
 use Rattle.program_tables.specs.Association.{AssociationView, association_change, is_named}
 use Rattle.ts_services.specs.NetworkInformation.{FoundNetworkView, network_surplus, stream_network}
 use Rattle.stream_programs.specs.Omissions.{is_loss}
@@ -25,7 +25,7 @@ use Rattle.job_programs.specs.declared.warning.PacketWarning.TheVariants.{Bad, E
 use Rattle.job_programs.specs.declared.warning.ProgramWarning.{ProgramWarning}
 use Rattle.job_programs.specs.declared.warning.ProgramWarning.TheVariants.{Missing, NoStream, UnreadText}
 
--- 1. Packets: what is found on no PID
+-- 1. Packets: findings on no PID
 
 unfoldable pub packet_warning_of : ℕ → WhatView → List Warning
 packet_warning_of packet (IsBadPacket error) = warning.Packet packet Bad ∷ []
@@ -52,7 +52,7 @@ map_warnings part findings p = map (λ packet. warning.Map p.program_number pack
 abbrev pub all_map_warnings : MapPart → List FindingView → List Program → List Warning
 all_map_warnings part findings named = flat_map (map_warnings part findings) named
 
--- 3. Units: what is found on a PID and is in none, in a stream of `count` whole packets
+-- 3. Units: findings on a PID that are in no unit, in a stream of `count` whole packets
 
 unfoldable pub pid_warnings : ℕ → List FindingView → ℕ → List Warning
 pid_warnings count findings pid = map (warning.Units pid) (unit_warnings pid count findings)

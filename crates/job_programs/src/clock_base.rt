@@ -9,7 +9,7 @@ use given_values::ClockBase;
 /// 12 hours in units of 90 kHz.
 const TWELVE_HOURS: u64 = 3_888_000_000;
 
-// Whether a clock that shows this does not pass the end of its 33 bits within 12 hours.
+// Returns whether a clock that shows this does not pass the end of its 33 bits within 12 hours.
 #[tactic(auto, unfolding(crate::specs::ClockBases::lasts))]
 fn lasts(base: u64) -> bool
     ensures { result ≡ spec.lasts base }
@@ -17,7 +17,7 @@ fn lasts(base: u64) -> bool
     base <= STAMP_MODULUS - TWELVE_HOURS
 }
 
-/// Returns what the system clock shows as a run begins, by what is asked for and by the first program's clock.
+/// Returns the system clock at the start of a run, as the options choose it; `own` is the clock of the first program.
 #[tactic(auto, unfolding(crate::specs::ClockBases::base0_of))]
 pub fn base0_of(base: ClockBase, own: u64) -> u64
     ensures { result ≡ spec.base0_of base own }

@@ -6,7 +6,7 @@ ghost use Rattle.job_programs.specs.GivenNames as spec;
 
 use given_values::{NetworkName, ServiceName};
 
-/// The first name that is given to the service of a program.
+/// Returns the first name that is given to the service of a program.
 #[tactic(auto, unfolding(crate::specs::GivenNames::name_given))]
 pub(crate) fn name_given<'a, 'b>(
     number: u16,
@@ -17,7 +17,7 @@ pub(crate) fn name_given<'a, 'b>(
     names.iter().find(|name| name.program == number)
 }
 
-/// original_network_id, if it is given.
+/// Returns original_network_id, if an option gives it.
 #[tactic(auto, unfolding(crate::specs::GivenNames::original_given))]
 pub(crate) fn original_given(network: Option<NetworkName<'_>>) -> Option<u16>
     ensures { result ≡ spec.original_given (option_map network_name_view network.entry) }

@@ -1,7 +1,7 @@
 //! What the description of a job says of the transport stream as a whole.
 
 ghost use Rattle.std.specs.Prelude.{◌≡◌, IfOk, map};
-ghost use Rattle.demux.specs.Shown.{finding_view};
+ghost use Rattle.pid_findings.specs.Shown.{finding_view};
 ghost use Rattle.job_programs.specs.Information as spec;
 
 use crate::job_events::{JobEvent, event_parts, job_events, start_of};
@@ -9,13 +9,13 @@ use crate::job_network::{JobNetwork, network_or, original_of};
 use crate::job_options::JobOptions;
 use crate::job_programs::JobProgram;
 use crate::named_service::{NamedService, has_services, services_of};
-use demux::Finding;
+use pid_findings::Finding;
 use service_information::stream_time;
 use std::alloc::{AllocError, Global};
 use std::marker::Model;
 use ts_services::{found_services, stream_network};
 
-/// original_network_id where nothing says it (ETSI TS 101 162: 0xFF00 to 0xFFFF are for private
+/// original_network_id if neither an option nor the stream gives it (ETSI TS 101 162: 0xFF00 to 0xFFFF are for private
 /// use).
 const PRIVATE_NETWORK: u16 = 0xff01;
 
@@ -55,7 +55,7 @@ impl Model for JobInformation {
     } };
 }
 
-/// Returns what is said of a stream with this transport_stream_id and these programs.
+/// Returns the information on a transport stream with this transport_stream_id and these programs.
 #[tactic(auto, unfolding(crate::specs::Information::information_of))]
 pub fn information_of(
     alloc: Global,

@@ -1,7 +1,7 @@
 //! The events of a job's programs, the moment at which its run begins, and what of service information is left out.
 
 ghost use Rattle.std.specs.Prelude.{◌≡◌, ◌++◌, IfOk, OnOk, map, option_map, string_bytes};
-ghost use Rattle.demux.specs.Shown.{finding_view};
+ghost use Rattle.pid_findings.specs.Shown.{finding_view};
 ghost use Rattle.job_text.specs.Texts.{event_text};
 ghost use Rattle.job_programs.specs.Events as spec;
 ghost use Rattle.job_programs.specs.declared.warning.Warning.TheVariants.{Information};
@@ -10,9 +10,9 @@ ghost use Rattle.job_programs.specs.Events.{events_text};
 use crate::job_programs::JobProgram;
 use crate::named_service::copied;
 use crate::warning::Warning;
-use demux::Finding;
 use dvb_texts::decode_text;
 use job_text::EventPart;
+use pid_findings::Finding;
 use service_information::{
     FoundEvent, InformationWarning, civil_text, information_warnings, stream_events, stream_time,
 };
@@ -31,7 +31,7 @@ const LONGEST_NAME: usize = 100;
 /// The most bytes of an event's text.
 const LONGEST_TEXT: usize = 150;
 
-// The numbers of programs.
+// Returns the numbers of programs.
 fn numbers_of(alloc: Global, programs: &[JobProgram]) -> Result<Vec<u16>, AllocError>
     ensures { IfOk result (λ numbers. numbers.items ≡ spec.numbers_of programs.now) }
 {
@@ -51,7 +51,7 @@ pub(crate) fn job_events<'f>(
     stream_events(alloc, &numbers, findings)
 }
 
-// When the first event begins.
+// Returns when the first event begins.
 #[tactic(auto, unfolding(crate::specs::Events::first_start))]
 fn first_start(events: &[FoundEvent<'_>]) -> Option<u32>
     ensures { result ≡ spec.first_start events.now }
@@ -62,7 +62,7 @@ fn first_start(events: &[FoundEvent<'_>]) -> Option<u32>
     }
 }
 
-// A moment as text, if there is one.
+// Returns a moment as text, if there is one.
 #[tactic(auto, unfolding(crate::specs::Events::start_found))]
 fn start_found(alloc: Global, moment: Option<u32>) -> Result<String, AllocError>
     ensures { IfOk result (λ text. string_bytes text ≡ spec.start_found moment) }
@@ -73,8 +73,8 @@ fn start_found(alloc: Global, moment: Option<u32>) -> Result<String, AllocError>
     }
 }
 
-/// Returns the moment of the first slot: the one that is given, else that of the stream's time and date table, else the
-/// start of the first of its events, else 2000-01-01T00:00:00.
+/// Returns the moment of the first slot: `given`, or the time in the stream's TDT, or the start of its first event, or
+/// 2000-01-01T00:00:00, in this order.
 #[tactic(auto, unfolding(crate::specs::Events::start_of))]
 pub(crate) fn start_of(
     alloc: Global,
@@ -121,7 +121,7 @@ impl Model for JobEvent {
     } };
 }
 
-// An event that is found.
+// Returns an event that is found.
 #[tactic(auto, unfolding(crate::specs::Events::event_part))]
 fn event_of(alloc: Global, event: &FoundEvent<'_>) -> Result<JobEvent, AllocError>
     ensures { IfOk result (λ e. e ≡ spec.event_part event.now) }
@@ -163,7 +163,7 @@ pub(crate) fn event_parts(
     Ok(events)
 }
 
-// The lines of an event.
+// Appends the lines of an event.
 fn write_event(event: &JobEvent, text: &mut String) -> Result<(), AllocError>
     ensures { OnOk result (string_bytes text.new ≡ string_bytes text.old ++ event_text event.now) }
 {

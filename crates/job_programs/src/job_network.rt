@@ -1,7 +1,7 @@
 //! The network of a job: the given network, or the stream's network.
 
 ghost use Rattle.std.specs.Prelude.{◌≡◌, ◌++◌, IfOk, OnOk, Some, map, option_map, option_to_list, string_bytes};
-ghost use Rattle.demux.specs.Shown.{finding_view};
+ghost use Rattle.pid_findings.specs.Shown.{finding_view};
 ghost use Rattle.job_text.specs.Texts.{network_if_any};
 ghost use Rattle.ts_services.specs.NetworkInformation.{found_network_view, network_surplus};
 ghost use Rattle.given_values.specs.GivenNames.{network_name_view};
@@ -11,10 +11,10 @@ ghost use Rattle.job_programs.specs.Warnings as spec_warnings;
 use crate::given_names::original_given;
 use crate::named_service::copied;
 use crate::warning::{PacketWarning, Warning};
-use demux::Finding;
 use dvb_texts::{decode_text, has_unread};
 use given_values::NetworkName;
 use job_text::NetworkPart;
+use pid_findings::Finding;
 use std::alloc::{AllocError, Global};
 use std::marker::Model;
 use ts_services::{FoundNetwork, network_surplus, original_network, stream_network};
@@ -22,7 +22,7 @@ use ts_services::{FoundNetwork, network_surplus, original_network, stream_networ
 /// The most bytes of a network's name, as written in a descriptor.
 const LONGEST_NAME: usize = 200;
 
-// original_network_id of the network that is found.
+// Returns original_network_id of the network found.
 fn original_found(network: Option<FoundNetwork<'_>>) -> Option<u16>
     ensures { result ≡ option_map (λ n. n.original) (option_map found_network_view network.entry) }
 {
@@ -32,7 +32,7 @@ fn original_found(network: Option<FoundNetwork<'_>>) -> Option<u16>
     }
 }
 
-/// original_network_id, if it is given or the stream says it.
+/// Returns original_network_id, from the option or else from the stream.
 #[tactic(auto, unfolding(crate::specs::Information::original_of))]
 pub(crate) fn original_of(
     given: Option<NetworkName<'_>>,
@@ -66,7 +66,7 @@ impl Model for JobNetwork {
     ghost view = { λ n. record { id = n.id; name = string_bytes n.name; descriptors = n.descriptors.items } };
 }
 
-// The network that is given.
+// Returns the network that is given.
 #[tactic(auto, unfolding(crate::specs::Information::network_of))]
 fn network_of(alloc: Global, network: NetworkName<'_>) -> Result<JobNetwork, AllocError>
     ensures { IfOk result (λ n. n ≡ spec.network_of (network_name_view network.entry)) }
@@ -78,7 +78,7 @@ fn network_of(alloc: Global, network: NetworkName<'_>) -> Result<JobNetwork, All
     })
 }
 
-// The network that is found.
+// Returns the network that is found.
 #[tactic(auto, unfolding(crate::specs::Information::network_found))]
 fn network_found(alloc: Global, network: FoundNetwork<'_>) -> Result<JobNetwork, AllocError>
     ensures { IfOk result (λ n. n ≡ spec.network_found (found_network_view network.entry)) }
@@ -93,7 +93,7 @@ fn network_found(alloc: Global, network: FoundNetwork<'_>) -> Result<JobNetwork,
     })
 }
 
-// The network that is found, if there is one.
+// Returns the network that is found, if there is one.
 fn network_if_found(
     alloc: Global,
     found: Option<FoundNetwork<'_>>,

@@ -73,7 +73,7 @@ impl<'a> Model for JobOptions<'a> {
     } };
 }
 
-/// Returns whether a number is one of these.
+/// Returns whether a number is among `numbers`.
 #[tactic(auto, unfolding(crate::specs::JobOptions::is_among))]
 pub fn is_among(number: u16, numbers: &[u16]) -> bool
     ensures { result ≡ is_among number numbers.now }

@@ -38,7 +38,7 @@ impl Model for JobProgram {
     } };
 }
 
-// The first of some programs that has a number.
+// Returns the first program with this number.
 fn first_of(programs: &[JobProgram], number: u16) -> Option<&JobProgram>
     ensures { option_map (λ p. p.now) result ≡ find (λ p. p.number == number) programs.now }
 {
@@ -56,7 +56,7 @@ pub fn clock_in(programs: &[JobProgram], number: u16) -> ProgramClock
     }
 }
 
-// Whether a program has a stream with units.
+// Returns whether a program has a stream with units.
 fn has_stream(streams: &[WireStream<'_>], number: u16) -> bool
     ensures { result ≡ list_any (is_stream_of number) streams.now }
 {
@@ -90,7 +90,7 @@ fn push_program_warnings(
     Ok(())
 }
 
-// A program with the PIDs that it is given.
+// Returns a program with the PIDs that it is given.
 #[tactic(auto, unfolding(crate::specs::JobPrograms::program_with_pids))]
 fn program_with_pids(program: FoundProgram, assigned: ProgramPids) -> JobProgram
     ensures { result ≡ spec.program_with_pids (program, assigned) }
@@ -125,8 +125,8 @@ fn push_program(
     Ok(())
 }
 
-/// Returns the programs with a stream that has units, each with the PIDs that it is given, and the warnings about the
-/// others.
+/// Returns the programs with a stream that has units, each with the PIDs assigned to it, and the warnings about
+/// programs without such a stream.
 pub fn job_programs(
     alloc: Global,
     streams: &[WireStream<'_>],

@@ -23,13 +23,13 @@ pub struct JobStream<U> {
     pub units: Vec<U>,
 }
 
-/// One whose units have the stamps on the wire, and their bytes where they were found.
+/// A stream whose units have the stamps on the wire, and their bytes in place in the findings.
 pub type WireStream<'f> = JobStream<FoundUnit<'f>>;
 
-/// One of whose units the moments alone are known.
+/// A stream with the moments of its units, without their bytes.
 pub type StreamMoments = JobStream<UnitMoment>;
 
-/// One whose units are at moments of a run.
+/// A stream whose units are at moments of a run.
 pub type TimedStream = JobStream<Unit>;
 
 // A contract sees its bytes and units as lists.

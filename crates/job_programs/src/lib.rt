@@ -1,8 +1,8 @@
 //! Options of a job, its programs, services and network; refusals and warnings.
 //!
 //! `JobOptions` has the options (`specs/JobOptions`, `specs/GivenNames`). The programs that they select have clocks
-//! (`specs/JobPrograms`, `specs/ProgramClocks`, `specs/ClockBases`), `JobStream` is a stream of one
-//! (`specs/JobStreams`), and `JobInformation` is what describes the transport stream as a whole (`specs/Information`,
+//! (`specs/JobPrograms`, `specs/ProgramClocks`, `specs/ClockBases`), `JobStream` is an elementary stream of a program
+//! (`specs/JobStreams`), and `JobInformation` describes the transport stream as a whole (`specs/Information`,
 //! `specs/Events`). `JobRefusal` says why there is no job, `Warning` what is not taken unchanged (`specs/Packets`,
 //! `specs/Warnings`). `specs/FoundUnits` says which units of a PID are found, and `specs/JobTables` which sections are
 //! carried.

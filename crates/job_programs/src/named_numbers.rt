@@ -6,7 +6,7 @@ ghost use Rattle.job_programs.specs.JobPrograms as spec;
 use crate::refusal::NamedNumbers;
 use psi_tables::Program;
 
-// The number of the program at a place.
+// Returns the number of the program at a place.
 fn number_at(programs: &[Program], place: usize) -> Option<u16>
     ensures { result ≡ spec.number_at programs.now place }
 {

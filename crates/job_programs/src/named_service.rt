@@ -1,7 +1,7 @@
 //! What the description of a job says of a program's service.
 
 ghost use Rattle.std.specs.Prelude.{◌≡◌, ◌++◌, IfOk, OnOk, is_some, map, option_map, string_bytes};
-ghost use Rattle.demux.specs.Shown.{finding_view};
+ghost use Rattle.pid_findings.specs.Shown.{finding_view};
 ghost use Rattle.ts_services.specs.Services.{service, found_service_view};
 ghost use Rattle.job_programs.specs.GivenNames.{name_given};
 ghost use Rattle.job_programs.specs.JobPrograms as spec_programs;
@@ -10,9 +10,9 @@ ghost use Rattle.job_programs.specs.Information as spec;
 use crate::given_names::name_given;
 use crate::job_programs::JobProgram;
 use crate::warning::{ProgramWarning, Warning};
-use demux::Finding;
 use dvb_texts::{decode_text, has_unread};
 use given_values::ServiceName;
+use pid_findings::Finding;
 use std::alloc::{AllocError, Global};
 use std::marker::Model;
 use ts_services::{FoundService, FoundServices, found_services};
@@ -20,7 +20,7 @@ use ts_services::{FoundService, FoundServices, found_services};
 /// The most bytes of a service's name and provider, as written in a descriptor.
 const LONGEST_NAME: usize = 100;
 
-/// A digital television service (EN 300 468, table 87), where a stream has no service description.
+/// The type of a service without a service description: digital television (EN 300 468, table 87).
 const TELEVISION: u8 = 1;
 
 /// A service, its texts as characters.
@@ -45,7 +45,7 @@ impl Model for NamedService {
     } };
 }
 
-// Whether the service of a program is described.
+// Returns whether the service of a program is described.
 fn is_described(services: &FoundServices<'_, '_>, number: u16) -> bool
     ensures { result ≡ is_some (service number services.now) }
 {
@@ -55,7 +55,7 @@ fn is_described(services: &FoundServices<'_, '_>, number: u16) -> bool
     }
 }
 
-// Whether the service of a program is given a name.
+// Returns whether the service of a program is given a name.
 fn is_named(names: &[ServiceName<'_>], number: u16) -> bool
     ensures { result ≡ is_some (name_given number names.now) }
 {
@@ -65,7 +65,7 @@ fn is_named(names: &[ServiceName<'_>], number: u16) -> bool
     }
 }
 
-// Whether it is described, or given a name.
+// Returns whether the service of a program is described, or an option names it.
 #[tactic(auto, unfolding(crate::specs::Information::has_service))]
 fn has_service(names: &[ServiceName<'_>], services: &FoundServices<'_, '_>, number: u16) -> bool
     ensures { result ≡ spec.has_service names.now services.now number }
@@ -73,7 +73,7 @@ fn has_service(names: &[ServiceName<'_>], services: &FoundServices<'_, '_>, numb
     is_described(services, number) || is_named(names, number)
 }
 
-/// Returns whether a service of one of these programs is described, or given a name.
+/// Returns whether the stream describes the service of any of these programs, or an option names it.
 #[tactic(auto, unfolding(crate::specs::Information::has_services))]
 pub(crate) fn has_services(
     names: &[ServiceName<'_>],
@@ -87,7 +87,7 @@ pub(crate) fn has_services(
         .any(|program| has_service(names, services, program.number))
 }
 
-// A service, or a television service without a name.
+// Returns a service, or a television service without a name.
 #[tactic(auto, unfolding(crate::specs::Information::named_service))]
 fn named_service(
     alloc: Global,
@@ -118,7 +118,7 @@ pub(crate) fn copied(alloc: Global, text: &str) -> Result<String, AllocError>
     Ok(copy)
 }
 
-// A service with the name that is given to it, and with the provider if that is given too.
+// Returns a service with the name of the option, and with its provider if the option has one.
 #[tactic(auto, unfolding(crate::specs::Information::renamed))]
 fn renamed(
     alloc: Global,
@@ -139,7 +139,7 @@ fn renamed(
     }
 }
 
-// What is said of the service of a program.
+// Returns the service of a program: its type, provider and name.
 #[tactic(auto, unfolding(crate::specs::Information::service_with))]
 fn service_of(
     alloc: Global,
@@ -156,7 +156,7 @@ fn service_of(
     }
 }
 
-// Appends what is said of the service of each program.
+// Appends the service of each program.
 fn push_services(
     alloc: Global,
     names: &[ServiceName<'_>],
@@ -173,7 +173,7 @@ fn push_services(
     Ok(())
 }
 
-/// Returns what is said of the service of each program.
+/// Returns the service of each program.
 pub(crate) fn services_of(
     alloc: Global,
     names: &[ServiceName<'_>],
@@ -187,7 +187,7 @@ pub(crate) fn services_of(
     Ok(named)
 }
 
-// Whether a text of a service, if no other is given, has characters that can't be read.
+// Returns whether a text of a service, if no other is given, has characters that can't be read.
 #[tactic(auto, unfolding(crate::specs::JobPrograms::is_unread))]
 fn is_unread(
     alloc: Global,

@@ -13,7 +13,7 @@ use program_tables::Association;
 use std::alloc::AllocError;
 use stream_programs::FoundStream;
 
-// Whether a program is named.
+// Returns whether a program is named.
 #[tactic(auto, unfolding(program_tables::specs::Association::is_named))]
 fn is_named(association: &Association, number: u16) -> bool
     ensures { result ≡ is_named number association.now.programs }
@@ -24,7 +24,7 @@ fn is_named(association: &Association, number: u16) -> bool
         .any(|program| program.program_number == number)
 }
 
-// Appends the warning about a program that is asked for.
+// Appends a warning, if no program has a number that the options select.
 #[tactic(auto, unfolding(crate::specs::Warnings::selection_warning))]
 fn push_selection(
     association: &Association,
@@ -42,7 +42,7 @@ fn push_selection(
     Ok(())
 }
 
-// Appends the warnings about the programs that are asked for.
+// Appends a warning for each number that the options select and no program has.
 fn push_selections(
     association: &Association,
     programs: &[u16],
@@ -57,7 +57,7 @@ fn push_selections(
     Ok(())
 }
 
-// Whether a stream has a PID.
+// Returns whether a stream has a PID.
 fn has_stream(streams: &[FoundStream], pid: u16) -> bool
     ensures { result ≡ list_any (λ s. s.pid == pid) streams.now }
 {

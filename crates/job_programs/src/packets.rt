@@ -1,13 +1,13 @@
 //! Whether a stream has packets of 188 bytes (ISO/IEC 13818-1, 2.4.3.2).
 
 ghost use Rattle.std.specs.Prelude.{◌≡◌, map};
-ghost use Rattle.demux.specs.Shown.{finding_view};
+ghost use Rattle.pid_findings.specs.Shown.{finding_view};
 ghost use Rattle.job_programs.specs.Packets as spec;
 
 use crate::refusal::JobRefusal;
-use demux::{Finding, What};
+use pid_findings::{Finding, What};
 
-// Whether 188 bytes are no packet.
+// Returns whether a finding is of 188 bytes that are no transport packet.
 #[tactic(auto, unfolding(crate::specs::Packets::is_bad))]
 fn is_bad(finding: &Finding<'_>) -> bool
     ensures { result ≡ spec.is_bad (finding_view finding.now).what }
@@ -15,14 +15,14 @@ fn is_bad(finding: &Finding<'_>) -> bool
     matches!(finding.what, What::BadPacket(_))
 }
 
-// The number of 188 bytes that are no packet.
+// Counts the pieces of 188 bytes that are no transport packets.
 fn bad_packets(findings: &[Finding<'_>]) -> usize
     ensures { result ≡ spec.bad_packets (map finding_view findings.now) }
 {
     findings.iter().filter(|finding| is_bad(finding)).count()
 }
 
-/// Returns the refusal of `count` whole packets of which more than half are none.
+/// Refuses `count` packets of 188 bytes if more than half of them are no transport packets.
 #[tactic(auto, unfolding(crate::specs::Packets::no_packets))]
 pub fn no_packets(count: u64, findings: &[Finding<'_>]) -> Option<JobRefusal>
     ensures { result ≡ spec.no_packets count (map finding_view findings.now) }

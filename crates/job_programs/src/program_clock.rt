@@ -9,13 +9,13 @@ const NO_REFERENCES: u16 = 0x1fff;
 /// The clock of a program.
 #[derive(Clone, Copy)]
 pub enum ProgramClock {
-    /// That of the clock references on this PID.
+    /// The clock by the PCRs on this PID.
     References(u16),
-    /// One of its own: the program of this number has no clock references.
+    /// A clock of the program's own: the program of this number has no PCRs.
     Own(u16),
 }
 
-/// That of a program whose map names this PID for its clock references.
+/// Returns the clock of a program whose PMT has this PCR_PID.
 #[tactic(auto, unfolding(crate::specs::ProgramClocks::clock_by))]
 pub(crate) fn clock_by(number: u16, pcr_pid: u16) -> ProgramClock
     ensures { result ≡ spec.clock_by number pcr_pid }

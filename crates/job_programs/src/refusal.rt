@@ -32,8 +32,8 @@ pub enum JobRefusal {
     NoPackets,
     /// No program association section in force is found.
     NoAssociation,
-    /// No program that is asked for has a program map section in force with a stream of PES packets; the transport stream
-    /// names these programs.
+    /// No selected program has a program map section in force with a stream of PES packets; the transport stream names
+    /// these programs.
     NoProgram(NamedNumbers),
     /// No stream can be carried.
     NoStream,
@@ -81,8 +81,8 @@ pub enum JobRefusal {
         pid: u16,
         size: usize,
     },
-    /// No lead lets units of up to `size` bytes into these buffers, by groups or by pace; `way_out` has buffers that
-    /// would take them, if any that are tried do.
+    /// No lead lets units of up to `size` bytes into these buffers, by groups or by pace; `way_out` has greater buffers
+    /// that take them, if the sizes tried do.
     Buffers {
         pid: u16,
         size: u32,
@@ -94,8 +94,9 @@ pub enum JobRefusal {
     Pids,
     /// The description that was written is refused.
     Description(DescFault),
-    /// No plan is found at this rate, in bits a second: the one that is asked for; else the least at which all have
-    /// slots, nor at those after it that are tried; or at no rate all have slots, of which this is the greatest.
+    /// No plan is found. The rate, in bits a second, is the rate of the options; or the least at which every item has
+    /// slots, if plans fail there and at the next rates tried; or the greatest possible rate, if not even that is
+    /// enough.
     Plan(u64),
     /// The description that was written does not declare what the units of this PID need.
     Declaration(u16),

@@ -16,17 +16,17 @@ pub enum PacketWarning {
     Bad,
     /// It has transport_error_indicator.
     Errored,
-    /// A program association section that says something else: the first one stands.
+    /// A PAT section that differs from the first PAT; the first PAT is used.
     AssociationChanges,
-    /// A network information section of the actual network that is not carried as it stands: not in force, not
-    /// readable, of another network, or with other or more descriptors or transport streams than `[network]` has.
+    /// A NIT section (actual network) that is not carried unchanged: not in force, not readable, of another network, or
+    /// with other or more descriptors or transport streams than `[network]` has.
     NetworkSurplus,
 }
 
 /// A warning about a program.
 #[derive(Clone, Copy)]
 pub enum ProgramWarning {
-    /// It is asked for, and is not there; the transport stream names these.
+    /// The options select the program, but the transport stream has only these programs.
     Missing(NamedNumbers),
     /// No stream of it has a unit.
     NoStream,
@@ -46,8 +46,7 @@ pub enum Warning {
     TrailingBytes {
         size: usize,
     },
-    /// An earlier program map section, which ends in this packet, is other in this part than the last one, which
-    /// stands.
+    /// An earlier PMT section, ending in this packet, differs in `part` from the last PMT, which is used.
     Map {
         program: u16,
         packet: u64,
@@ -55,7 +54,7 @@ pub enum Warning {
     },
     /// Something is left out of the tables.
     Table(TableOmission),
-    /// PES packets of a PID, this number of them, that no program has.
+    /// This number of PES packets on a PID that no program lists.
     StrayPes {
         pid: u16,
         count: usize,
@@ -79,7 +78,7 @@ pub enum Warning {
         program: u16,
         pid: u16,
     },
-    /// The units of a stream, of which the first begins in this packet, have a stream_id that no unit may have.
+    /// The units of a stream have a stream_id that cannot be written; the first unit begins in this packet.
     StreamId {
         program: u16,
         pid: u16,
@@ -88,7 +87,7 @@ pub enum Warning {
     },
     /// The name of the network has characters that can't be read.
     UnreadNetwork,
-    /// Service information is not taken as it stands.
+    /// Service information is not taken unchanged.
     Information(InformationWarning),
     /// The program map table of this program is on another PID.
     MapMoved {
@@ -96,8 +95,7 @@ pub enum Warning {
         from: u16,
         to: u16,
     },
-    /// A stream says that a buffer of this size is enough for it, which does not hold this unit of it: another one
-    /// counts.
+    /// A stream's own headers give a buffer size that does not hold this unit; another size is declared.
     HeaderBuffer {
         pid: u16,
         said: u32,
@@ -125,7 +123,7 @@ pub enum Warning {
 }
 
 impl PacketWarning {
-    // Whether it says that something is lost.
+    // Returns whether the warning reports a loss.
     fn is_damage(self) -> bool
         ensures { result ≡ spec.is_packet_damage self }
     {
@@ -137,7 +135,7 @@ impl PacketWarning {
 }
 
 impl ProgramWarning {
-    // Whether it says that something is lost.
+    // Returns whether the warning reports a loss.
     fn is_damage(self) -> bool
         ensures { result ≡ spec.is_program_damage self }
     {
@@ -149,8 +147,7 @@ impl ProgramWarning {
 }
 
 impl Warning {
-    /// Returns whether it says that something is lost: the stream is damaged, or a part of it or of what was asked for
-    /// is left out.
+    /// Returns whether it reports a loss: the stream is damaged, or a part of it or of the selection is left out.
     #[tactic(auto, unfolding(crate::specs::Warnings::is_damage))]
     pub fn is_damage(self) -> bool
         ensures { result ≡ spec.is_damage self }

@@ -2,8 +2,8 @@
 
 ghost use Rattle.std.specs.Prelude.{◌≡◌, ◌++◌, ◌∷◌, [], IfOk, OnOk, List, length, map, flat_map, option_to_list};
 ghost use Rattle.es_units.specs.PidPlaces.{AreLinks, pids_in};
-ghost use Rattle.demux.specs.Shown.{finding_view};
-ghost use Rattle.demux.specs.Views.{FindingView};
+ghost use Rattle.pid_findings.specs.Shown.{finding_view};
+ghost use Rattle.pid_findings.specs.Views.{FindingView};
 ghost use Rattle.program_tables.specs.MapPlaces.{AreChanges};
 ghost use Rattle.stream_programs.specs.PesCounts.{AreCounts};
 ghost use Rattle.job_programs.specs.Warnings as spec;
@@ -11,14 +11,14 @@ ghost use Rattle.job_programs.specs.declared.warning.Warning.TheVariants.{Table,
 
 use crate::job_stream::WireStream;
 use crate::warning::{PacketWarning, Warning};
-use demux::{Finding, What};
 use es_units::{PidLinks, UnitWarning, unit_warnings};
+use pid_findings::{Finding, What};
 use program_tables::{Association, MapChanges, MapPart, association_change, map_changes};
 use psi_tables::Program;
 use std::alloc::{AllocError, Global};
 use stream_programs::{TableOmission, found_programs, mapped_pids, pes_counts, stray_pids};
 
-// The warning about a finding on no PID.
+// Returns the warning about a finding on no PID.
 #[tactic(auto, unfolding(crate::specs::Warnings::packet_warning, crate::specs::Warnings::packet_warning_of))]
 fn packet_warning(finding: &Finding<'_>) -> Option<Warning>
     ensures { option_to_list result ≡ spec.packet_warning (finding_view finding.now) }
@@ -137,7 +137,7 @@ pub fn push_map_warnings(
     push_each_map_warning(part, programs, &changes, warnings)
 }
 
-/// Appends the warnings about what is left out of the tables.
+/// Appends a warning for each item of the tables that is left out.
 pub fn push_table_warnings(
     found: &[TableOmission],
     warnings: &mut Vec<Warning>,
@@ -150,7 +150,7 @@ pub fn push_table_warnings(
     Ok(())
 }
 
-// The PIDs that the maps of an association name, and those that an option leaves out.
+// Returns the PIDs in the PMTs of an association, and the PIDs that an option leaves out.
 fn known_pids(
     alloc: Global,
     without: &[u16],

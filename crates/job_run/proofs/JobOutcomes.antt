@@ -21,7 +21,7 @@ use Rattle.job_programs.specs.JobOptions.{JobOptionsView}
 use Rattle.job_programs.specs.declared.refusal.JobError.{JobError}
 use Rattle.job_programs.specs.declared.refusal.JobError.TheVariants.{Memory, Refused}
 use Rattle.job_programs.specs.declared.refusal.JobRefusal.{JobRefusal}
-use Rattle.demux.specs.Views.{FindingView}
+use Rattle.pid_findings.specs.Views.{FindingView}
 use Rattle.devices.specs.Devices.{Device, IsUntouched}
 use Rattle.devices.specs.Outcomes.{halt_line, Outcome, reported}
 use Rattle.devices.specs.Lines.{Reports}

@@ -12,7 +12,7 @@ use Rattle.std.proofs.lemmas.List.Elements.{All-cons, All-head, All-nil, All-tai
 use Rattle.std.proofs.lemmas.Option.{same_Some, slice_get-get_or, slice_get_within}
 use Rattle.std.specs.Prelude.{is_ok}
 use Rattle.std.specs.List.{AllZip, list_any}
-use Rattle.demux.specs.Views.{FindingView}
+use Rattle.pid_findings.specs.Views.{FindingView}
 use Rattle.devices.specs.Devices.{Device, HasFailed}
 use Rattle.devices.specs.Files.{Files, IsOpened}
 use Rattle.devices.specs.Outcomes.{Outcome, reported}

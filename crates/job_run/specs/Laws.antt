@@ -1,6 +1,6 @@
--- What is reported of a stream changes nothing of what is made of it.
+-- Which lines are reported about a stream changes nothing in the job that is made from it.
 use Rattle.std.specs.Prelude.{◌≡◌, Bool, List}
-use Rattle.demux.specs.Views.{FindingView}
+use Rattle.pid_findings.specs.Views.{FindingView}
 use Rattle.job_inputs.specs.JobInput.{JobInputView}
 use Rattle.job_run.specs.Outcomes.{is_told_less}
 use Rattle.job_run.specs.Streams.{PacketNotesView}

@@ -4,7 +4,7 @@ use Rattle.std.specs.Prelude.{None, Result, Ok, Err}
 use Rattle.std.specs.List.{list_any}
 use Rattle.std.specs.Str.{IsUtf8}
 use Rattle.pes_packet.specs.AccessUnits.{AccessUnit}
-use Rattle.demux.specs.Views.{FindingView}
+use Rattle.pid_findings.specs.Views.{FindingView}
 use Rattle.description_parts.specs.Described.{Described}
 use Rattle.plan_diagnosis.specs.ReasonLines.{reason_lines}
 use Rattle.slot_plan.specs.Conditions.{IsServing}
@@ -47,11 +47,10 @@ use Rattle.job_run.specs.Streams.{PacketNotesView, findings_for, notes_for}
 use Rattle.job_lines.specs.TableLines.{other_table_lines, told_tables}
 use Rattle.job_lines.specs.WarningLines.{told_warnings, warning_lines}
 
--- 1. What is written
+-- 1. The output
 
--- a job: the text of its description, in UTF-8, which has the programs and streams of the input; that of a plan that serves it,
--- whose numbers are a plan's; and the records of its units, which are the units of the stream, with their DTS or with DTS made from
--- the PTS
+-- a job: the text of its description, in UTF-8, with the programs and streams of the input; the text of a plan that serves it, whose
+-- numbers are a plan's; and the records of its units, which are the units of the stream, with their DTS or with DTS made from the PTS
 pub record GivesJob (w : JobOptionsView) (findings : List FindingView) (m : JobInputView) (output : List ℕ) : Type 0 where
   pub description : Described
   pub text : List ℕ
@@ -71,7 +70,7 @@ pub record GivesUnits (m : JobInputView) (output : List ℕ) : Type 0 where
   pub merged : AreMerged (map (λ s. s.units) m.streams) units
   pub is : output ≡ records_of units
 
--- the line of the first rate at which a plan is found, of those that are tried
+-- the line for the first rate, among the rates that are tried, at which a plan is found
 unfoldable pub found_line : Option ℕ → List ℕ
 found_line (Some rate) = codes "rate " ++ decimal rate ++ codes " has a plan, the first found\n"
 found_line None = codes "no rate that was tried has a plan\n"
@@ -81,12 +80,12 @@ pub record IsNotFound (w : JobOptionsView) (m : JobInputView) : Type 0 where
   pub refusal : JobRefusal
   pub why : IsWhyNoPlan None w m (Refused refusal)
 
--- what is found by trying rates, whatever rate is asked for
+-- the result of trying rates, whatever rate is asked for
 abbrev pub IsFound : JobOptionsView → JobInputView → Option ℕ → Type 0
 IsFound w m (Some rate) = IsTried w m rate × IsServed w m rate
 IsFound w m None = IsNotFound w m
 
--- a line for what is found stands after those for reasons
+-- the line for the result comes after the lines for reasons
 pub record IsFoundAfter (w : JobOptionsView) (m : JobInputView) (lines output : List ℕ) : Type 0 where
   pub found : Option ℕ
   pub tried : IsFound w m found
@@ -119,13 +118,13 @@ Withholds Why w m error = IsWhyNoReasons w.rate w m error
 
 -- 2. The outcome for a stream
 
--- there are slips, fields or tables that a viewer misses, or one of the warnings says that something is lost
+-- whether something is lost: there are slips, fields or tables that a viewer misses, or a warning reports a loss
 abbrev pub is_less : List Slip → List FieldLeftOut → List OtherTable → List Warning → Bool
 is_less slips fields tables warnings =
     not (length slips == 0) || list_any (λ f. is_field_loss f.field) fields || list_any (λ t. is_loss t.kind) tables || are_damaged warnings
 
 -- a line for each slip, for each field of a PID that is not written again, for each PID with tables that are not carried, and
--- for each warning that is told
+-- for each reported warning
 abbrev pub loss_lines : List Slip → List FieldLeftOut → List OtherTable → List Warning → List ℕ
 loss_lines slips fields tables warnings = slip_lines slips ++ field_lines fields ++ other_table_lines tables ++ warning_lines warnings
 
@@ -133,7 +132,7 @@ loss_lines slips fields tables warnings = slip_lines slips ++ field_lines fields
 abbrev pub unless_quiet : Bool → List ℕ → List ℕ
 unless_quiet quiet lines = if quiet then [] else lines
 
--- the same of a stream of which a job takes this
+-- the lines about a stream from which a job takes this input
 abbrev pub told_lines : Reporting → PacketNotesView → List FindingView → JobInputView → List ℕ
 told_lines r notes findings m =
     unless_quiet r.quiet
@@ -151,7 +150,7 @@ status_of Describe output less = if less then 1 else 0
 status_of Units output less = if less then 1 else 0
 status_of Why output less = if length output == 0 then 0 else 1
 
--- the output, the lines of what is left out, and the status
+-- the output, the lines for what is left out, and the status
 pub record IsGiven (arguments : JobArgumentsView) (notes : PacketNotesView) (findings : List FindingView) (m : JobInputView) (o : Outcome) : Type 0 where
   pub gives : Gives arguments.subcommand arguments.options findings m o.output
   pub report_is : o.report ≡ told_lines arguments.reporting notes findings m

@@ -3,7 +3,7 @@ use Rattle.std.specs.Prelude.{◌≡◌, ◌⊎◌, ℕ, ◌+◌, ◌/◌, ◌==
 use Rattle.std.specs.Prelude.{Err}
 use Rattle.std.specs.Str.{IsUtf8}
 use Rattle.pes_packet.specs.AccessUnits.{AccessUnit}
-use Rattle.demux.specs.Views.{FindingView}
+use Rattle.pid_findings.specs.Views.{FindingView}
 use Rattle.description_parts.specs.Described.{Described}
 use Rattle.slot_plan.specs.Conditions.{IsServing}
 use Rattle.slot_plan.specs.Planned.{Planned, plan_error}
@@ -37,11 +37,11 @@ pub record NamedStream : Type 0 where
 abbrev pub names_of : List NamedStream → List (List ℕ)
 names_of streams = map (λ s. s.name) streams
 
--- what is found in each, with the marks that are asked for
+-- the findings in each stream, with the marks that are asked for
 abbrev pub all_findings : JobOptionsView → List NamedStream → List (List FindingView)
 all_findings options streams = map (λ s. findings_for options s.bytes) streams
 
--- 1. What a job takes of each, by the options as they stand; or the line that says why it takes nothing
+-- 1. What a job takes from each stream, by the same options; or the line that says why it takes nothing
 
 unfoldable pub input_or_line : Result JobInputView JobRefusal → Result JobInputView (List ℕ)
 input_or_line (Ok m) = Ok m
@@ -54,20 +54,20 @@ packets_input options bytes None = input_or_line (job_input options (length (car
 abbrev pub stream_input : JobOptionsView → List ℕ → Result JobInputView (List ℕ)
 stream_input options bytes = packets_input options bytes (other_packets bytes)
 
--- one more before those that are given; a line stands under the number and the name of its input
+-- one input before the others; a line comes below the number and the name of its input
 unfoldable pub with_first : ℕ → List ℕ → Result JobInputView (List ℕ) → Result (List JobInputView) (List ℕ) → Result (List JobInputView) (List ℕ)
 with_first number name (Err line) rest = Err (input_line number name ++ line)
 with_first number name (Ok m) (Err lines) = Err lines
 with_first number name (Ok m) (Ok ms) = Ok (m ∷ ms)
 
--- of all, numbered from `number` on; the first line that says why there is none
+-- the inputs of all streams, numbered from `number` on; or the first line that says why a stream gives none
 unfoldable pub stream_inputs : JobOptionsView → ℕ → List NamedStream → Result (List JobInputView) (List ℕ)
 stream_inputs options number [] = Ok []
 stream_inputs options number (s ∷ streams) = with_first number s.name (stream_input options s.bytes) (stream_inputs options (number + 1) streams)
 
--- 2. What is told
+-- 2. The report
 
--- of a stream of which a job takes this
+-- the lines about one stream, from which a job takes this input
 abbrev pub stream_lines : JobArgumentsView → JobInputView → List ℕ → List ℕ
 stream_lines a m bytes = told_lines a.reporting (notes_for a.options bytes) (findings_for a.options bytes) m
 
@@ -75,12 +75,12 @@ stream_lines a m bytes = told_lines a.reporting (notes_for a.options bytes) (fin
 unfoldable pub under : ℕ → List ℕ → List ℕ → List ℕ
 under number name lines = if length lines == 0 then [] else input_line number name ++ lines
 
--- of all, one after another, numbered from `number` on
+-- the lines about all streams in order, numbered from `number` on
 unfoldable pub streams_lines : JobArgumentsView → ℕ → List NamedStream → List JobInputView → List ℕ
 streams_lines a number (s ∷ streams) (m ∷ ms) = under number s.name (stream_lines a m s.bytes) ++ streams_lines a (number + 1) streams ms
 streams_lines a number streams ms = []
 
--- and then what becomes of those after the first
+-- these lines, and then the notes on the inputs after the first
 abbrev pub all_lines : JobArgumentsView → List NamedStream → List JobInputView → JoinedInputsView → List ℕ
 all_lines a streams ms j = streams_lines a 0 streams ms ++ unless_quiet a.reporting.quiet (note_lines (names_of streams) j.notes)
 
@@ -95,9 +95,9 @@ are_streams_less a streams ms = false
 abbrev pub is_any_less : JobArgumentsView → List NamedStream → List JobInputView → JoinedInputsView → Bool
 is_any_less a streams ms j = are_streams_less a streams ms || are_lost j.notes
 
--- 3. What is written
+-- 3. The output
 
--- a job as of one stream; its units are those that are found in the streams
+-- a job as from one stream; its units are the units found in the streams
 pub record GivesJobIn (w : JobOptionsView) (inputs : List (List FindingView)) (j : JoinedInputsView) (output : List ℕ) : Type 0 where
   pub description : Described
   pub text : List ℕ
@@ -130,7 +130,7 @@ pub record IsRefusedIn (arguments : JobArgumentsView) (j : JoinedInputsView) (o 
   pub holds : Withholds arguments.subcommand arguments.options j.input (Refused refusal)
   pub is : o ≡ reported (refusal_line refusal)
 
--- for what is joined of the streams
+-- the outcome for the joined inputs of the streams
 abbrev pub JoinedLead : JobArgumentsView → List NamedStream → List JobInputView → Result JoinedInputsView JobRefusal → Outcome → Type 0
 JoinedLead arguments streams ms (Ok j) o = IsGivenIn arguments streams ms j o ⊎ IsRefusedIn arguments j o
 JoinedLead arguments streams ms (Err refusal) o = o ≡ reported (refusal_line refusal)

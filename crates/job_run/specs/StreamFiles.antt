@@ -1,7 +1,7 @@
 -- Transport streams in files by their names, for one job.
 use Rattle.std.specs.Prelude.{◌≡◌, ◌⊎◌, ℕ, ◌+◌, ◌||◌, true, Bool, List, [], ◌∷◌, ◌++◌, codes, length, map, is_ok, slice_get, take, Some, Result, Ok, Err}
 use Rattle.std.specs.List.{AllZip, list_any}
-use Rattle.demux.specs.Views.{FindingView}
+use Rattle.pid_findings.specs.Views.{FindingView}
 use Rattle.devices.specs.Devices.{Device, IsUntouched}
 use Rattle.devices.specs.Files.{Files, IsOpened, IsUnopened, IsUnread}
 use Rattle.devices.specs.Lines.{Reports}
@@ -21,13 +21,13 @@ use Rattle.job_run.specs.Streams.{PacketNotesView, findings_for}
 
 -- 1. One stream
 
--- what a job takes of it, what is told of it, and whether something of it is lost
+-- what a job takes from a stream, the lines about it, and whether something of it is lost
 pub record TakenView : Type 0 where
   pub input : JobInputView
   pub lines : List ℕ
   pub less : Bool
 
--- that of the findings in a stream of `count` whole packets
+-- the same for the findings in a stream of `count` whole packets
 pub record IsTakenOf (a : JobArgumentsView) (notes : PacketNotesView) (count : ℕ) (findings : List FindingView) (t : TakenView) : Type 0 where
   pub input_is : job_input a.options count findings ≡ Ok t.input
   pub streams : AreStreams a.options.make_dts findings t.input
@@ -44,7 +44,7 @@ abbrev pub IsInputOf : JobArgumentsView → PacketNotesView → ℕ → List Fin
 IsInputOf a notes count findings (Ok t) = IsTakenOf a notes count findings t
 IsInputOf a notes count findings (Err o) = IsRefusalOf a count findings o
 
--- that of the bytes of a stream
+-- the same for the bytes of a stream
 pub record IsTaken (a : JobArgumentsView) (bytes : List ℕ) (t : TakenView) : Type 0 where
   pub input_is : stream_input a.options bytes ≡ Ok t.input
   pub streams : AreStreams a.options.make_dts (findings_for a.options bytes) t.input
@@ -106,7 +106,7 @@ pub record AreTaken (a : JobArgumentsView) (files : Files) (names : List (List �
 abbrev pub told_under : ℕ → List ℕ → Outcome → Outcome
 told_under number name o = record { output = o.output; report = input_line number name ++ o.report; status = o.status }
 
--- the first of them of which it takes nothing
+-- the first file from which a job takes nothing ends the run
 pub record EndsAt (a : JobArgumentsView) (files : Files) (names : List (List ℕ)) (o : Outcome) : Type 0 where
   pub number : ℕ
   pub name : List ℕ
@@ -121,12 +121,12 @@ abbrev pub AreNamedInputs : JobArgumentsView → Files → List (List ℕ) → R
 AreNamedInputs a files names (Ok taken) = AreTaken a files names taken
 AreNamedInputs a files names (Err o) = EndsAt a files names o
 
--- the lines of what is taken, numbered from `number` on
+-- the lines about what is taken, numbered from `number` on
 unfoldable pub taken_lines : List (List ℕ) → ℕ → List TakenView → List ℕ
 taken_lines names number [] = []
 taken_lines names number (t ∷ ts) = under number (name_of names number) t.lines ++ taken_lines names (number + 1) ts
 
--- what is joined of streams leads to it, whatever was found in them
+-- the joined inputs of streams lead to the outcome, whatever was found in the streams
 pub record IsGivenOf (a : JobArgumentsView) (names : List (List ℕ)) (taken : List TakenView) (j : JoinedInputsView) (o : Outcome) : Type 0 where
   pub gives : (inputs : List (List FindingView)) → AreStreamsIn a.options.make_dts inputs j → GivesIn a.subcommand a.options inputs j o.output
   pub report_is : o.report ≡ taken_lines names 0 taken ++ unless_quiet a.reporting.quiet (note_lines names j.notes)
@@ -139,7 +139,7 @@ JoinedLeads a names taken (Err refusal) o = o ≡ reported (refusal_line refusal
 abbrev pub TakenLead : JobArgumentsView → List (List ℕ) → List TakenView → Outcome → Type 0
 TakenLead a names taken o = JoinedLeads a names taken (all_joined (map (λ t. t.input) taken)) o
 
--- 4. What is done
+-- 4. The run
 
 -- a file can't be opened or read to its end, and a job takes something of each one before it
 pub record IsStopped (a : JobArgumentsView) (files : Files) (names : List (List ℕ)) (o : Outcome) : Type 0 where
@@ -153,7 +153,7 @@ pub record IsStopped (a : JobArgumentsView) (files : Files) (names : List (List 
   pub is : IsStop files name alone
   pub told : o ≡ told_under number name alone
 
--- the outcome is the one to which the streams lead; where a job takes something of each of them, they are those of all files
+-- the streams lead to the outcome; if a job takes something from each of them, they are the streams of all files
 pub record IsLedTo (a : JobArgumentsView) (files : Files) (names : List (List ℕ)) (o : Outcome) : Type 0 where
   pub streams : List NamedStream
   pub read : AllZip (HasRead files) (take (length streams) names) streams

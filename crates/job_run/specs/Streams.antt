@@ -3,7 +3,7 @@ use Rattle.std.specs.Prelude.{◌≡◌, ◌≤◌, ℕ, ◌+◌, ◌&&◌, not,
 use Rattle.devices.specs.Devices.{Device}
 use Rattle.devices.specs.WholeInput.{IsReadAs, ReadsInput}
 use Rattle.devices.specs.declared.halt.Halt.{Halt}
-use Rattle.demux.specs.Views.{FindingView}
+use Rattle.pid_findings.specs.Views.{FindingView}
 use Rattle.data_times.specs.DataTimes.{TimesView, is_timed, timed, times_of}
 use Rattle.data_times.specs.References.{LogView, logged, no_packet, references_in}
 use Rattle.packet_pcr.specs.declared.pcr_reading.FoundPcr.{FoundPcr}
@@ -28,12 +28,12 @@ use Rattle.job_programs.specs.JobOptions.{JobOptionsView}
 abbrev pub findings_of : List ℕ → List FindingView
 findings_of bytes = (finished (pushed start bytes)).found
 
--- those in the bytes that are in no slip, with the marks that are asked for
+-- the findings in the bytes outside slips, with the marks that are asked for
 abbrev pub asked_findings : JobOptionsView → List ℕ → List FindingView
 asked_findings options bytes = as_asked options (findings_of (carried bytes))
 
--- the clock references, and these findings; if they are asked for, those of the parts of a joined recording one after another, with the tables and the clock
--- of one
+-- the clock references and these findings; if asked for, the references and findings of the parts of a joined recording in order, with the tables
+-- and the clock of one recording
 unfoldable pub references_by : Bool → List FoundPcr → List FindingView → List FoundPcr
 references_by false references findings = references
 references_by true references findings = one_references references findings
@@ -42,14 +42,14 @@ unfoldable pub parts_by : Bool → List FoundPcr → List FindingView → List F
 parts_by false references findings = findings
 parts_by true references findings = one_recording references findings
 
--- those of which a job is made: with the moments of teletext that has no stamps
+-- the findings from which a job is made: with the moments of teletext that has no stamps
 abbrev pub findings_by : Bool → List FoundPcr → List FindingView → List FindingView
 findings_by joined references findings = timed (references_by joined references findings) (parts_by joined references findings)
 
 abbrev pub findings_for : JobOptionsView → List ℕ → List FindingView
 findings_for options bytes = findings_by options.joined (references_in (carried bytes)) (asked_findings options bytes)
 
--- what is said of the packets of a stream: its slips, the fields that are not written again, and the changes of codings in a joined recording
+-- notes on the packets of a stream: its slips, the fields that are not written again, and the changes of codings in a joined recording
 pub record PacketNotesView : Type 0 where
   pub slips : List Slip
   pub fields : List FieldLeftOut
@@ -72,7 +72,7 @@ is_of_unit _ = false
 abbrev pub is_unwritten : TimesView → FieldLeftOut → Bool
 is_unwritten t f = not (is_of_unit f.field && is_timed t f.pid)
 
--- what is said of the packets of a stream of which a job by these options is made
+-- the notes on the packets of a stream from which a job by these options is made
 abbrev pub timed_notes : TimesView → List Recoding → PacketNotesView → PacketNotesView
 timed_notes t recodings notes = record { slips = notes.slips; fields = filter (is_unwritten t) notes.fields; recodings = recodings }
 
@@ -83,7 +83,7 @@ notes_by joined references findings notes =
 abbrev pub notes_for : JobOptionsView → List ℕ → PacketNotesView
 notes_for options bytes = notes_by options.joined (references_in (carried bytes)) (asked_findings options bytes) (notes_of bytes)
 
--- this is said of it, and these references and this are found in the bytes that are in no slip, which are so many
+-- the notes on a stream, the references and the findings in its bytes outside slips, and the number of these bytes
 pub record IsOfStream (bytes : List ℕ) (notes : PacketNotesView) (references : List FoundPcr) (found : List FindingView) (size : ℕ) : Type 0 where
   pub notes_are : notes ≡ notes_of bytes
   pub references_are : references ≡ references_in (carried bytes)
@@ -92,7 +92,7 @@ pub record IsOfStream (bytes : List ℕ) (notes : PacketNotesView) (references :
 
 -- 2. A stream that comes
 
--- what is kept of the bytes that are carried for certain: what is said of their packets, the clock references, the demultiplexer, and how many they are
+-- the state after the bytes that are certainly outside slips: notes on their packets, the clock references, the demultiplexer, and their number
 pub record PacketsView : Type 0 where
   pub notes : NotesView
   pub log : LogView
@@ -106,12 +106,12 @@ no_packets = record { notes = no_notes; log = no_packet; demux = start; size = 0
 abbrev pub with_bytes : List ℕ → PacketsView → PacketsView
 with_bytes bytes p = record { notes = p.notes; log = logged p.log bytes; demux = pushed p.demux bytes; size = p.size + length bytes }
 
--- the bytes of which it is not known yet whether they are carried, and what is kept of those before
+-- the bytes that may still be in a slip, and the state after the bytes before them
 pub record CarriedView : Type 0 where
   pub held : List ℕ
   pub packets : PacketsView
 
--- so far, of a stream of which these bytes came; `ended`: no more come
+-- the state after these bytes of a stream; with `ended` no more bytes come
 pub record IsCarriedTo (bytes : List ℕ) (ended : Bool) (s : CarriedView) : Type 0 where
   pub gone : List ℕ
   pub carries : (more : List ℕ) → (ended ≡ true → more ≡ []) → carried (bytes ++ more) ≡ gone ++ carried (s.held ++ more)
@@ -120,7 +120,7 @@ pub record IsCarriedTo (bytes : List ℕ) (ended : Bool) (s : CarriedView) : Typ
   pub demux_is : s.packets.demux ≡ pushed start gone
   pub size_is : s.packets.size ≡ length gone
 
--- the first bytes, whether they are known to be of packets of another size, and what is kept where they are not
+-- the first bytes, whether they are known to be of packets of another size, and the state if they are not
 pub record ReadingView : Type 0 where
   pub front : List ℕ
   pub other : Bool

@@ -11,10 +11,10 @@ use packet_sync::{FieldLeftOut, Slip, StreamNotes};
 use std::alloc::{AllocError, Global};
 use std::marker::Model;
 
-/// How many of the next bytes are copied to those that are held, so that the rest is taken where it stands.
+/// The number of bytes of a new piece that are copied behind the held bytes; the rest of the piece is read in place.
 const JOINED: usize = 12 * 188;
 
-/// What is said of the packets of a stream.
+/// Findings about the packets of a stream, for the lines on standard error.
 #[derive(Drop)]
 pub(crate) struct PacketNotes {
     pub slips: Vec<Slip>,
@@ -37,8 +37,7 @@ impl Model for PacketNotes {
     } };
 }
 
-/// A stream that was read: what is said of its packets, the clock references and what else is found in the bytes that
-/// are in no slip, and how many these are.
+/// A stream read to its end: its findings, clock references and packet notes, and the number of bytes outside slips.
 #[derive(Drop)]
 pub(crate) struct ReadStream {
     pub notes: PacketNotes,
@@ -56,7 +55,7 @@ struct CarriedPackets {
     size: usize,
 }
 
-// A contract sees what is kept of them.
+// A contract sees its parts as lists.
 impl Model for CarriedPackets {
     ghost use Rattle.job_run.specs.Streams.{PacketsView};
 
@@ -76,7 +75,7 @@ fn end_stream(demux: &mut Demux) -> Result<(), AllocError>
 }
 
 impl CarriedPackets {
-    // Before the first byte.
+    // Returns the state before the first byte.
     fn new(alloc: Global) -> CarriedPackets
         ensures { result ≡ spec.no_packets }
     {
@@ -125,7 +124,7 @@ impl CarriedPackets {
     }
 }
 
-/// A stream of which it is not known yet whether its last bytes are carried.
+/// A stream that is being read. Its last bytes are held until it is known whether they are in step.
 #[derive(Drop)]
 pub(crate) struct CarriedStream {
     alloc: Global,
@@ -133,7 +132,7 @@ pub(crate) struct CarriedStream {
     packets: CarriedPackets,
 }
 
-// A contract sees these bytes, and what is kept of those before.
+// A contract sees the held bytes, and the findings in the bytes before them.
 impl Model for CarriedStream {
     ghost use Rattle.job_run.specs.Streams.{CarriedView};
 
@@ -154,7 +153,7 @@ impl CarriedStream {
         }
     }
 
-    // Holds some bytes, and others after them.
+    // Replaces the held bytes by the two pieces, joined.
     fn hold(&mut self, some: &[u8], others: &[u8]) -> Result<(), AllocError>
         ensures held { OnOk result (self.new.held ≡ some.now ++ others.now) }
         ensures packets { OnOk result (self.new.packets ≡ self.old.packets) }
@@ -165,7 +164,7 @@ impl CarriedStream {
         Ok(())
     }
 
-    /// Takes the next bytes: those that are decided go on, and the rest is held.
+    /// Takes the next bytes: carries each packet that is surely in step, and holds the rest.
     pub(crate) fn take(&mut self, piece: &[u8]) -> Result<(), AllocError>
         ensures { (stream : List ℕ) → spec.IsCarriedTo stream false self.old →
             OnOk result (spec.IsCarriedTo (stream ++ piece.now) false self.new) }

@@ -2,7 +2,7 @@
 
 ghost use Rattle.std.specs.Prelude.{◌≡◌, ◌≤◌, ◌++◌, ◌||◌, All, IfErr, IfOk, List, Ok, OnOk, length, map, string_bytes};
 ghost use Rattle.std.specs.List.{list_any};
-ghost use Rattle.demux.specs.Views.{FindingView};
+ghost use Rattle.pid_findings.specs.Views.{FindingView};
 ghost use Rattle.devices.specs.Devices.{writes};
 ghost use Rattle.devices.specs.Files.{files_of};
 ghost use Rattle.job_lines.specs.InputLines.{are_lost, name_of, note_lines};
@@ -36,7 +36,7 @@ fn write_under(number: usize, name: &str, lines: &str, text: &mut String) -> Res
     text.push_str(lines)
 }
 
-// The name of an input.
+// Returns the name of an input.
 fn name_at<'a>(names: &[&'a str], number: usize) -> &'a str
     ensures { result.now ≡ name_of (map (λ s. s.now) names.now) number }
 {
@@ -46,7 +46,7 @@ fn name_at<'a>(names: &[&'a str], number: usize) -> &'a str
     }
 }
 
-// Appends the lines of what is taken, one after another.
+// Appends the lines about each stream taken, input by input.
 fn write_taken(names: &[&str], taken: &[TakenStream], text: &mut String) -> Result<(), AllocError>
     ensures { OnOk result (string_bytes text.new
         ≡ string_bytes text.old ++ spec.taken_lines (map (λ s. s.now) names.now) 0 taken.now) }
@@ -57,7 +57,7 @@ fn write_taken(names: &[&str], taken: &[TakenStream], text: &mut String) -> Resu
     Ok(())
 }
 
-// These lines alone.
+// Returns the lines about all streams taken.
 fn taken_report(alloc: Global, names: &[&str], taken: &[TakenStream]) -> Result<String, AllocError>
     ensures { IfOk result (λ text. string_bytes text ≡ spec.taken_lines (map (λ s. s.now) names.now) 0 taken.now) }
 {
@@ -66,14 +66,14 @@ fn taken_report(alloc: Global, names: &[&str], taken: &[TakenStream]) -> Result<
     Ok(text)
 }
 
-// Whether something of one of them is lost.
+// Returns whether any stream taken has lost something.
 fn is_any_less(taken: &[TakenStream]) -> bool
     ensures { result ≡ list_any (λ t. t.less) taken.now }
 {
     taken.iter().any(|one| one.less)
 }
 
-// What a job takes of them.
+// Returns what a job takes of each stream.
 fn inputs_of(alloc: Global, taken: Vec<TakenStream>) -> Result<Vec<JobInput>, AllocError>
     ensures { IfOk result (λ inputs. inputs.items ≡ map (λ t. t.input) taken.items) }
 {
@@ -84,7 +84,7 @@ fn inputs_of(alloc: Global, taken: Vec<TakenStream>) -> Result<Vec<JobInput>, Al
     Ok(inputs)
 }
 
-// What is joined of inputs.
+// Joins the inputs to one job.
 #[tactic(auto, unfolding(crate::specs::SeveralInputs::all_joined, job_programs::specs::Answers::Answers, job_programs::specs::Answers::Refuses))]
 fn join_all(alloc: Global, inputs: Vec<JobInput>) -> Result<JoinedInputs, JobError>
     requires { All (λ m. length m.streams ≤ 32) inputs.items }
@@ -115,7 +115,7 @@ fn write_told_notes(
     write_notes(names, notes, text)
 }
 
-// The outcome for what is joined of streams in files of these names, of which these lines are told.
+// Returns the outcome of joined streams; `lines` are the lines already written about each input, `names` their files.
 fn joined_outcome(
     alloc: Global,
     arguments: &JobArguments<'_>,
@@ -146,7 +146,7 @@ fn joined_outcome(
     })
 }
 
-// The outcome for what is joined of what was taken.
+// Joins the streams taken and returns their outcome.
 #[tactic(auto, using(crate::proofs::StreamFiles::given_of, crate::proofs::StreamFiles::withheld_of))]
 fn outcome_of(
     alloc: Global,
@@ -167,7 +167,7 @@ fn outcome_of(
     }
 }
 
-// The outcome for what was taken.
+// Returns the outcome for what was taken.
 fn taken_outcome(
     alloc: Global,
     arguments: &JobArguments<'_>,
@@ -186,7 +186,7 @@ fn taken_outcome(
     }
 }
 
-// The outcome for the streams in the files of these names.
+// Returns the outcome for the streams in the files of these names.
 fn named_outcome<F: NamedFiles>(
     alloc: Global,
     arguments: &JobArguments<'_>,

@@ -97,7 +97,7 @@ impl<'a> Model for JobArguments<'a> {
 }
 
 impl JobArguments<'_> {
-    /// Returns the file of a description, where one is named.
+    /// Returns the file of a description, if the arguments name it.
     pub fn stream(&self) -> Option<&str>
         ensures { option_map (λ s. s.now) result ≡ self.now.stream }
     {

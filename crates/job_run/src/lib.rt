@@ -2,11 +2,11 @@
 //!
 //! `job_arguments` is the request. `reading` takes the bytes of a stream piece by piece, and `carried_stream` puts the
 //! packets in step through a demultiplexer (`specs/Streams`); `outcome` makes the job of its findings, and
-//! `reason_output` says why there is no plan (`specs/Outcomes`). `written` writes an outcome to the writers of a
-//! program, and all of it from the reader on. `stream_files` has what a job takes of streams in files by their names
-//! (`specs/StreamFiles`), and `files_outcome` the outcome for all of them as one job (`specs/SeveralInputs`). The lines
-//! are those of `job_lines`, and of `recoding_lines` for a joined recording; the status is the same whichever of them
-//! are reported (`status_stays`).
+//! `reason_output` says why there is no plan (`specs/Outcomes`). `written` reads a stream, makes its outcome and writes
+//! it to the program's writers. `stream_files` takes streams from named files (`specs/StreamFiles`), and
+//! `files_outcome` makes one job of all of them (`specs/SeveralInputs`). `job_lines` writes the lines, and
+//! `recoding_lines` the lines of a joined recording; the status is the same whichever lines are reported
+//! (`status_stays`).
 #![tactic(auto)]
 
 mod carried_stream;

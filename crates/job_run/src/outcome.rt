@@ -1,8 +1,9 @@
 //! The outcome for a stream, from its findings.
 
-ghost use Rattle.std.specs.Prelude.{◌≡◌, ◌==◌, ◌&&◌, ◌≤◌, ◌++◌, IfErr, IfOk, List, None, Ok, ℕ, length, map, string_bytes};
-ghost use Rattle.demux.specs.Shown.{finding_view};
-ghost use Rattle.demux.specs.Views.{FindingView};
+ghost use Rattle.std.specs.Prelude.{◌≡◌, ◌==◌, ◌&&◌, ◌≤◌, ◌++◌, IfErr, IfOk, List, None, Ok, ℕ, length, map};
+ghost use Rattle.std.specs.Prelude.{string_bytes};
+ghost use Rattle.pid_findings.specs.Shown.{finding_view};
+ghost use Rattle.pid_findings.specs.Views.{FindingView};
 ghost use Rattle.other_tables.specs.OtherTables as found;
 ghost use Rattle.packet_sync.specs.OtherPackets.{other_packets};
 ghost use Rattle.slot_plan.specs.Planned.{plan_error};
@@ -25,7 +26,6 @@ use crate::reading::StreamReading;
 use crate::reason_output::reason_output;
 use crate::recoding_lines::tell_recodings;
 use crate::timed_text::job_findings;
-use demux::Finding;
 use job_inputs::{JobInput, job_input, mark_as_asked};
 use job_lines::{
     Reporting, are_missed, are_needed, is_damaged, told_fields, told_tables, told_warnings,
@@ -35,6 +35,7 @@ use job_programs::{JobError, JobOptions, Warning};
 use other_tables::{OtherTable, other_tables};
 use packet_sync::{FieldLeftOut, OtherPackets, Slip};
 use pes_packet::Unit;
+use pid_findings::Finding;
 use slot_plan::Plan;
 use std::alloc::{AllocError, Global};
 use std::marker::Model;
@@ -48,7 +49,7 @@ pub struct JobOutcome {
     pub status: u8,
 }
 
-// A contract sees what is written as bytes.
+// A contract sees the output and the report as bytes.
 impl Model for JobOutcome {
     ghost use Rattle.std.specs.Prelude.{string_bytes};
     ghost use Rattle.devices.specs.Outcomes.{Outcome};
@@ -88,7 +89,7 @@ pub fn only_text(alloc: Global, text: String) -> JobText
     }
 }
 
-// The text of a plan, whose numbers are those of one.
+// Returns the text of a plan.
 fn plan_text(alloc: Global, plan: &Plan) -> Result<String, AllocError>
     ensures text { IfOk result (λ text. string_bytes text ≡ plan_text plan.now) }
     ensures within { plan_error plan.now.slots plan.now.certificate ≡ None }
@@ -97,7 +98,7 @@ fn plan_text(alloc: Global, plan: &Plan) -> Result<String, AllocError>
     plan.write_text(alloc)
 }
 
-// The whole job.
+// Makes the whole job.
 fn job_output(alloc: Global, options: &JobOptions<'_>, input: JobInput) -> Result<JobText, JobError>
     requires { length input.streams ≤ 32 }
     ensures given { (findings : List FindingView) → AreStreams options.now.make_dts findings input →
@@ -111,7 +112,7 @@ fn job_output(alloc: Global, options: &JobOptions<'_>, input: JobInput) -> Resul
     Ok(JobText { text, plan, units })
 }
 
-// Its description.
+// Makes the description of a job.
 fn description_output(
     alloc: Global,
     options: &JobOptions<'_>,
@@ -124,7 +125,7 @@ fn description_output(
     Ok(only_text(alloc, text))
 }
 
-// Its units.
+// Makes the units of a job.
 fn unit_output(alloc: Global, input: JobInput) -> Result<JobText, JobError>
     requires { length input.streams ≤ 32 }
     ensures given { IfOk result (λ p. spec.GivesUnits input p) }
@@ -138,7 +139,7 @@ fn unit_output(alloc: Global, input: JobInput) -> Result<JobText, JobError>
     })
 }
 
-// The output of a subcommand.
+// Returns the output of a subcommand.
 pub(crate) fn output_for(
     alloc: Global,
     arguments: &JobArguments<'_>,
@@ -161,7 +162,7 @@ pub(crate) fn output_for(
     }
 }
 
-// The lines of what is left out.
+// Returns the lines about everything that the job does not carry.
 #[tactic(auto, using(crate::proofs::JobOutcomes::four_texts))]
 fn loss_report(
     alloc: Global,
@@ -181,7 +182,7 @@ fn loss_report(
     Ok(lines)
 }
 
-// The same, and those of changes of codings, unless nothing is to be reported.
+// Returns the lines about losses, then the lines about changes of codings; no line if `quiet`.
 fn told_report(
     alloc: Global,
     reporting: Reporting,
@@ -202,21 +203,21 @@ fn told_report(
     Ok(lines)
 }
 
-// Whether one of these says that something is lost.
+// Returns whether any of these reports a loss.
 fn is_less(slips: &[Slip], fields: &[FieldLeftOut], tables: &[OtherTable], told: &[Warning]) -> bool
     ensures { result ≡ spec.is_less slips.now fields.now tables.now told.now }
 {
     !slips.is_empty() || are_needed(fields) || are_missed(tables) || is_damaged(told)
 }
 
-// Whether all three hold.
+// Returns whether all three hold.
 fn are_all(text: bool, plan: bool, units: bool) -> bool
     ensures { result ≡ (text && (plan && units)) }
 {
     text && (plan && units)
 }
 
-// Whether nothing is to be written.
+// Returns whether nothing is to be written.
 #[tactic(auto, using(crate::proofs::JobOutcomes::nothing_written))]
 fn is_empty(output: &JobText) -> bool
     ensures { result ≡ (length output.now == 0) }
@@ -227,7 +228,7 @@ fn is_empty(output: &JobText) -> bool
     are_all(text.is_empty(), plan.is_empty(), units.is_empty())
 }
 
-// The status of an output, beside which something is lost or not.
+// Returns the status for an output; `less`: something is lost.
 pub(crate) fn status_of(subcommand: Subcommand, output: &JobText, less: bool) -> u8
     ensures { result ≡ spec.status_of subcommand output.now less }
 {
@@ -238,7 +239,7 @@ pub(crate) fn status_of(subcommand: Subcommand, output: &JobText, less: bool) ->
     if bad { 1 } else { 0 }
 }
 
-// What is told of a stream of which a job takes this, with these tables beside it, and whether something of it is lost.
+// Returns the lines about an input with its other tables, and whether any of them reports a loss.
 pub(crate) fn told_of(
     alloc: Global,
     reporting: Reporting,
@@ -259,7 +260,7 @@ pub(crate) fn told_of(
     Ok((lines, less))
 }
 
-// The outcome for a stream that is not refused.
+// Returns the outcome for a stream that is not refused.
 #[tactic(auto, using(crate::proofs::JobOutcomes::no_memory))]
 fn job_outcome(
     alloc: Global,
@@ -283,7 +284,7 @@ fn job_outcome(
     })
 }
 
-// An outcome without output.
+// Returns an outcome without output.
 fn without_output(alloc: Global, report: String) -> JobOutcome
     ensures { result ≡ reported (string_bytes report) }
 {
@@ -294,7 +295,7 @@ fn without_output(alloc: Global, report: String) -> JobOutcome
     }
 }
 
-// The outcome for a stream that is refused.
+// Returns the outcome for a stream that is refused.
 pub(crate) fn refused_outcome(alloc: Global, error: JobError) -> Result<JobOutcome, AllocError>
     ensures { IfOk result (λ a. spec.ReportsWhy error a) }
 {
@@ -306,7 +307,7 @@ pub(crate) fn refused_outcome(alloc: Global, error: JobError) -> Result<JobOutco
     Ok(without_output(alloc, report))
 }
 
-// The outcome for a stream of this input.
+// Returns the outcome for a stream of this input.
 #[tactic(auto, using(crate::proofs::JobOutcomes::withheld))]
 fn input_outcome(
     alloc: Global,
@@ -326,7 +327,7 @@ fn input_outcome(
     }
 }
 
-// The outcome for a stream of `count` whole packets with these findings.
+// Returns the outcome for a stream of `count` whole packets with these findings.
 #[tactic(auto, using(crate::proofs::JobOutcomes::with_input, crate::proofs::JobOutcomes::without_input))]
 fn findings_outcome(
     alloc: Global,
@@ -345,7 +346,7 @@ fn findings_outcome(
     }
 }
 
-// The outcome for a stream of packets of another size.
+// Returns the outcome for a stream whose packets do not have 188 bytes.
 pub(crate) fn packets_outcome(
     alloc: Global,
     packets: OtherPackets,
@@ -357,7 +358,7 @@ pub(crate) fn packets_outcome(
     Ok(without_output(alloc, report))
 }
 
-// The outcome for a stream that was read, of packets of 188 bytes.
+// Returns the outcome for a stream that was read, of packets of 188 bytes.
 #[tactic(auto, using(crate::proofs::JobOutcomes::carried_lead))]
 fn carried_outcome(
     alloc: Global,

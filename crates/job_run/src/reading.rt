@@ -14,7 +14,7 @@ use std::marker::Model;
 /// The size of a piece of the input in bytes.
 const PIECE: usize = 1 << 18;
 
-/// A stream that is read. Of one of packets of another size nothing is kept but the first bytes.
+/// A stream that is being read. If its packets do not have 188 bytes, only its first bytes are kept.
 #[derive(Drop)]
 pub(crate) struct StreamReading {
     front: Vec<u8>,
@@ -42,7 +42,7 @@ fn lengthen_front(front: &mut Vec<u8>, piece: &[u8]) -> Result<(), AllocError>
     Ok(())
 }
 
-// Whether the first bytes are known to be of packets of another size.
+// Returns whether the first bytes are known to be of packets of another size.
 fn is_other(front: &[u8]) -> bool
     ensures known { result ≡ true → (409 ≤ length front.now) × (is_some (other_packets front.now) ≡ true) }
 {
@@ -77,7 +77,7 @@ impl StreamReading {
         Ok(())
     }
 
-    /// Returns what other packets than those of 188 bytes the stream has, if any.
+    /// Returns the packet size of the stream, if its packets do not have 188 bytes.
     pub(crate) fn other_packets(&self) -> Option<OtherPackets>
         ensures { (bytes : List ℕ) → spec.IsRead bytes self.now → result ≡ other_packets bytes }
     {

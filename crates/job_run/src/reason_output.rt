@@ -12,7 +12,7 @@ use std::alloc::{AllocError, Global};
 use std::fmt::Write;
 use stream_jobs::{found_rate, unplanned_description};
 
-// The first rate at which a plan is found, of those that are tried.
+// Tries rates and returns the first with a plan, if any has one.
 fn tried_rate(
     alloc: Global,
     options: &JobOptions<'_>,
@@ -27,7 +27,7 @@ fn tried_rate(
     }
 }
 
-// Its line.
+// Appends the line about the rate found.
 #[tactic(auto, unfolding(crate::specs::Outcomes::found_line))]
 fn write_rate(found: Option<u64>, lines: &mut String) -> Result<(), AllocError>
     ensures { OnOk result (string_bytes lines.new ≡ string_bytes lines.old ++ spec.found_line found) }
@@ -38,7 +38,7 @@ fn write_rate(found: Option<u64>, lines: &mut String) -> Result<(), AllocError>
     }
 }
 
-// After lines for reasons one for what is found by trying rates.
+// Tries rates and appends a line with the result, if there are lines with reasons.
 #[tactic(auto, using(crate::proofs::JobOutcomes::told_nothing, crate::proofs::JobOutcomes::told_found))]
 fn write_found(
     alloc: Global,

@@ -7,7 +7,7 @@ use joined_parts::Recoding;
 use std::alloc::AllocError;
 use std::fmt::Write;
 
-// The line of a change.
+// Appends the line of a change.
 #[tactic(auto, unfolding(crate::specs::RecodingLines::recoding_line))]
 fn write_recoding(recoding: &Recoding, text: &mut String) -> Result<(), AllocError>
     ensures { OnOk result (string_bytes text.new ≡ string_bytes text.old ++ spec.recoding_line recoding.now) }

@@ -1,8 +1,8 @@
 //! What a job takes of streams in files by their names.
 
 ghost use Rattle.std.specs.Prelude.{◌≡◌, ◌++◌, IfOk, List, None, OnOk, ℕ, map, string_bytes};
-ghost use Rattle.demux.specs.Shown.{finding_view};
-ghost use Rattle.demux.specs.Views.{FindingView};
+ghost use Rattle.pid_findings.specs.Shown.{finding_view};
+ghost use Rattle.pid_findings.specs.Views.{FindingView};
 ghost use Rattle.devices.specs.Files.{files_of};
 ghost use Rattle.other_tables.specs.OtherTables as tables;
 ghost use Rattle.packet_sync.specs.OtherPackets.{other_packets};
@@ -15,15 +15,15 @@ use crate::job_arguments::JobArguments;
 use crate::outcome::{JobOutcome, only_text, packets_outcome, refused_outcome, told_of};
 use crate::reading::{StreamReading, read_stream};
 use crate::timed_text::job_findings;
-use demux::Finding;
 use devices::{Halt, NamedFiles};
 use job_inputs::{JobInput, job_input, mark_as_asked};
 use job_lines::write_input;
 use other_tables::{OtherTable, other_tables};
+use pid_findings::Finding;
 use std::alloc::{AllocError, Global};
 use std::marker::Model;
 
-/// What a job takes of a stream, the lines that are told of it, and whether something of it is lost.
+/// What a job takes of a stream, the lines about it, and whether they report a loss.
 #[derive(Drop)]
 pub(crate) struct TakenStream {
     pub input: JobInput,
@@ -41,7 +41,7 @@ impl Model for TakenStream {
     ghost view = { λ t. record { input = t.input; lines = string_bytes t.lines; less = t.less } };
 }
 
-// What a job takes of a stream, with these tables beside it.
+// Returns what a job takes of a stream, with these tables beside it.
 fn taken(
     alloc: Global,
     arguments: &JobArguments<'_>,
@@ -59,7 +59,7 @@ fn taken(
     Ok(TakenStream { input, lines, less })
 }
 
-// Or the outcome for one that is refused.
+// Returns what a job takes of a stream, or the outcome of its refusal.
 #[tactic(auto, using(crate::proofs::StreamFiles::is_taken_of, crate::proofs::StreamFiles::is_refusal_of))]
 fn taken_or_refused(
     alloc: Global,
@@ -77,7 +77,7 @@ fn taken_or_refused(
     }
 }
 
-// What a job takes of a stream that was read, of packets of 188 bytes.
+// Returns what a job takes of a stream that was read, of packets of 188 bytes.
 #[tactic(auto, using(crate::proofs::StreamFiles::carried_is_input))]
 fn carried_input(
     alloc: Global,
@@ -101,7 +101,7 @@ fn carried_input(
     Ok(taken)
 }
 
-// What a job takes of a stream that was read.
+// Returns what a job takes of a stream that was read.
 #[tactic(auto, using(crate::proofs::StreamFiles::other_is_input))]
 fn read_input(
     alloc: Global,
@@ -120,7 +120,7 @@ fn read_input(
     }
 }
 
-// The outcome for a file that can't be opened.
+// Returns the outcome for a file that can't be opened.
 fn unopened(alloc: Global) -> Result<JobOutcome, AllocError>
     ensures { IfOk result (λ o. o ≡ spec.stopped_by spec.open_line) }
 {
@@ -129,7 +129,7 @@ fn unopened(alloc: Global) -> Result<JobOutcome, AllocError>
     Ok(stopped(alloc, report))
 }
 
-// For one that can't be read to its end.
+// Returns the outcome for a file that can't be read to its end.
 fn unread(alloc: Global) -> Result<JobOutcome, AllocError>
     ensures { IfOk result (λ o. o ≡ spec.stopped_by spec.read_line) }
 {
@@ -138,7 +138,7 @@ fn unread(alloc: Global) -> Result<JobOutcome, AllocError>
     Ok(stopped(alloc, report))
 }
 
-// An outcome without output of a device that failed.
+// Returns the outcome of a device that failed, without output.
 fn stopped(alloc: Global, report: String) -> JobOutcome
     ensures { result ≡ spec.stopped_by (string_bytes report) }
 {
@@ -149,7 +149,7 @@ fn stopped(alloc: Global, report: String) -> JobOutcome
     }
 }
 
-// What a job takes of the stream in the file of a name.
+// Returns what a job takes of the stream in the file of a name.
 fn named_input<F: NamedFiles>(
     alloc: Global,
     arguments: &JobArguments<'_>,
@@ -169,7 +169,7 @@ fn named_input<F: NamedFiles>(
     }
 }
 
-// An outcome with the line of an input above what it tells.
+// Puts the header line of an input above the report of its outcome.
 fn told_under(
     alloc: Global,
     number: usize,
@@ -200,8 +200,7 @@ impl Model for TakenStreams {
     ghost view = { λ t. t.streams.items };
 }
 
-/// Returns what a job takes of the streams in the files of these names; or the outcome for the first of which it takes
-/// nothing.
+/// Returns what a job takes of the streams in the named files, or the outcome for the first file that gives nothing.
 pub(crate) fn named_inputs<F: NamedFiles>(
     alloc: Global,
     arguments: &JobArguments<'_>,

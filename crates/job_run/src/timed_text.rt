@@ -1,21 +1,21 @@
-//! What a job is made of in a stream that was read: if it was joined from several, its parts one after another;
-//! teletext without stamps with its moments, and what is said of its packets.
+//! What a job is made of in a stream that was read. The parts of a joined recording follow one another, and each
+//! teletext PES packet without a PTS has a moment.
 
 ghost use Rattle.std.specs.Prelude.{◌≡◌, IfOk, filter, map};
 ghost use Rattle.data_times.specs.DataTimes as text;
-ghost use Rattle.demux.specs.Shown.{finding_view};
+ghost use Rattle.pid_findings.specs.Shown.{finding_view};
 ghost use Rattle.job_run.specs.Streams as spec;
 
 use crate::carried_stream::PacketNotes;
 use data_times::{TextTimes, text_times};
-use demux::Finding;
 use job_programs::JobOptions;
 use joined_parts::{Recoding, one_recording, recodings_in};
 use packet_pcr::FoundPcr;
 use packet_sync::{Field, FieldLeftOut};
+use pid_findings::Finding;
 use std::alloc::{AllocError, Global};
 
-// Whether it is a field of PES headers that each unit has.
+// Returns whether a field is of the PES headers that every unit has.
 #[tactic(auto, unfolding(crate::specs::Streams::is_of_unit))]
 fn is_of_unit(field: Field) -> bool
     ensures { result ≡ spec.is_of_unit field }
@@ -28,14 +28,14 @@ fn is_of_unit(field: Field) -> bool
     }
 }
 
-// Whether a field is not written again.
+// Returns whether the job does not write a field.
 fn is_unwritten(times: &TextTimes, left_out: &FieldLeftOut) -> bool
     ensures { result ≡ spec.is_unwritten times.now left_out.now }
 {
     !(is_of_unit(left_out.field) && times.is_timed(left_out.pid))
 }
 
-// The fields that are not written again.
+// Returns the fields that the job does not write.
 fn unwritten(times: &TextTimes, fields: Vec<FieldLeftOut>) -> Vec<FieldLeftOut>
     ensures { result.items ≡ filter (spec.is_unwritten times.now) fields.items }
 {
@@ -44,7 +44,7 @@ fn unwritten(times: &TextTimes, fields: Vec<FieldLeftOut>) -> Vec<FieldLeftOut>
     unwritten
 }
 
-// What is said of packets, without the fields that are written again, and of changes of codings.
+// Drops the notes about fields that the job writes, and adds the changes of codings.
 fn timed_notes(times: &TextTimes, recodings: Vec<Recoding>, notes: PacketNotes) -> PacketNotes
     ensures { result ≡ spec.timed_notes times.now recodings.items notes }
 {
@@ -57,7 +57,7 @@ fn timed_notes(times: &TextTimes, recodings: Vec<Recoding>, notes: PacketNotes) 
     }
 }
 
-// The changes of codings in a stream, if it is taken as a joined recording.
+// Returns the changes of codings in a stream, if it is taken as a joined recording.
 #[tactic(auto, unfolding(crate::specs::Streams::recodings_by))]
 fn stream_recodings(
     alloc: Global,
@@ -73,8 +73,8 @@ fn stream_recodings(
     recodings_in(alloc, findings)
 }
 
-// The clock references and the findings of a stream; if that is asked for, those of the parts of a joined recording one
-// after another, with the tables and the clock of one.
+// Returns the clock references and the findings of a stream. With `joined`, the parts of the recording follow one
+// another, with the tables and the clock of one part.
 #[tactic(auto, unfolding(crate::specs::Streams::references_by, crate::specs::Streams::parts_by))]
 fn joined_stream(
     alloc: Global,
@@ -93,8 +93,8 @@ fn joined_stream(
     one_recording(alloc, references, findings)
 }
 
-// What is said of the packets of a stream with these clock references and changes of codings, and its findings, each
-// PES packet of teletext without stamps with its moment.
+// Returns the notes about a stream's packets, and its findings with a moment for each teletext PES packet without a
+// PTS.
 fn timed_stream(
     alloc: Global,
     references: Vec<FoundPcr>,
@@ -113,9 +113,8 @@ fn timed_stream(
     Ok((notes, timed))
 }
 
-/// Returns what is said of the packets of a stream with these clock references, and the findings of which its job is
-/// made: if that is asked for, those of the parts of a joined recording one after another; each PES packet of teletext
-/// without stamps with its moment.
+/// Returns the notes about a stream's packets, and the findings for its job: with `joined`, the parts of the recording
+/// follow one another; each teletext PES packet without a PTS has a moment.
 pub(crate) fn job_findings(
     alloc: Global,
     options: &JobOptions<'_>,

@@ -1,4 +1,4 @@
--- What the texts say, as tables of TOML.
+-- The texts as tables of TOML.
 use Rattle.std.specs.Prelude.{ℕ, pos, List, [], ◌∷◌, codes, Option, Some, None}
 use Rattle.hex.specs.Hex.{encode_lower}
 use Rattle.toml.specs.Data.{string, integer, boolean, array, table, Items, no_items, item, Members, no_members, member}
@@ -15,12 +15,12 @@ abbrev pub elements_of : List Members → Items
 elements_of [] = no_items
 elements_of (t ∷ ts) = item (table t) (elements_of ts)
 
--- an array of tables at a key before the others; no key if there are none
+-- an array of tables at a key before the remaining keys; no key if there are no tables
 abbrev pub with_tables : List ℕ → List Members → Members → Members
 with_tables key [] more = more
 with_tables key (t ∷ ts) more = member key (array (elements_of (t ∷ ts))) more
 
--- a table at a key before the others, if there is one
+-- a table at a key before the remaining keys, if there is a table
 abbrev pub with_table : List ℕ → Option Members → Members → Members
 with_table key None more = more
 with_table key (Some t) more = member key (table t) more
@@ -46,7 +46,7 @@ program_table p =
     (member (codes "provider") (string p.provider)
     (member (codes "service_type") (integer (pos p.service_type)) no_members))))
 
--- of a stream: its last keys, what stands from its PID on, after its access units, after its descriptors, and the whole
+-- for a stream: its last keys, the keys from its PID on, after its access units, after its descriptors, and all keys
 abbrev pub stream_last : StreamPartView → Members
 stream_last s = with_numbers (last_numbers s) (member (codes "type") (integer (pos s.stream_type)) no_members)
 

@@ -6,11 +6,11 @@ use Rattle.unit_timing.specs.declared.framing.Framing.{Framing}
 use Rattle.unit_timing.specs.declared.multiplexing_buffer.MultiplexingBuffer.{MultiplexingBuffer}
 use Rattle.job_text.specs.DescriptionParts.{HeadingView, ProgramPartView, StreamPartView, TablePartView}
 
--- of a heading, up to the array `program`
+-- the numbers of a heading, up to the array `program`
 abbrev pub first_numbers : HeadingView → List (List ℕ × ℕ)
 first_numbers h = (codes "base0", h.base0) ∷ (codes "original_network_id", h.original_network_id) ∷ []
 
--- of a program, between its name and its provider
+-- the numbers of a program, between its name and its provider
 abbrev pub program_numbers : ProgramPartView → List (List ℕ × ℕ)
 program_numbers p =
     (codes "number", p.number)
@@ -18,22 +18,22 @@ program_numbers p =
     ∷ (codes "pcr_pid", p.pcr_pid)
     ∷ (codes "pmt_pid", p.pmt_pid) ∷ []
 
--- of a stream, before its descriptors: the burst of a pace
+-- the numbers of a stream, before its descriptors: the burst of a pace
 abbrev pub burst_numbers : Allowance → List (List ℕ × ℕ)
 burst_numbers (Groups units packets) = []
 burst_numbers (Pace burst pace) = (codes "burst_packets", burst) ∷ []
 
--- after them: its access units
+-- the numbers after its descriptors: its access units
 abbrev pub frame_numbers : Option Framing → List (List ℕ × ℕ)
 frame_numbers None = []
 frame_numbers (Some f) = (codes "frame", f.frame) ∷ (codes "frame_size", f.frame_size) ∷ (codes "frames", f.frames) ∷ []
 
--- those of groups
+-- the numbers of groups
 abbrev pub group_numbers : Allowance → List (List ℕ × ℕ)
 group_numbers (Groups units packets) = (codes "group", units) ∷ (codes "group_packets", packets) ∷ []
 group_numbers (Pace burst pace) = []
 
--- the next, the size of the multiplexing buffer, and the pace
+-- the next numbers, the size of the multiplexing buffer, and the pace
 abbrev pub time_numbers : StreamPartView → List (List ℕ × ℕ)
 time_numbers s =
     (codes "id", s.stream_id)
@@ -49,7 +49,7 @@ abbrev pub pace_numbers : Allowance → List (List ℕ × ℕ)
 pace_numbers (Groups units packets) = []
 pace_numbers (Pace burst pace) = (codes "pace", pace) ∷ []
 
--- those before the programs that it is shared with: its place, the leak of the multiplexing buffer, that of the transport buffer
+-- the numbers before the programs that it is shared with: its place, and the leak rates of the multiplexing buffer and of the transport buffer
 abbrev pub place_numbers : StreamPartView → List (List ℕ × ℕ)
 place_numbers s = (codes "pid", s.pid) ∷ (codes "program", s.program) ∷ []
 
@@ -69,6 +69,6 @@ drain_numbers s = (codes "rx", s.rx) ∷ []
 abbrev pub last_numbers : StreamPartView → List (List ℕ × ℕ)
 last_numbers s = (codes "size", s.size) ∷ []
 
--- of a table, between its descriptors and its sections
+-- the numbers of a table, between its descriptors and its sections
 abbrev pub table_numbers : TablePartView → List (List ℕ × ℕ)
 table_numbers t = (codes "limit", t.limit) ∷ (codes "pid", t.pid) ∷ (codes "program", t.program) ∷ []

@@ -22,19 +22,19 @@ abbrev mutual
   items_text is_first no_items = codes "]"
   items_text is_first (item d ds) = (if is_first then [] else codes ", ") ++ (value_text d ++ items_text false ds)
 
--- `KEY = VALUE`, what stands beside it, and LF
+-- `KEY = VALUE`, the comment beside it, and LF
 unfoldable pub key_line : List ℕ → Data → List ℕ
 key_line key value = key ++ (codes " = " ++ (value_text value ++ (note_of key value ++ codes "\n")))
 
--- of a number, with this comment beside it
+-- the line of a number, with this comment beside it
 unfoldable pub noted_line : List ℕ → ℕ → List ℕ → List ℕ
 noted_line key n note = key ++ (codes " = " ++ (decimal n ++ (note ++ codes "\n")))
 
--- of a number
+-- the line of a number
 abbrev pub number_line : List ℕ × ℕ → List ℕ
 number_line field = key_line field.0 (integer (pos field.1))
 
--- of a number at a key that the code lends
+-- the line of a number at a key that the code lends
 abbrev pub field_line : Bor (List ℕ) × ℕ → List ℕ
 field_line field = number_line (field.0.now, field.1)
 
@@ -42,7 +42,7 @@ field_line field = number_line (field.0.now, field.1)
 abbrev pub number_lines : List (List ℕ × ℕ) → List ℕ
 number_lines fields = flat_map number_line fields
 
--- they stand in a table before its other keys
+-- the same in a table, before its other keys
 abbrev pub with_numbers : List (List ℕ × ℕ) → Members → Members
 with_numbers [] more = more
 with_numbers (field ∷ fields) more = member field.0 (integer (pos field.1)) (with_numbers fields more)
@@ -51,7 +51,7 @@ with_numbers (field ∷ fields) more = member field.0 (integer (pos field.1)) (w
 unfoldable pub hex_line : List ℕ → List ℕ → List ℕ
 hex_line key bytes = if length bytes == 0 then [] else key_line key (string (encode_lower bytes))
 
--- they stand in a table before its other keys
+-- the same in a table, before its other keys
 unfoldable pub with_hex : List ℕ → List ℕ → Members → Members
 with_hex key bytes more = if length bytes == 0 then more else member key (string (encode_lower bytes)) more
 
@@ -60,11 +60,11 @@ abbrev pub items_of : List ℕ → Items
 items_of [] = no_items
 items_of (n ∷ ns) = item (integer (pos n)) (items_of ns)
 
--- a number after another one
+-- a number after another number
 abbrev pub next_number : ℕ → List ℕ
 next_number n = codes ", " ++ decimal n
 
--- the array of a number and others after it
+-- the array of a number and the numbers after it
 abbrev pub array_line : List ℕ → ℕ → List ℕ → List ℕ
 array_line key n ns = (key ++ (codes " = [" ++ decimal n)) ++ (flat_map next_number ns ++ codes "]\n")
 
@@ -72,7 +72,7 @@ array_line key n ns = (key ++ (codes " = [" ++ decimal n)) ++ (flat_map next_num
 unfoldable pub list_line : List ℕ → List ℕ → List ℕ
 list_line key ns = if length ns == 0 then [] else key_line key (array (items_of ns))
 
--- it stands in a table before its other keys
+-- the same in a table, before its other keys
 abbrev pub with_list : List ℕ → List ℕ → Members → Members
 with_list key [] more = more
 with_list key (n ∷ ns) more = member key (array (items_of (n ∷ ns))) more
@@ -86,7 +86,7 @@ digits_of (b ∷ bs) = item (string (encode_lower b)) (digits_of bs)
 abbrev pub next_digits : List ℕ → List ℕ
 next_digits b = codes ", " ++ string_text (encode_lower b)
 
--- the array of one and others after it
+-- the array of bytes and the elements after them
 abbrev pub digits_line : List ℕ → List ℕ → List (List ℕ) → List ℕ
 digits_line key b bs = (key ++ (codes " = [" ++ string_text (encode_lower b))) ++ (flat_map next_digits bs ++ codes "]\n")
 
@@ -94,6 +94,6 @@ digits_line key b bs = (key ++ (codes " = [" ++ string_text (encode_lower b))) +
 unfoldable pub table_header : List ℕ → List ℕ
 table_header key = codes "\n[" ++ (key ++ codes "]\n")
 
--- of an element of an array of tables
+-- an empty line, and the header of an element of an array of tables
 unfoldable pub header : List ℕ → List ℕ
 header key = codes "\n[[" ++ (key ++ codes "]]\n")

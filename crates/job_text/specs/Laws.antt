@@ -1,4 +1,4 @@
--- What the laws of this crate say.
+-- The laws of this crate.
 use Rattle.std.specs.Prelude.{◌≡◌, ◌<◌, ◌^◌, ℕ, true, List, ◌++◌, map, All, IfSome, Option, Some, option_map}
 use Rattle.std.specs.List.{flat_map, list_all}
 use Rattle.toml.specs.Data.{Data}
@@ -24,17 +24,17 @@ pub record FitsHeading (h : HeadingView) : Type 0 where
   pub rate : Fits h.rate
   pub transport_stream_id : Fits h.transport_stream_id
 
--- those of an event
+-- the numbers of an event are TOML's
 pub record FitsEvent (e : EventPartView) : Type 0 where
   pub duration : Fits e.duration
   pub id : Fits e.id
   pub program : Fits e.program
 
--- that of a network
+-- the number of a network, if there is one, is TOML's
 abbrev pub FitsNetwork : Option NetworkPartView → Type 0
 FitsNetwork n = IfSome n (λ n. Fits n.id)
 
--- those of a program
+-- the numbers of a program are TOML's
 pub record FitsProgram (p : ProgramPartView) : Type 0 where
   pub number : Fits p.number
   pub pcr_limit : Fits p.pcr_limit
@@ -42,16 +42,16 @@ pub record FitsProgram (p : ProgramPartView) : Type 0 where
   pub pmt_pid : Fits p.pmt_pid
   pub service_type : Fits p.service_type
 
--- those of a stream
+-- the numbers of a stream's groups or pace are TOML's
 abbrev pub FitsAllowance : Allowance → Type 0
 FitsAllowance (Groups units packets) = Fits units × Fits packets
 FitsAllowance (Pace burst pace) = Fits burst × Fits pace
 
--- of its multiplexing buffer
+-- the numbers of its multiplexing buffer are TOML's
 abbrev pub FitsMultiplexing : Option MultiplexingBuffer → Type 0
 FitsMultiplexing m = IfSome m (λ m. Fits m.rbx × Fits m.size)
 
--- of its access units
+-- the numbers of its access units are TOML's
 pub record FitsFrames (f : Framing) : Type 0 where
   pub frames : Fits f.frames
   pub frame : Fits f.frame
@@ -76,7 +76,7 @@ pub record FitsStream (s : StreamPartView) : Type 0 where
   pub size : Fits s.size
   pub stream_type : Fits s.stream_type
 
--- those of a table
+-- the numbers of a table are TOML's
 pub record FitsTable (t : TablePartView) : Type 0 where
   pub limit : Fits t.limit
   pub pid : Fits t.pid

@@ -1,4 +1,4 @@
--- What is written beside a number for people: a comment of TOML.
+-- The comments of TOML that explain numbers to people.
 use Rattle.std.specs.Prelude.{ℕ, pos, ◌*◌, ◌/◌, ◌%◌, ◌==◌, ◌&&◌, nat_le, nat_lt, Bool, if◌then◌else◌, List, [], ◌∷◌, ◌++◌, length, bytes_eq, codes, decimal}
 use Rattle.std.specs.List.{list_any}
 use Rattle.toml.specs.Data.{Data, integer}
@@ -7,7 +7,7 @@ use Rattle.job_text.specs.declared.measure.Measure.TheVariants.{Plain, Ticks, Cl
 use Rattle.stream_coding.specs.declared.profiles.ProfileLevel.{ProfileLevel}
 use Rattle.job_text.specs.ProfileWords.{said_words}
 
--- 1. Which keys have which measure; a key has the same one in each table
+-- 1. The measure of each key; a key has the same measure in each table
 
 abbrev pub is_among : List (List ℕ) → List ℕ → Bool
 is_among names key = list_any (λ name. bytes_eq name key) names
@@ -35,7 +35,7 @@ measure_of key =
     else if is_among (codes "duration" ∷ []) key then Seconds
     else Plain
 
--- 2. Numbers: their digits in groups of three; what is left of a whole, in thousandths, rounded down
+-- 2. Numbers: their digits in groups of three; fractions in thousandths, rounded down
 
 unfoldable pub group : ℕ → List ℕ
 group n = codes "," ++ (decimal (n / 100 % 10) ++ (decimal (n / 10 % 10) ++ decimal (n % 10)))
@@ -106,15 +106,15 @@ number_note Milliseconds n = note (codes "ms")
 number_note Seconds n = note (decimal (n / 3_600) ++ (codes ":" ++ (two_digits (n / 60 % 60) ++ (codes ":" ++ two_digits (n % 60)))))
 number_note ServiceType n = note_if_any (service_type_name n)
 
--- beside a stream_type that has a name: its name, and what the headers of the stream say
+-- beside a stream_type that has a name: its name, and the profile and level in the stream's headers
 unfoldable pub type_note : ℕ → ProfileLevel → List ℕ
 type_note n said = if length (stream_type_name n) == 0 then [] else note (stream_type_name n ++ said_words said)
 
--- what is no number has none
+-- a value that is no number has no comment
 abbrev pub note_of : List ℕ → Data → List ℕ
 note_of key (integer (pos n)) = number_note (measure_of key) n
 note_of key _ = []
 
--- the bytes of one: printable ASCII
+-- the bytes of a comment: printable ASCII
 abbrev pub is_shown : ℕ → Bool
 is_shown c = nat_le 32 c && nat_le c 126

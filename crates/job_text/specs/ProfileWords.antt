@@ -1,4 +1,4 @@
--- What the headers of a stream say of its profile and its level, in words.
+-- The profile and the level in the headers of a stream, in words.
 use Rattle.std.specs.Prelude.{ℕ, ◌+◌, ◌*◌, ◌/◌, ◌%◌, ◌==◌, nat_lt, if◌then◌else◌, List, [], ◌++◌, length, codes, decimal}
 use Rattle.stream_coding.specs.declared.profiles.ProfileLevel.{ProfileLevel}
 use Rattle.stream_coding.specs.declared.profiles.ProfileLevel.TheVariants.{Unsaid, Mpeg, Avc, Hevc, Aac}

@@ -18,7 +18,7 @@ heading_text h =
     ++ (key_line (codes "tdt") (boolean h.tdt)
     ++ number_line (codes "ts_id", h.transport_stream_id)))))
 
--- of an event: its first numbers, its language and name, and the lines after them
+-- for an event: its first numbers, its language and name, and the lines after them
 abbrev pub event_numbers : EventPartView → List (List ℕ × ℕ)
 event_numbers e = (codes "duration", e.duration) ∷ (codes "id", e.id) ∷ []
 
@@ -42,7 +42,7 @@ abbrev pub network_if_any : Option NetworkPartView → List ℕ
 network_if_any None = []
 network_if_any (Some n) = network_text n
 
--- of a program: the lines up to its name, and those of its service after the numbers
+-- for a program: the lines up to its name, and the lines of its service after the numbers
 abbrev pub program_front : ProgramPartView → List ℕ
 program_front p = (header (codes "program") ++ hex_line (codes "descriptors") p.descriptors) ++ key_line (codes "name") (string p.name)
 
@@ -53,7 +53,7 @@ program_service p = key_line (codes "provider") (string p.provider) ++ number_li
 abbrev pub program_text : ProgramPartView → List ℕ
 program_text p = program_front p ++ (number_lines (program_numbers p) ++ program_service p)
 
--- of a stream: the lines up to its group, or its access units, those up to its pace, those up to its rate, and the last
+-- for a stream: the lines up to its group, or its access units, then up to its pace, then up to its rate, and the last lines
 abbrev pub stream_front : StreamPartView → List ℕ
 stream_front s =
     header (codes "stream")
@@ -68,7 +68,7 @@ stream_place s =
     number_lines (place_numbers s)
     ++ (number_lines (limit_numbers s.pts_limit) ++ (number_lines (leak_numbers s.multiplexing) ++ number_lines (drain_numbers s)))
 
--- of its stream_type, with what its headers say of it
+-- the line of its stream_type, with the profile and level in its headers
 abbrev pub type_line : StreamPartView → List ℕ
 type_line s = noted_line (codes "type") s.stream_type (type_note s.stream_type s.said)
 
@@ -79,7 +79,7 @@ stream_end s = list_line (codes "shared_with") s.shared_with ++ (number_lines (l
 abbrev pub stream_text : StreamPartView → List ℕ
 stream_text s = stream_front s ++ (stream_times s ++ (stream_place s ++ stream_end s))
 
--- of a table: the lines up to its program, and the last two
+-- for a table: the lines up to its program, and the last two lines
 abbrev pub table_front : TablePartView → List ℕ
 table_front t = header (codes "table") ++ (key_line (codes "descriptors") (string (encode_lower t.descriptors)) ++ number_lines (table_numbers t))
 

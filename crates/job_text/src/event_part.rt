@@ -7,7 +7,7 @@ ghost use Rattle.job_text.specs.Texts.{event_back, event_names, event_text};
 use crate::key_line::{write_header, write_number, write_numbers, write_string};
 use std::alloc::{AllocError, Allocator};
 
-/// What a description says of an event of a service (EN 300 468, 5.2.4 and 6.2.37).
+/// An event of a service in a description (EN 300 468, 5.2.4 and 6.2.37).
 #[derive(Clone, Copy, PartialEq, Eq)]
 pub struct EventPart<'a> {
     /// The number of its program.
@@ -36,7 +36,7 @@ impl EventPart<'_> {
         self.write_back(text)
     }
 
-    // The lines of its language and its name.
+    // Appends the lines of its language and its name.
     fn write_names<A: Allocator>(&self, text: &mut String<A>) -> Result<(), AllocError>
         ensures { OnOk result (string_bytes text.new ≡ string_bytes text.old ++ event_names (event_view self.now)) }
     {
@@ -44,7 +44,7 @@ impl EventPart<'_> {
         write_string(text, "name", self.name)
     }
 
-    // The lines from `program` on.
+    // Appends the lines from `program` on.
     fn write_back<A: Allocator>(&self, text: &mut String<A>) -> Result<(), AllocError>
         ensures { OnOk result (string_bytes text.new ≡ string_bytes text.old ++ event_back (event_view self.now)) }
     {

@@ -7,7 +7,7 @@ ghost use Rattle.job_text.specs.Texts.{heading_text};
 use crate::key_line::{write_flag, write_number, write_numbers, write_string};
 use std::alloc::{AllocError, Allocator};
 
-/// What a description says of the whole transport stream.
+/// The heading of a description: the whole transport stream.
 #[derive(Clone, Copy)]
 pub struct Heading<'a> {
     /// The rate, in bits a second.
@@ -25,7 +25,7 @@ pub struct Heading<'a> {
 }
 
 impl Heading<'_> {
-    /// Appends its lines: every key, the ones with defaults too.
+    /// Appends its lines: every key, also the keys with defaults.
     pub fn write_text<A: Allocator>(&self, text: &mut String<A>) -> Result<(), AllocError>
         ensures { OnOk result (string_bytes text.new ≡ string_bytes text.old ++ heading_text (heading_view self.now)) }
     {

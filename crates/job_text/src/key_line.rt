@@ -48,7 +48,7 @@ pub(crate) fn write_number<A: Allocator>(
     text.push_str("\n")
 }
 
-/// Appends the line of a stream_type, with what the headers of the stream say of it.
+/// Appends the line of a stream_type, with the profile and level in the stream's headers.
 #[tactic(auto, unfolding(crate::specs::KeyLines::noted_line))]
 pub(crate) fn write_type<A: Allocator>(
     text: &mut String<A>,
@@ -63,7 +63,7 @@ pub(crate) fn write_type<A: Allocator>(
     text.push_str("\n")
 }
 
-// A key with its number.
+// Appends a key with its number.
 fn write_field<A: Allocator>(text: &mut String<A>, field: &(&str, u64)) -> Result<(), AllocError>
     ensures { OnOk result (string_bytes text.new ≡ string_bytes text.old ++ field_line field.now) }
 {
@@ -123,7 +123,7 @@ pub(crate) fn write_hex<A: Allocator + Clone>(
     write_string(text, key, digits.as_str())
 }
 
-// The numbers of an array after its first.
+// Appends the numbers of an array after its first.
 fn write_next_numbers<A: Allocator>(text: &mut String<A>, numbers: &[u16]) -> Result<(), AllocError>
     ensures { OnOk result (string_bytes text.new ≡ string_bytes text.old ++ flat_map next_number numbers.now) }
 {
@@ -133,7 +133,7 @@ fn write_next_numbers<A: Allocator>(text: &mut String<A>, numbers: &[u16]) -> Re
     Ok(())
 }
 
-// A key with the array of a number and those after it.
+// Appends a key with the array of a number and the numbers after it.
 fn write_array<A: Allocator>(
     text: &mut String<A>,
     key: &str,
@@ -176,7 +176,7 @@ pub(crate) fn write_digits(
     write_string(text, key, digits.as_str())
 }
 
-// Bytes as a string of digits after another one.
+// Appends bytes as a string of digits after another string.
 fn write_next(alloc: Global, text: &mut String, bytes: &[u8]) -> Result<(), AllocError>
     ensures { OnOk result (string_bytes text.new ≡ string_bytes text.old ++ next_digits bytes.now) }
 {
@@ -187,7 +187,7 @@ fn write_next(alloc: Global, text: &mut String, bytes: &[u8]) -> Result<(), Allo
     write!(text, ", {value}")
 }
 
-// The strings of an array after its first.
+// Appends the strings of an array after its first.
 fn write_next_digits(alloc: Global, text: &mut String, parts: &[Vec<u8>]) -> Result<(), AllocError>
     ensures { OnOk result (string_bytes text.new
         ≡ string_bytes text.old ++ flat_map (λ b. next_digits b.items) parts.now) }
@@ -198,7 +198,7 @@ fn write_next_digits(alloc: Global, text: &mut String, parts: &[Vec<u8>]) -> Res
     Ok(())
 }
 
-// A key with the first string of an array.
+// Appends a key with the first string of an array.
 fn write_first(alloc: Global, text: &mut String, key: &str, bytes: &[u8]) -> Result<(), AllocError>
     ensures { OnOk result (string_bytes text.new
         ≡ string_bytes text.old ++ (key.now ++ (codes " = [" ++ string_text (encode_lower bytes.now)))) }
@@ -210,7 +210,7 @@ fn write_first(alloc: Global, text: &mut String, key: &str, bytes: &[u8]) -> Res
     write!(text, "{key} = [{value}")
 }
 
-// A key with an array of strings of digits.
+// Appends a key with an array of strings of digits.
 fn write_digits_array(
     alloc: Global,
     text: &mut String,

@@ -1,10 +1,10 @@
-//! What a number counts, by its key.
+//! The measures of numbers, by their keys.
 
 ghost use Rattle.std.specs.Prelude.{◌≡◌, map, bytes_eq};
 ghost use Rattle.std.specs.List.{list_any};
 ghost use Rattle.job_text.specs.Notes.{is_among, measure_of};
 
-/// What a number counts, for the comment beside it.
+/// The measure of a number, for the comment beside it.
 #[derive(Clone, Copy, PartialEq, Eq)]
 pub(crate) enum Measure {
     /// A number that has no comment.
@@ -34,7 +34,7 @@ fn is_among(key: &str, names: &[&str]) -> bool
     is_one_of(key, names)
 }
 
-/// Returns what the number at a key counts.
+/// Returns the measure of the number at a key.
 #[tactic(auto, unfolding(crate::specs::Notes::measure_of))]
 pub(crate) fn measure_of(key: &str) -> Measure
     ensures { result ≡ measure_of key.now }

@@ -7,7 +7,7 @@ ghost use Rattle.job_text.specs.Texts.{network_text};
 use crate::key_line::{write_hex, write_number, write_string, write_table_header};
 use std::alloc::{AllocError, Allocator};
 
-/// What a description says of the network of its network information table (EN 300 468, 5.2.1).
+/// The network of a description's network information table (EN 300 468, 5.2.1).
 #[derive(Clone, Copy, PartialEq, Eq)]
 pub struct NetworkPart<'a> {
     /// network_id.

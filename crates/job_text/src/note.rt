@@ -10,7 +10,7 @@ use std::alloc::{AllocError, Allocator};
 use std::fmt::Write;
 use stream_coding::ProfileLevel;
 
-// The last three digits of a number after a comma.
+// Appends the last three digits of a number after a comma.
 #[tactic(auto, unfolding(crate::specs::Notes::group))]
 fn write_group<A: Allocator>(text: &mut String<A>, number: u64) -> Result<(), AllocError>
     ensures { OnOk result (string_bytes text.new ≡ string_bytes text.old ++ spec.group number) }
@@ -19,7 +19,7 @@ fn write_group<A: Allocator>(text: &mut String<A>, number: u64) -> Result<(), Al
     write!(text, ",{hundreds}{tens}{ones}")
 }
 
-// The last six digits of a number in groups.
+// Appends the last six digits of a number in groups.
 fn write_two_groups<A: Allocator>(text: &mut String<A>, number: u64) -> Result<(), AllocError>
     ensures { OnOk result (string_bytes text.new ≡ string_bytes text.old
         ++ (spec.group (number / 1_000) ++ spec.group number)) }
@@ -28,7 +28,7 @@ fn write_two_groups<A: Allocator>(text: &mut String<A>, number: u64) -> Result<(
     write_group(text, number)
 }
 
-// A number, its digits in groups of three.
+// Appends a number, its digits in groups of three.
 #[tactic(auto, unfolding(crate::specs::Notes::grouped))]
 fn write_grouped<A: Allocator>(text: &mut String<A>, number: u64) -> Result<(), AllocError>
     ensures { OnOk result (string_bytes text.new ≡ string_bytes text.old ++ spec.grouped number) }
@@ -48,7 +48,7 @@ fn write_grouped<A: Allocator>(text: &mut String<A>, number: u64) -> Result<(), 
     }
 }
 
-// Thousandths after a point, if there are any.
+// Appends thousandths after a point, if there are any.
 #[tactic(auto, unfolding(crate::specs::Notes::thousandths))]
 fn write_thousandths<A: Allocator>(text: &mut String<A>, number: u64) -> Result<(), AllocError>
     ensures { OnOk result (string_bytes text.new ≡ string_bytes text.old ++ spec.thousandths number) }
@@ -60,7 +60,7 @@ fn write_thousandths<A: Allocator>(text: &mut String<A>, number: u64) -> Result<
     write!(text, ".{hundreds}{tens}{ones}")
 }
 
-// A number of parts of a whole.
+// Appends a number of parts of a whole.
 #[tactic(auto, unfolding(crate::specs::Notes::quotient))]
 fn write_quotient<A: Allocator>(
     text: &mut String<A>,
@@ -75,7 +75,7 @@ fn write_quotient<A: Allocator>(
     write_thousandths(text, number % whole * 1_000 / whole)
 }
 
-// A time in milliseconds, or in seconds.
+// Appends a time in milliseconds, or in seconds.
 fn write_time<A: Allocator>(
     text: &mut String<A>,
     whole: u64,
@@ -92,7 +92,7 @@ fn write_time<A: Allocator>(
     text.push_str(unit)
 }
 
-// A number of bytes, or of bits a second.
+// Appends a number of bytes, or of bits a second.
 fn write_amount<A: Allocator>(
     text: &mut String<A>,
     number: u64,
@@ -106,7 +106,7 @@ fn write_amount<A: Allocator>(
     text.push_str(unit)
 }
 
-// Two digits.
+// Appends two digits.
 #[tactic(auto, unfolding(crate::specs::Notes::two_digits))]
 fn write_two_digits<A: Allocator>(text: &mut String<A>, number: u64) -> Result<(), AllocError>
     ensures { OnOk result (string_bytes text.new ≡ string_bytes text.old ++ spec.two_digits number) }
@@ -115,7 +115,7 @@ fn write_two_digits<A: Allocator>(text: &mut String<A>, number: u64) -> Result<(
     write!(text, "{tens}{ones}")
 }
 
-// A number of seconds as hours, minutes and seconds.
+// Appends a number of seconds as hours, minutes and seconds.
 fn write_duration<A: Allocator>(text: &mut String<A>, number: u64) -> Result<(), AllocError>
     ensures { OnOk result (string_bytes text.new ≡ string_bytes text.old
         ++ spec.number_note Seconds number) }
@@ -128,7 +128,7 @@ fn write_duration<A: Allocator>(text: &mut String<A>, number: u64) -> Result<(),
     write_two_digits(text, number % 60)
 }
 
-// The name of a stream_type, empty if it has none.
+// Returns the name of a stream_type, empty if it has none.
 #[tactic(auto, unfolding(crate::specs::Notes::stream_type_name))]
 fn stream_type_name(stream_type: u64) -> &'static str
     ensures { result.now ≡ spec.stream_type_name stream_type }
@@ -151,7 +151,7 @@ fn stream_type_name(stream_type: u64) -> &'static str
     }
 }
 
-// The name of a service_type, empty if it has none.
+// Returns the name of a service_type, empty if it has none.
 #[tactic(auto, unfolding(crate::specs::Notes::service_type_name))]
 fn service_type_name(service_type: u64) -> &'static str
     ensures { result.now ≡ spec.service_type_name service_type }
@@ -170,7 +170,7 @@ fn service_type_name(service_type: u64) -> &'static str
     }
 }
 
-// A name, if there is one.
+// Appends a name, if there is one.
 #[tactic(auto, unfolding(crate::specs::Notes::note_if_any))]
 fn write_name<A: Allocator>(text: &mut String<A>, name: &str) -> Result<(), AllocError>
     ensures { OnOk result (string_bytes text.new ≡ string_bytes text.old ++ spec.note_if_any name.now) }

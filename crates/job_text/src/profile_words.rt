@@ -1,4 +1,4 @@
-//! What the headers of a stream say of its profile and its level, in words.
+//! The profile and the level in the headers of a stream, in words.
 
 ghost use Rattle.std.specs.Prelude.{◌≡◌, ◌++◌, ◌<◌, OnOk, codes, string_bytes};
 ghost use Rattle.job_text.specs.ProfileWords as spec;
@@ -47,7 +47,7 @@ fn write_level<A: Allocator>(text: &mut String<A>, lead: &str, tenths: u8) -> Re
     write_tenth(text, tenths % 10)
 }
 
-// The name of a profile of ISO/IEC 13818-2, empty if it has none.
+// Returns the name of a profile of ISO/IEC 13818-2, empty if it has none.
 #[tactic(auto, unfolding(crate::specs::ProfileWords::mpeg_profile_name))]
 fn mpeg_profile_name(profile: u8) -> &'static str
     ensures { result.now ≡ spec.mpeg_profile_name profile }
@@ -62,7 +62,7 @@ fn mpeg_profile_name(profile: u8) -> &'static str
     }
 }
 
-// The name of a level of ISO/IEC 13818-2, empty if it has none.
+// Returns the name of a level of ISO/IEC 13818-2, empty if it has none.
 #[tactic(auto, unfolding(crate::specs::ProfileWords::mpeg_level_name))]
 fn mpeg_level_name(level: u8) -> &'static str
     ensures { result.now ≡ spec.mpeg_level_name level }
@@ -92,7 +92,7 @@ fn write_mpeg<A: Allocator>(text: &mut String<A>, indication: u8) -> Result<(), 
     }
 }
 
-// The name of a profile of ISO/IEC 14496-10, empty if it has none.
+// Returns the name of a profile of ISO/IEC 14496-10, empty if it has none.
 #[tactic(auto, unfolding(crate::specs::ProfileWords::avc_profile_name))]
 fn avc_profile_name(profile: u8, flags: u8) -> &'static str
     ensures { result.now ≡ spec.avc_profile_name profile flags }
@@ -140,7 +140,7 @@ fn write_avc<A: Allocator>(
     write_avc_level(text, level)
 }
 
-// The name of a profile of the format range extensions of ISO/IEC 23008-2.
+// Returns the name of a profile of the format range extensions of ISO/IEC 23008-2.
 #[tactic(auto, unfolding(crate::specs::ProfileWords::range_profile_name))]
 fn range_profile_name(flags: u8) -> &'static str
     ensures { result.now ≡ spec.range_profile_name flags }
@@ -157,7 +157,7 @@ fn range_profile_name(flags: u8) -> &'static str
     }
 }
 
-// The name of a profile of ISO/IEC 23008-2, empty if it has none.
+// Returns the name of a profile of ISO/IEC 23008-2, empty if it has none.
 #[tactic(auto, unfolding(crate::specs::ProfileWords::hevc_profile_name))]
 fn hevc_profile_name(profile: u8, flags: u8) -> &'static str
     ensures { result.now ≡ spec.hevc_profile_name profile flags }
@@ -171,7 +171,7 @@ fn hevc_profile_name(profile: u8, flags: u8) -> &'static str
     }
 }
 
-// What comes before the level of ISO/IEC 23008-2 video.
+// Returns the text before the level of ISO/IEC 23008-2 video.
 #[tactic(auto, unfolding(crate::specs::ProfileWords::tier_lead))]
 fn tier_lead(profile: u8) -> &'static str
     ensures { result.now ≡ spec.tier_lead profile }
@@ -201,7 +201,7 @@ fn write_hevc<A: Allocator>(
     write_level(text, tier_lead(profile), tenths)
 }
 
-// The name of a profile of ISO/IEC 13818-7 by its audio object type, empty if it has none.
+// Returns the name of a profile of ISO/IEC 13818-7 by its audio object type, empty if it has none.
 #[tactic(auto, unfolding(crate::specs::ProfileWords::aac_profile_name))]
 fn aac_profile_name(object_type: u8) -> &'static str
     ensures { result.now ≡ spec.aac_profile_name object_type }
@@ -214,7 +214,7 @@ fn aac_profile_name(object_type: u8) -> &'static str
     }
 }
 
-// The channels of a channel_configuration, empty if it does not say them.
+// Returns the channels of a channel_configuration, empty if it does not say them.
 #[tactic(auto, unfolding(crate::specs::ProfileWords::channels_name))]
 fn channels_name(configuration: u8) -> &'static str
     ensures { result.now ≡ spec.channels_name configuration }
@@ -243,7 +243,7 @@ fn write_aac<A: Allocator>(
     write_joined(text, ", ", channels_name(channels))
 }
 
-/// Appends what is said of a profile and a level, each part after a comma.
+/// Appends the words for a profile and a level, each part after a comma.
 pub(crate) fn write_said<A: Allocator>(
     text: &mut String<A>,
     said: ProfileLevel,

@@ -7,14 +7,14 @@ ghost use Rattle.job_text.specs.Texts.{program_text, program_front, program_serv
 use crate::key_line::{write_header, write_hex, write_number, write_numbers, write_string};
 use std::alloc::{AllocError, Allocator};
 
-/// What a description says of a program and its service (ISO/IEC 13818-1, 2.4.4.8; EN 300 468, 5.2.3 and 6.2.34).
+/// A program and its service in a description (ISO/IEC 13818-1, 2.4.4.8; EN 300 468, 5.2.3 and 6.2.34).
 #[derive(Clone, Copy, PartialEq, Eq)]
 pub struct ProgramPart<'a> {
     /// program_number, and service_id.
     pub number: u16,
     /// The PID of its PMT.
     pub pmt_pid: u16,
-    /// The PID of its clock references, which carries nothing else.
+    /// The PID of its clock references, with no other contents.
     pub pcr_pid: u16,
     /// The greatest time between two clock references, in ms.
     pub pcr_limit: u8,
@@ -41,7 +41,7 @@ impl ProgramPart<'_> {
         self.write_service(text)
     }
 
-    // The lines up to its name.
+    // Appends the lines up to its name.
     fn write_front<A: Allocator + Clone>(&self, text: &mut String<A>) -> Result<(), AllocError>
         ensures { OnOk result (string_bytes text.new ≡ string_bytes text.old ++ program_front (program_view self.now)) }
     {
@@ -50,7 +50,7 @@ impl ProgramPart<'_> {
         write_string(text, "name", self.name)
     }
 
-    // The lines of its service after the numbers.
+    // Appends the lines of its service after the numbers.
     fn write_service<A: Allocator>(&self, text: &mut String<A>) -> Result<(), AllocError>
         ensures { OnOk result (string_bytes text.new ≡ string_bytes text.old
             ++ program_service (program_view self.now)) }

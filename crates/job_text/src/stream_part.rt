@@ -16,8 +16,8 @@ use unit_timing::allowance::Allowance;
 use unit_timing::framing::Framing;
 use unit_timing::multiplexing_buffer::MultiplexingBuffer;
 
-/// What a description says of an elementary stream and its units (ISO/IEC 13818-1, 2.4.2 and 2.4.4.8). It has no
-/// component_tag and no language of its own: their descriptors are among `descriptors`.
+/// An elementary stream and its units in a description (ISO/IEC 13818-1, 2.4.2 and 2.4.4.8). It has no component_tag
+/// and no language of its own: their descriptors are among `descriptors`.
 #[derive(Clone, Copy, PartialEq, Eq)]
 pub struct StreamPart<'a> {
     /// The number of its program.
@@ -37,7 +37,7 @@ pub struct StreamPart<'a> {
     pub pts_limit: Option<u32>,
     /// The rate at which its transport buffer is emptied, in bits a second.
     pub rx: u32,
-    /// Its main buffer, in bytes; its elementary stream buffer where it has a multiplexing buffer.
+    /// Its main buffer, in bytes; its elementary stream buffer if it has a multiplexing buffer.
     pub main: u32,
     /// Whole descriptors of the stream in its PMT.
     pub descriptors: &'a [u8],
@@ -49,7 +49,7 @@ pub struct StreamPart<'a> {
     pub multiplexing: Option<MultiplexingBuffer>,
     /// The access units of its units, if these are PES packets that hold several.
     pub framing: Option<Framing>,
-    /// What its headers say of its profile and level, for the comment beside its stream_type.
+    /// The profile and level in its headers, for the comment beside its stream_type.
     pub said: ProfileLevel,
 }
 
@@ -66,7 +66,7 @@ impl StreamPart<'_> {
         self.write_end(text)
     }
 
-    // The line of its burst, if it is declared by pace.
+    // Appends the line of its burst, if it is declared by pace.
     fn write_burst<A: Allocator>(&self, text: &mut String<A>) -> Result<(), AllocError>
         ensures { OnOk result (string_bytes text.new ≡ string_bytes text.old
             ++ number_lines (burst_numbers self.now.allowance)) }
@@ -80,7 +80,7 @@ impl StreamPart<'_> {
         }
     }
 
-    // The lines of its access units, if it has a framing.
+    // Writes the lines of its access units, if it has a framing.
     fn write_frames<A: Allocator>(&self, text: &mut String<A>) -> Result<(), AllocError>
         ensures { OnOk result (string_bytes text.new ≡ string_bytes text.old
             ++ number_lines (frame_numbers self.now.framing)) }
@@ -98,7 +98,7 @@ impl StreamPart<'_> {
         }
     }
 
-    // The lines of its groups, if it is declared by groups.
+    // Appends the lines of its groups, if it is declared by groups.
     fn write_groups<A: Allocator>(&self, text: &mut String<A>) -> Result<(), AllocError>
         ensures { OnOk result (string_bytes text.new ≡ string_bytes text.old
             ++ number_lines (group_numbers self.now.allowance)) }
@@ -112,7 +112,7 @@ impl StreamPart<'_> {
         }
     }
 
-    // Writes the lines of its descriptors, its access units and its groups, those that it has.
+    // Writes the lines of its descriptors, its access units and its groups, if it has them.
     fn write_units<A: Allocator + Clone>(&self, text: &mut String<A>) -> Result<(), AllocError>
         ensures { OnOk result (string_bytes text.new ≡ string_bytes text.old
             ++ (hex_line (codes "descriptors") self.now.descriptors.now
@@ -132,7 +132,7 @@ impl StreamPart<'_> {
         self.write_units(text)
     }
 
-    // The line of its pace, if it is declared by pace.
+    // Appends the line of its pace, if it is declared by pace.
     fn write_pace<A: Allocator>(&self, text: &mut String<A>) -> Result<(), AllocError>
         ensures { OnOk result (string_bytes text.new ≡ string_bytes text.old
             ++ number_lines (pace_numbers self.now.allowance)) }
@@ -143,7 +143,7 @@ impl StreamPart<'_> {
         }
     }
 
-    // The line of the size of its multiplexing buffer, if it has one.
+    // Writes the line of the size of its multiplexing buffer, if it has one.
     fn write_size<A: Allocator>(&self, text: &mut String<A>) -> Result<(), AllocError>
         ensures { OnOk result (string_bytes text.new ≡ string_bytes text.old
             ++ number_lines (size_numbers self.now.multiplexing)) }
@@ -154,7 +154,7 @@ impl StreamPart<'_> {
         }
     }
 
-    // The line of its leak, if it has one.
+    // Appends the line of its leak, if it has one.
     fn write_leak<A: Allocator>(&self, text: &mut String<A>) -> Result<(), AllocError>
         ensures { OnOk result (string_bytes text.new ≡ string_bytes text.old
             ++ number_lines (leak_numbers self.now.multiplexing)) }
@@ -165,7 +165,7 @@ impl StreamPart<'_> {
         }
     }
 
-    // The line of its limit, if it has one.
+    // Appends the line of its limit, if it has one.
     fn write_limit<A: Allocator>(&self, text: &mut String<A>) -> Result<(), AllocError>
         ensures { OnOk result (string_bytes text.new ≡ string_bytes text.old
             ++ number_lines (limit_numbers self.now.pts_limit)) }
@@ -176,7 +176,7 @@ impl StreamPart<'_> {
         }
     }
 
-    // The lines from `id` to `main`, the size of its multiplexing buffer, and its pace.
+    // Writes the lines from `id` to `main`, of the size of its multiplexing buffer, and of its pace.
     fn write_times<A: Allocator>(&self, text: &mut String<A>) -> Result<(), AllocError>
         ensures { OnOk result (string_bytes text.new ≡ string_bytes text.old ++ stream_times (stream_view self.now)) }
     {
@@ -191,7 +191,7 @@ impl StreamPart<'_> {
         self.write_pace(text)
     }
 
-    // The lines from `pid` to `rx`.
+    // Appends the lines from `pid` to `rx`.
     fn write_place<A: Allocator>(&self, text: &mut String<A>) -> Result<(), AllocError>
         ensures { OnOk result (string_bytes text.new ≡ string_bytes text.old ++ stream_place (stream_view self.now)) }
     {
@@ -203,7 +203,7 @@ impl StreamPart<'_> {
         write_numbers(text, &drain)
     }
 
-    // The lines after `rx`.
+    // Appends the lines after `rx`.
     fn write_end<A: Allocator>(&self, text: &mut String<A>) -> Result<(), AllocError>
         ensures { OnOk result (string_bytes text.new ≡ string_bytes text.old ++ stream_end (stream_view self.now)) }
     {

@@ -7,8 +7,8 @@ ghost use Rattle.job_text.specs.Texts.{table_back, table_front, table_text};
 use crate::key_line::{write_digits, write_digits_list, write_header, write_number, write_numbers};
 use std::alloc::{AllocError, Global};
 
-/// What a description says of ready-made sections on a PID of their own, and of their entry in the PMT of a program
-/// (ISO/IEC 13818-1, 2.4.4.8).
+/// Ready-made sections on a PID of their own in a description, and their entry in the PMT of a program (ISO/IEC
+/// 13818-1, 2.4.4.8).
 #[derive(Clone, Copy)]
 pub struct TablePart<'a> {
     pub pid: u16,
@@ -32,7 +32,7 @@ impl TablePart<'_> {
         self.write_back(alloc, text)
     }
 
-    // The lines up to its program.
+    // Appends the lines up to its program.
     fn write_front(&self, alloc: Global, text: &mut String) -> Result<(), AllocError>
         ensures { OnOk result (string_bytes text.new ≡ string_bytes text.old ++ table_front (table_view self.now)) }
     {
@@ -46,7 +46,7 @@ impl TablePart<'_> {
         write_numbers(text, &numbers)
     }
 
-    // The lines of its sections and its stream_type.
+    // Appends the lines of its sections and its stream_type.
     fn write_back(&self, alloc: Global, text: &mut String) -> Result<(), AllocError>
         ensures { OnOk result (string_bytes text.new ≡ string_bytes text.old ++ table_back (table_view self.now)) }
     {

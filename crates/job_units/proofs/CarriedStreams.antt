@@ -3,7 +3,7 @@ use Rattle.std.proofs.Common.{◌≡◌, ◌++◌, refl, sym, Bool, true, false,
 use Rattle.std.specs.Prelude.{option_to_list}
 use Rattle.std.proofs.lemmas.List.{append_assoc, append-nil}
 use Rattle.std.proofs.lemmas.List.Elements.{All-nil, All-cons, All-append}
-use Rattle.demux.specs.Views.{FindingView}
+use Rattle.pid_findings.specs.Views.{FindingView}
 use Rattle.stream_programs.specs.Streams.{FoundStreamView}
 use Rattle.es_moments.specs.ApartUnits.{apart_units}
 use Rattle.es_units.specs.CarriedUnits.{carried_units}

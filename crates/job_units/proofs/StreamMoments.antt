@@ -1,7 +1,7 @@
 -- Streams of whose units the moments alone are known, and with the bytes of these.
 use Rattle.std.proofs.Common.{◌≡◌, ◌∙◌, ◌<◌, ◌^◌, ℕ, Bool, true, false, None, List, map, Result, Ok, sym, ap, subst}
 use Rattle.pes_packet.specs.AccessUnits.{AccessUnit}
-use Rattle.demux.specs.Views.{FindingView}
+use Rattle.pid_findings.specs.Views.{FindingView}
 use Rattle.es_units.specs.CarriedUnits.{carried_units}
 use Rattle.es_moments.specs.Stamps.{first_fault, moved}
 use Rattle.es_moments.specs.UnitMoments.{moment_of, units_at}

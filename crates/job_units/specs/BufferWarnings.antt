@@ -15,7 +15,7 @@ use Rattle.job_units.specs.Declarations.{MeasuredView, UnitCountsView, said_codi
 
 -- 1. A buffer that a stream says of itself
 
--- the size of the buffer that a stream says by its first unit, and the one that counts in its place
+-- the size of the buffer that a stream's first unit declares, and the size that replaces it
 abbrev pub said_size : MeasuredView → ℕ
 said_size m = (buffers_of (said_coding m)).main
 

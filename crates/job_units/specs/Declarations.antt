@@ -56,8 +56,8 @@ units_refusal s = refusals.Units s.pid (length s.units)
 unfoldable pub too_long : List TimedStreamView → Option JobRefusal
 too_long streams = option_map units_refusal (find is_too_long streams)
 
--- 2. The measures of a stream: what its entry in the program map says, the bytes of its first unit, the access units of its units, and
--- what is counted of these
+-- 2. The measures of a stream: its entry in the program map, the bytes of its first unit, the access units of its units, and the counts of
+-- these
 
 pub record MeasuredView : Type 0 where
   pub pid : ℕ
@@ -104,9 +104,9 @@ all_measured streams = map measured streams
 unfoldable pub length_refusal : MeasuredView → Option JobRefusal
 length_refusal m = if nat_lt 1_048_576 m.units.count then Some (refusals.Units m.pid m.units.count) else None
 
--- 3. Buffers: those that are asked for, else those of the coding and what the stream says of them
+-- 3. Buffers: the buffers that are asked for, otherwise the buffers of the coding, with what the stream declares of them
 
--- by the first unit
+-- the coding by the first unit
 abbrev pub said_coding : MeasuredView → Coding
 said_coding m = coding_of m.stream_type m.descriptors m.first
 
@@ -127,7 +127,7 @@ without_header b = record { rbx = b.rbx; size = if nat_lt 19 b.size then b.size 
 unfoldable pub multiplexing_for : List PidBuffers → MeasuredView → Option MultiplexingBuffer
 multiplexing_for given m = if is_some (given_buffers given m.pid) then None else option_map without_header (multiplexing_of (coding_for m))
 
--- 4. What is counted of a stream's units: what they need, and the greatest number of packets of 1, 2, .. of them in a row
+-- 4. The counts of a stream's units: their needs, and the greatest number of packets of 1, 2, .. units in a row
 
 pub record UnitCountsView : Type 0 where
   pub needs : Needs
@@ -143,7 +143,7 @@ needs_of given m = record {
   main = (buffers_for given m).main;
 }
 
--- of groups of up to 64 units, as numbers of 32 bits
+-- the packets of groups of up to 64 units, as numbers of 32 bits
 unfoldable pub packets_of_group : CountedPacketsView → ℕ → ℕ
 packets_of_group packets group = min (row_packets group packets) (2 ^ 32 - 1)
 
@@ -161,9 +161,9 @@ unit_counts given m =
 abbrev pub all_unit_counts : List PidBuffers → List MeasuredView → Result (List UnitCountsView) JobRefusal
 all_unit_counts given streams = each (unit_counts given) streams
 
--- 5. What each stream declares: the best of what is tried
+-- 5. The declaration of each stream: the best declaration that is tried
 
--- a group and a lead can be looked for
+-- whether a group and a lead can be looked for
 unfoldable pub is_countable : Needs → List ℕ → Bool
 is_countable needs max_group_packets = is_needs needs && are_max_packets max_group_packets
 
@@ -201,7 +201,7 @@ pace_of lead sum buffer units c =
     then pace_choice (leaking_needs buffer c.needs) (burst_of units) (delay_before buffer (leaking_needs buffer c.needs) sum) (min lead 90_000)
     else None
 
--- the one that is asked for, else the preferred of both
+-- the declaration that is asked for, otherwise the preferred one
 abbrev pub choice_of : DeclareBy → ℕ → ℕ → Option MultiplexingBuffer → UnitRunsView → UnitCountsView → Option Choice
 choice_of by.Groups lead sum buffer units c = groups_of lead sum buffer c
 choice_of by.Pace lead sum buffer units c = pace_of lead sum buffer units c

@@ -3,7 +3,7 @@ use Rattle.std.specs.Prelude.{ℕ, ◌+◌, ◌*◌, ◌%◌, ◌^◌, nat_lt, �
 use Rattle.std.specs.Prelude.{unwrap_or, None, option_map, Result, Ok, Option, Some}
 use Rattle.std.specs.List.{list_any}
 use Rattle.pes_packet.specs.AccessUnits.{AccessUnit}
-use Rattle.demux.specs.Views.{FindingView}
+use Rattle.pid_findings.specs.Views.{FindingView}
 use Rattle.es_units.specs.CarriedUnits.{carried_units}
 use Rattle.es_moments.specs.MadeDts.{dts_fault, pts_of}
 use Rattle.es_moments.specs.Stamps.{constant_of, first_fault, moved}
@@ -33,7 +33,7 @@ entry_size number s = if is_stream_of number s then 5 + length s.descriptors els
 unfoldable pub table_size : ℕ → JobTableView → ℕ
 table_size number t = if t.program == number then 5 + length t.descriptors else 0
 
--- those of the section: 16, the program's descriptors, its streams, and its sections
+-- the bytes of the section: 16, the program's descriptors, its streams, and its sections
 unfoldable pub map_size : List JobTableView → List WireStreamView → JobProgramView → ℕ
 map_size tables streams p = 16 + length p.descriptors + sum_by (entry_size p.number) streams + sum_by (table_size p.number) tables
 
@@ -59,7 +59,7 @@ first_dts_of programs s = record { clock = clock_in programs s.program; dts = fi
 abbrev pub firsts : List JobProgramView → List WireStreamView → List FirstDts
 firsts programs streams = map (first_dts_of programs) streams
 
--- those of a clock
+-- whether a first DTS is on a clock
 unfoldable pub is_on_clock : ProgramClock → FirstDts → Bool
 is_on_clock clock f = is_same_clock f.clock clock
 
@@ -74,7 +74,7 @@ base_for due (first ∷ more) = constant_of due (first % 2 ^ 33) (first ∷ more
 unfoldable pub base_of : ℕ → List FirstDts → ProgramClock → ℕ
 base_of due all clock = base_for due (stamps_of clock all)
 
--- that of the first stream's clock
+-- the base of the first stream's clock
 unfoldable pub base_of_first : ℕ → List FirstDts → ℕ
 base_of_first due [] = 0
 base_of_first due (f ∷ fs) = base_of due (f ∷ fs) f.clock
@@ -84,7 +84,7 @@ first_base due programs streams = base_of_first due (firsts programs streams)
 
 -- 3. Moments
 
--- the packet in which a unit of a PID begins
+-- the packet where a unit of a PID begins
 unfoldable pub packet_of : List FindingView → ℕ → ℕ → ℕ
 packet_of findings pid index = unwrap_or (option_map (λ u. u.packet) (slice_get (carried_units pid findings) index)) 0
 
@@ -123,7 +123,7 @@ moved_stream findings base s =
     unless (option_map (stamps_refusal findings s.pid) (first_fault (pts_limit_of s.stream_type s.descriptors) base None 0 (wire_of s)))
     (Ok (with_moments base s))
 
--- those of a clock have one constant
+-- all streams of a clock are moved by one constant
 unfoldable pub moved_by : List FindingView → ℕ → List JobProgramView → List FirstDts → WireStreamView → Result TimedStreamView JobRefusal
 moved_by findings due programs all s = moved_stream findings (base_of due all (clock_in programs s.program)) s
 
@@ -146,6 +146,6 @@ with_units s units = record {
   units = units_at s.units units;
 }
 
--- with those that are found of its PID
+-- the stream with the units found on its PID
 abbrev pub timed_stream : List FindingView → StreamMomentsView → TimedStreamView
 timed_stream findings s = with_units s (carried_units s.pid findings)

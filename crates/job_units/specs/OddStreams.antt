@@ -1,6 +1,6 @@
 -- Streams with units that are left out: a job can't carry them.
 use Rattle.std.specs.Prelude.{◌≡◌, ⊤, ℕ, ◌-◌, ◌%◌, ◌^◌, if◌then◌else◌, List, [], ◌∷◌, None, Some, Option, option_map, Result, Ok, Err}
-use Rattle.demux.specs.Views.{FindingView}
+use Rattle.pid_findings.specs.Views.{FindingView}
 use Rattle.given_values.specs.declared.declare_by.DeclareBy.{DeclareBy}
 use Rattle.es_moments.specs.Stamps.{first_fault}
 use Rattle.job_programs.specs.declared.refusal.JobError.{JobError}

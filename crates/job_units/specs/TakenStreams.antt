@@ -1,6 +1,6 @@
--- What is left of findings of which the units of a stream are taken.
+-- The findings that remain after a stream's units are taken from them.
 use Rattle.std.specs.Prelude.{◌≡◌, ℕ, true, List}
-use Rattle.demux.specs.Views.{FindingView}
+use Rattle.pid_findings.specs.Views.{FindingView}
 use Rattle.es_units.specs.CarriedUnits.{carried_units}
 use Rattle.job_programs.specs.JobOptions.{is_among}
 

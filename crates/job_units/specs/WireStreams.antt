@@ -2,7 +2,7 @@
 use Rattle.std.specs.Prelude.{ℕ, Bool, true, false, is_some, if◌then◌else◌, List, [], ◌∷◌, slice_get, filter, flat_map, ok_or, Option, Some, None, option_map}
 use Rattle.std.specs.Prelude.{option_and_then, option_to_list, Result, Ok, Err}
 use Rattle.std.specs.List.{list_any}
-use Rattle.demux.specs.Views.{FindingView}
+use Rattle.pid_findings.specs.Views.{FindingView}
 use Rattle.stream_coding.specs.Codings.{is_ac3}
 use Rattle.stream_programs.specs.Streams.{FoundStreamView}
 use Rattle.es_moments.specs.ApartUnits.{apart_units}
@@ -24,13 +24,13 @@ use Rattle.job_programs.specs.JobOptions.{JobOptionsView, is_selected_stream}
 use Rattle.job_programs.specs.JobStreams.{WireStreamView}
 use Rattle.es_moments.specs.WireUnits.{CarriedUnit}
 
--- 1. The stream_id: that of the first unit, if all have it
+-- 1. The stream_id: the first unit's, if all units have it
 
 unfoldable pub other_id_refusal : ℕ → ℕ → List CarriedUnit → Option JobRefusal
 other_id_refusal pid first units =
     option_map (λ u. refusals.OtherStreamId u.packet pid u.stream_id first) (option_and_then (slice_get units) (first_other_at first 0 units))
 
--- of a stream whose stream_id can be written
+-- the stream_id of a stream, if it can be written
 unfoldable pub id_of : Bool → CarriedUnit → Result ℕ JobRefusal
 id_of ac3 u = ok_or (written_id u.stream_id ac3) refusals.NoStream
 
@@ -38,7 +38,7 @@ unfoldable pub common_id : ℕ → Bool → List CarriedUnit → Result ℕ JobR
 common_id pid ac3 [] = Err refusals.NoStream
 common_id pid ac3 (u ∷ us) = unless (other_id_refusal pid u.stream_id (u ∷ us)) (id_of ac3 u)
 
--- 2. The stamps: those of the stream, where units of a data stream that are due at one moment have DTS of their own; or DTS that are made from
+-- 2. The stamps: the stream's own, except that units of a data stream that are due at one moment get distinct DTS; or DTS that are made from
 -- PTS
 
 unfoldable pub dts_refusal : ℕ → List CarriedUnit → Option JobRefusal
@@ -66,11 +66,11 @@ unfoldable pub stream_of : Bool → FoundStreamView → List CarriedUnit → Res
 stream_of made s units =
     and_then (λ id. and_then (λ us. Ok (with_units s id us)) (with_stamps made s.pid units)) (common_id s.pid (is_ac3 s.stream_type s.descriptors) units)
 
--- with those of its PID
+-- the wire stream with the units of its PID
 unfoldable pub wire_stream : Bool → List FindingView → FoundStreamView → Result WireStreamView JobRefusal
 wire_stream made findings s = stream_of made s (carried_units s.pid findings)
 
--- 4. All streams of the tables: those that are not to be left out, have units, and a stream_id that can be written, and are not odd
+-- 4. All streams of the tables that are not left out, have units and a stream_id that can be written, and can be carried
 
 unfoldable pub is_written : FoundStreamView → List CarriedUnit → Bool
 is_written s [] = false
@@ -99,7 +99,7 @@ kept_stream options findings (Ok (Some w)) = unless_odd (odd_stream options find
 unfoldable pub carried_stream : JobOptionsView → List FindingView → FoundStreamView → List WireStreamView
 carried_stream options findings s = option_to_list (kept_stream options findings (stream_if_any options.make_dts findings s))
 
--- those that can be
+-- the streams that can be carried
 abbrev pub carried_streams : JobOptionsView → List FindingView → List FoundStreamView → List WireStreamView
 carried_streams options findings streams = flat_map (carried_stream options findings) streams
 

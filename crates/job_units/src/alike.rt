@@ -6,7 +6,7 @@ use crate::declarations::UnitCounts;
 use unit_timing::framing::Framing;
 use unit_timing::multiplexing_buffer::MultiplexingBuffer;
 
-// Whether both are none, or have one leak and one size.
+// Returns whether both are none, or have one leak and one size.
 fn is_same_buffer(one: Option<MultiplexingBuffer>, other: Option<MultiplexingBuffer>) -> bool
     ensures { IsTrue result → one ≡ other }
 {
@@ -17,7 +17,7 @@ fn is_same_buffer(one: Option<MultiplexingBuffer>, other: Option<MultiplexingBuf
     }
 }
 
-// Whether both are none, or have the same numbers.
+// Returns whether both are none, or have the same numbers.
 fn is_same_framing(one: Option<Framing>, other: Option<Framing>) -> bool
     ensures { IsTrue result → one ≡ other }
 {

@@ -13,7 +13,7 @@ use stream_choice::{Choice, keeps_framing};
 use unit_timing::multiplexing_buffer::MultiplexingBuffer;
 use unit_timing::shares::PARTS;
 
-// The warning about the buffer that a stream says.
+// Returns the warning about the buffer size in a stream's own headers, if the declared buffer has another size.
 #[tactic(auto, unfolding(crate::specs::BufferWarnings::header_warning))]
 fn header_warning(given: &[PidBuffers], stream: &StreamMeasures) -> Option<Warning>
     ensures { option_to_list result ≡ spec.header_warning given.now stream.now }
@@ -34,7 +34,7 @@ fn header_warning(given: &[PidBuffers], stream: &StreamMeasures) -> Option<Warni
     })
 }
 
-// Appends the warning about the buffer that a stream says.
+// Appends the warning about the buffer size in a stream's own headers.
 fn push_header_warning(
     given: &[PidBuffers],
     stream: &StreamMeasures,
@@ -62,7 +62,7 @@ fn push_header_warnings(
     Ok(())
 }
 
-// The rate of the packets that a choice asks for, in bits/s.
+// Returns the rate of the packets that a choice asks for, in bits/s.
 #[tactic(auto, unfolding(crate::specs::BufferWarnings::asked_rate))]
 fn asked_rate(choice: Choice) -> u64
     ensures { result ≡ spec.asked_rate choice }
@@ -70,7 +70,7 @@ fn asked_rate(choice: Choice) -> u64
     (u128::from(choice.share) * SLOT_UNITS_AT_1BPS / u128::from(PARTS)) as u64
 }
 
-// The leak of a multiplexing buffer that a stream has, and does not declare.
+// Returns the leak of a multiplexing buffer that a stream has, and does not declare.
 #[tactic(auto, unfolding(crate::specs::BufferWarnings::unkept_leak))]
 fn unkept_leak(found: Option<MultiplexingBuffer>, kept: Option<MultiplexingBuffer>) -> Option<u32>
     ensures { result ≡ spec.unkept_leak found kept }
@@ -84,7 +84,7 @@ fn unkept_leak(found: Option<MultiplexingBuffer>, kept: Option<MultiplexingBuffe
     }
 }
 
-// The warning about a multiplexing buffer that nothing keeps.
+// Returns the warning about a multiplexing buffer that nothing keeps.
 #[tactic(auto, unfolding(crate::specs::BufferWarnings::leak_warning))]
 fn leak_warning(
     stream: &StreamMeasures,
@@ -148,7 +148,7 @@ fn push_leak_warnings(
     Ok(())
 }
 
-// The number of access units in a unit that a choice does not keep.
+// Returns the number of access units in a unit that a choice does not keep.
 #[tactic(auto, unfolding(crate::specs::BufferWarnings::unkept_frames))]
 fn unkept_frames(unit_counts: &UnitCounts, choice: Choice) -> Option<u8>
     ensures { result ≡ spec.unkept_frames unit_counts.now choice }
@@ -163,7 +163,7 @@ fn unkept_frames(unit_counts: &UnitCounts, choice: Choice) -> Option<u8>
     }
 }
 
-// The warning about access units that a choice does not keep.
+// Returns the warning about access units that a choice does not keep.
 #[tactic(auto, unfolding(crate::specs::BufferWarnings::frame_warning))]
 fn frame_warning(
     stream: &StreamMeasures,

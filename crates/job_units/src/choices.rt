@@ -24,7 +24,7 @@ use unit_timing::shares::PARTS;
 /// The share of an output of the least rate.
 const LEAST_OUTPUT: u64 = (PARTS as u128 * LEAST_RATE as u128 / SLOT_UNITS_AT_1BPS) as u64;
 
-// Whether a stream can be declared with some group.
+// Returns whether a stream can be declared with some group.
 #[tactic(auto, unfolding(crate::specs::Declarations::is_countable))]
 fn is_countable(needs: Needs, max_group_packets: &[u32]) -> bool
     ensures value { result ≡ spec.is_countable needs max_group_packets.now }
@@ -34,7 +34,7 @@ fn is_countable(needs: Needs, max_group_packets: &[u32]) -> bool
     needs.is_in_range() && are_max_packets(max_group_packets)
 }
 
-// The least share that a stream needs.
+// Returns the least share that a stream needs.
 #[tactic(auto, unfolding(crate::specs::Declarations::share_of))]
 fn share_of(unit_counts: &UnitCounts) -> u64
     ensures { result ≡ spec.share_of unit_counts.now }
@@ -47,7 +47,7 @@ fn share_of(unit_counts: &UnitCounts) -> u64
     }
 }
 
-// The sum of the shares, or the greatest number if they are more.
+// Returns the sum of the shares, or the greatest number if they are more.
 fn shares_sum(all: &[UnitCounts]) -> u64
     ensures { result ≡ min (sum_by spec.share_of all.now) (2 ^ 64 - 1) }
 {
@@ -58,8 +58,7 @@ fn shares_sum(all: &[UnitCounts]) -> u64
     sum
 }
 
-/// Returns the least share of the multiplex that these streams take together by groups, at least that of an output of
-/// the least rate.
+/// Returns the sum of the shares of the multiplex that these streams need by groups, at least the least output rate.
 #[tactic(auto, unfolding(crate::specs::Declarations::shares_of))]
 pub(crate) fn shares_of(all: &[UnitCounts]) -> u64
     ensures value { result ≡ spec.shares_of all.now }
@@ -124,14 +123,14 @@ pub(crate) fn pace_of(
     choose_pace(needs, &StreamBursts { runs: units }, delay, lead)
 }
 
-// What a stream that is counted so declares by groups, where that is asked for, with its multiplexing buffer.
+// The counts of a stream, and what a stream with these counts declares by groups.
 #[derive(Clone, Copy)]
 struct KnownGroups<'a> {
     unit_counts: &'a UnitCounts,
     choice: Option<Choice>,
 }
 
-// What a stream declares by groups with this multiplexing buffer, where that is asked for.
+// Returns what a stream declares by groups with this multiplexing buffer, if the options allow groups.
 #[tactic(auto, unfolding(crate::specs::Declarations::asked_groups))]
 fn groups_if_asked(
     declare_by: DeclareBy,
@@ -151,7 +150,7 @@ fn groups_if_asked(
     }
 }
 
-// What it declares with its own: the same as another one that is counted alike.
+// Returns how a stream declares its units by groups. A known stream with the same counts has the same answer.
 fn asked_groups(
     known: Option<KnownGroups<'_>>,
     declare_by: DeclareBy,
@@ -173,7 +172,7 @@ fn asked_groups(
     groups_if_asked(declare_by, greatest_lead, sum, buffer, unit_counts)
 }
 
-// What it declares, where by groups it declares this.
+// Returns what a stream declares; `by_groups`: what it declares by groups.
 #[tactic(auto, unfolding(crate::specs::Declarations::asked_groups))]
 fn choice_of(
     declare_by: DeclareBy,
@@ -198,7 +197,7 @@ fn choice_of(
     }
 }
 
-// It, with the multiplexing buffer that it keeps.
+// Returns what a stream declares with this multiplexing buffer.
 fn kept(
     declare_by: DeclareBy,
     by_groups: Option<Choice>,
@@ -229,7 +228,8 @@ fn kept(
     }
 }
 
-// What a stream declares with its multiplexing buffer, where by groups it declares this; else with one main buffer.
+// Returns what a stream declares with its multiplexing buffer, or otherwise with one main buffer alone; `by_groups`:
+// what it declares by groups with its multiplexing buffer.
 #[tactic(auto, unfolding(crate::specs::Declarations::first_kept))]
 fn first_kept(
     declare_by: DeclareBy,
@@ -270,7 +270,7 @@ fn first_kept(
     )
 }
 
-// What a stream declares; refused if nothing fits its buffers.
+// Returns what a stream declares; refused if nothing fits its buffers.
 #[tactic(auto, unfolding(crate::specs::Declarations::chosen, job_programs::specs::Answers::Answers, job_programs::specs::Answers::Refuses))]
 fn chosen(
     alloc: Global,
@@ -309,7 +309,7 @@ fn chosen(
     }
 }
 
-// What all streams declare at this sum of shares.
+// Returns what all streams declare at this sum of shares.
 #[tactic(auto, unfolding(job_programs::specs::Answers::Refuses))]
 fn each_choice(
     alloc: Global,

@@ -79,7 +79,7 @@ pub fn too_many(programs: usize, streams: usize) -> Option<JobRefusal>
     }
 }
 
-// The refusal of a stream with more units than a job may have.
+// Returns the refusal of a stream with more units than a job may have.
 #[tactic(auto, unfolding(crate::specs::Declarations::units_refusal))]
 fn units_refusal(stream: &TimedStream) -> JobRefusal
     ensures { result ≡ spec.units_refusal stream.now }
@@ -132,7 +132,7 @@ pub(crate) fn coding_for(stream: &StreamMeasures) -> Coding
     coding_holding(stream.units.largest, said_coding(stream))
 }
 
-// The buffers of a stream: those that the options give, or those of its coding.
+// Returns the buffers of a stream, from the options or else from its coding.
 #[tactic(auto, unfolding(crate::specs::Declarations::buffers_for))]
 fn buffers_for(given: &[PidBuffers], stream: &StreamMeasures) -> Buffers
     ensures { result ≡ spec.buffers_for given.now stream.now }
@@ -143,7 +143,7 @@ fn buffers_for(given: &[PidBuffers], stream: &StreamMeasures) -> Buffers
     }
 }
 
-// A multiplexing buffer as it is declared: with room for a header that leaves it at no cost of time.
+// Returns a multiplexing buffer as it is declared: with room for a header that leaves it at no cost of time.
 #[tactic(auto, unfolding(crate::specs::Declarations::without_header))]
 fn without_header(buffer: MultiplexingBuffer) -> MultiplexingBuffer
     ensures { result ≡ spec.without_header buffer }
@@ -159,7 +159,7 @@ fn without_header(buffer: MultiplexingBuffer) -> MultiplexingBuffer
     }
 }
 
-// The multiplexing buffer of video whose buffers the options don't give.
+// Returns the multiplexing buffer of video whose buffers the options don't give.
 #[tactic(auto, unfolding(crate::specs::Declarations::multiplexing_for))]
 fn multiplexing_for(given: &[PidBuffers], stream: &StreamMeasures) -> Option<MultiplexingBuffer>
     ensures { result ≡ spec.multiplexing_for given.now stream.now }
@@ -173,7 +173,7 @@ fn multiplexing_for(given: &[PidBuffers], stream: &StreamMeasures) -> Option<Mul
     }
 }
 
-// The greatest number of packets of `group` units in a row, as a number of 32 bits.
+// Returns the greatest number of packets of `group` units in a row, as a number of 32 bits.
 #[tactic(auto, unfolding(crate::specs::Declarations::packets_of_group))]
 fn packets_of_group(packets: &CountedPackets, group: usize) -> u32
     requires { group ≤ 64 }
@@ -183,7 +183,7 @@ fn packets_of_group(packets: &CountedPackets, group: usize) -> u32
     most.min(u64::from(u32::MAX)) as u32
 }
 
-// The greatest number of packets of 1, 2, .. units in a row.
+// Returns the greatest number of packets of 1, 2, .. units in a row.
 #[tactic(auto, unfolding(crate::specs::Declarations::max_group_packets))]
 fn max_group_packets(alloc: Global, stream: &StreamMeasures) -> Result<Vec<u32>, AllocError>
     ensures { IfOk result (λ packets. packets.items ≡ spec.max_group_packets stream.now) }
@@ -195,7 +195,7 @@ fn max_group_packets(alloc: Global, stream: &StreamMeasures) -> Result<Vec<u32>,
         .collect(alloc)
 }
 
-// The refusal of a stream with a unit that is too large whatever its buffers.
+// Returns the refusal of a stream with a unit that is too large whatever its buffers.
 #[tactic(auto, unfolding(crate::specs::Declarations::size_refusal))]
 fn size_refusal(stream: &StreamMeasures) -> Option<JobRefusal>
     ensures value { result ≡ spec.size_refusal stream.now }
@@ -212,7 +212,7 @@ fn size_refusal(stream: &StreamMeasures) -> Option<JobRefusal>
     }
 }
 
-// What the units of a stream need.
+// Returns what the units of a stream need.
 #[tactic(auto, unfolding(crate::specs::Declarations::needs_of))]
 fn needs_of(given: &[PidBuffers], stream: &StreamMeasures) -> Needs
     requires { stream.now.units.largest ≤ 4000000 }

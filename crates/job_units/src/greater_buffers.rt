@@ -13,7 +13,7 @@ use job_programs::{GreaterBuffers, JobRefusal};
 use std::alloc::{AllocError, Global};
 use stream_choice::Needs;
 
-// The buffers that are tried for a stream that its own buffers do not hold.
+// Returns the buffers that are tried for a stream that its own buffers do not hold.
 fn small_buffers() -> GreaterBuffers
     ensures { result ≡ spec.small_buffers }
 {
@@ -41,7 +41,7 @@ fn large_buffers() -> GreaterBuffers
     }
 }
 
-// Whether something lets units into one main buffer.
+// Returns whether units can be declared with one main buffer.
 #[tactic(auto, unfolding(crate::specs::Declarations::is_declared))]
 fn is_declared(
     declare_by: DeclareBy,
@@ -63,7 +63,7 @@ fn is_declared(
     }
 }
 
-// The counts of a stream with these buffers in place of its own.
+// Returns the counts of a stream with these buffers in place of its own.
 #[tactic(auto, unfolding(crate::specs::Declarations::with_buffers))]
 fn with_buffers(
     alloc: Global,
@@ -86,7 +86,7 @@ fn with_buffers(
     })
 }
 
-// Whether something lets units into these buffers.
+// Returns whether units can be declared with these buffers.
 fn is_way_out(
     alloc: Global,
     declare_by: DeclareBy,
@@ -104,7 +104,7 @@ fn is_way_out(
     Ok(is_declared(declare_by, greatest_lead, sum, units, &greater))
 }
 
-// The first of the buffers that are tried into which something lets units.
+// Returns the first greater buffers that let units be declared.
 #[tactic(auto, unfolding(crate::specs::Declarations::way_out))]
 fn way_out(
     alloc: Global,

@@ -17,7 +17,7 @@ pub mod moved_streams;
 pub mod pts_limit;
 pub mod timed_streams;
 
-// What is declared of them.
+// Declarations of units.
 mod alike;
 pub mod buffer_warnings;
 pub mod choices;

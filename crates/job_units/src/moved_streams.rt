@@ -2,7 +2,7 @@
 
 ghost use Rattle.std.specs.Prelude.{◌≡◌, ◌<◌, ◌^◌, IfOk, IfErr, Ok, All, map};
 ghost use Rattle.es_units.specs.PidPlaces.{AreLinks, pids_in};
-ghost use Rattle.demux.specs.Shown.{finding_view};
+ghost use Rattle.pid_findings.specs.Shown.{finding_view};
 ghost use Rattle.job_programs.specs.Answers.{Refuses, each, Leads};
 ghost use Rattle.job_units.specs.Moments as spec;
 ghost use Rattle.job_programs.specs.FoundUnits.{IsCarried, IsMoved};
@@ -10,22 +10,22 @@ ghost use Rattle.job_units.specs.Moments.{timed_stream};
 
 use crate::pts_limit::stream_limit;
 use clock27::STAMP_MODULUS;
-use demux::Finding;
 use es_moments::{DtsError, StampError, StampFault, constant, found_moments, units_with_made_dts};
 use es_units::{PidLinks, found_units};
 use job_programs::job_programs::clock_in;
 use job_programs::program_clock::is_same_clock;
 use job_programs::{JobError, JobProgram, JobRefusal, ProgramClock, StreamMoments, WireStream};
+use pid_findings::Finding;
 use std::alloc::{AllocError, Global};
 
-/// The first DTS of a stream, as on the wire, and the clock by which it counts.
+/// The first DTS of a stream, modulo 2^33, and the clock of the stream.
 #[derive(Clone, Copy)]
 pub struct FirstDts {
     pub clock: ProgramClock,
     pub dts: u64,
 }
 
-// The first DTS of a stream.
+// Returns the first DTS of a stream.
 #[tactic(auto, unfolding(crate::specs::Moments::first_dts, crate::specs::Moments::first_dts_of))]
 fn first_dts_of(programs: &[JobProgram], stream: &WireStream<'_>) -> FirstDts
     ensures { result ≡ spec.first_dts_of programs.now stream.now }
@@ -40,7 +40,7 @@ fn first_dts_of(programs: &[JobProgram], stream: &WireStream<'_>) -> FirstDts
     }
 }
 
-// The first DTS of each stream.
+// Returns the first DTS of each stream.
 fn firsts_of(
     alloc: Global,
     programs: &[JobProgram],
@@ -54,7 +54,7 @@ fn firsts_of(
         .collect(alloc)
 }
 
-// Whether it is the first DTS of a stream that counts by this clock.
+// Returns whether it is the first DTS of a stream that counts by this clock.
 #[tactic(auto, unfolding(crate::specs::Moments::is_on_clock))]
 fn is_on_clock(clock: ProgramClock, first: &FirstDts) -> bool
     ensures { result ≡ spec.is_on_clock clock first.now }
@@ -62,7 +62,7 @@ fn is_on_clock(clock: ProgramClock, first: &FirstDts) -> bool
     is_same_clock(first.clock, clock)
 }
 
-// The first DTS of each stream that counts by this clock.
+// Returns the first DTS of each stream on this clock.
 fn stamps_of(
     alloc: Global,
     clock: ProgramClock,
@@ -79,7 +79,7 @@ fn stamps_of(
     Ok(stamps)
 }
 
-// What a clock shows at moment 0, if the first unit that counts by it is due at `earliest`.
+// Returns the clock at moment 0, if the first unit on it is due at `earliest`.
 #[tactic(auto, unfolding(crate::specs::Moments::base_for, crate::specs::Moments::base_of))]
 fn base_of(
     alloc: Global,
@@ -97,7 +97,7 @@ fn base_of(
     }
 }
 
-// The packet in which a unit of a PID begins.
+// Returns the packet where the unit with this index on a PID begins.
 #[tactic(auto, unfolding(crate::specs::Moments::packet_of))]
 fn packet_of(
     alloc: Global,
@@ -116,7 +116,7 @@ fn packet_of(
     }
 }
 
-// Whether DTS can be made from the PTS of a PID.
+// Returns whether DTS can be made from the PTS of a PID.
 #[tactic(auto, unfolding(crate::specs::Moments::is_mended))]
 fn is_mended(
     alloc: Global,
@@ -159,7 +159,7 @@ pub(crate) fn stamps_refusal(
     })
 }
 
-// The moments of a stream's units by the constant of its program's clock.
+// Returns the moments of a stream's units by the constant of its program's clock.
 #[tactic(auto, unfolding(crate::specs::Moments::moved_by, crate::specs::Moments::moved_stream, job_programs::specs::Answers::unless, job_programs::specs::Answers::Leads, job_programs::specs::Answers::Refuses))]
 fn moved_by(
     alloc: Global,
@@ -200,7 +200,7 @@ fn moved_by(
     }
 }
 
-// The moments of all streams' units.
+// Returns the moments of all streams' units.
 #[tactic(auto, unfolding(job_programs::specs::Answers::Refuses))]
 fn each_moved(
     alloc: Global,
@@ -249,7 +249,7 @@ pub fn first_base(
     }
 }
 
-/// Returns the moments of the streams' units, by which the first unit of each clock is due at `earliest`.
+/// Returns the moments of the streams' units. The first unit of each clock is due at `earliest`.
 #[tactic(auto, unfolding(crate::specs::Moments::moved_streams, job_programs::specs::Answers::Refuses))]
 pub fn moved_streams(
     alloc: Global,

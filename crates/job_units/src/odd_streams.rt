@@ -2,7 +2,7 @@
 
 ghost use Rattle.std.specs.Prelude.{◌≡◌, ◌<◌, ◌^◌, IfOk, IfErr, OnOk, None, map};
 ghost use Rattle.es_units.specs.PidPlaces.{AreLinks, pids_in};
-ghost use Rattle.demux.specs.Shown.{finding_view};
+ghost use Rattle.pid_findings.specs.Shown.{finding_view};
 ghost use Rattle.es_moments.specs.Stamps.{moved};
 ghost use Rattle.es_moments.specs.UnitMoments.{moment_of};
 ghost use Rattle.job_units.specs.Declarations.{measured};
@@ -15,15 +15,15 @@ use crate::moved_streams::stamps_refusal;
 use crate::pts_limit::stream_limit;
 use crate::stream_measures::{StreamMeasures, found_measured, measured};
 use clock27::STAMP_MODULUS;
-use demux::Finding;
 use es_moments::{FoundUnit, StampError, UnitMoment, WireUnit, found_moments, units_at};
 use es_units::PidLinks;
 use job_programs::{JobError, JobOptions, JobRefusal, TimedStream, WireStream};
 use pes_packet::Unit;
+use pid_findings::Finding;
 use sound_frames::frame_kind;
 use std::alloc::{AllocError, Global};
 
-// What the clock shows if the first unit is due at once.
+// Returns the clock at moment 0, if the first unit is due at once.
 #[tactic(auto, unfolding(crate::specs::OddStreams::own_base, crate::specs::Moments::first_dts))]
 fn own_base(stream: &WireStream<'_>) -> u64
     ensures value { result ≡ spec.own_base stream.now }
@@ -35,7 +35,7 @@ fn own_base(stream: &WireStream<'_>) -> u64
     }
 }
 
-// The moments of a stream's units, the first due at once; refused if its stamps are none.
+// Returns the moments of a stream's units, the first due at once; refused if its stamps can't be moments of a run.
 #[tactic(auto, unfolding(crate::specs::OddStreams::odd_stamps, crate::specs::OddStreams::IsOddBy))]
 fn own_moments(
     alloc: Global,
@@ -60,7 +60,7 @@ fn own_moments(
     }
 }
 
-// A copy of a unit.
+// Returns a copy of a unit.
 fn copied(alloc: Global, unit: &FoundUnit<'_>) -> Result<WireUnit, AllocError>
     ensures { IfOk result (λ copy. copy ≡ unit.now) }
 {
@@ -101,7 +101,7 @@ fn own_units(
     Ok(units)
 }
 
-// A copy of a stream at these moments.
+// Returns a copy of a stream at these moments.
 #[tactic(auto, unfolding(crate::specs::OddStreams::alone, crate::specs::Moments::with_moments))]
 fn alone(
     alloc: Global,
@@ -125,7 +125,7 @@ fn alone(
     })
 }
 
-// The measures of a stream at these moments; its bytes are copied only if they may be frames of sound.
+// Returns the measures of a stream at these moments; its bytes are copied only if they may be frames of sound.
 fn odd_measures(
     alloc: Global,
     stream: &WireStream<'_>,
@@ -141,7 +141,7 @@ fn odd_measures(
     measured(alloc, &copy)
 }
 
-// The refusal of a stream whose units nothing declares.
+// Returns the refusal of a stream whose units nothing declares.
 #[tactic(auto, unfolding(crate::specs::OddStreams::odd_units, crate::specs::OddStreams::odd_counts, crate::specs::OddStreams::first_odd, job_programs::specs::Answers::Answers, job_programs::specs::Answers::Refuses))]
 fn odd_units(
     alloc: Global,
@@ -166,7 +166,7 @@ fn odd_units(
     }
 }
 
-// The same of a stream on the wire.
+// Returns the refusal of a stream on the wire whose units nothing declares.
 #[tactic(auto, unfolding(crate::specs::OddStreams::odd_bytes))]
 fn odd_bytes(
     alloc: Global,

@@ -7,10 +7,10 @@ use es_buffers::longest_stay;
 use es_moments::max_pts_after;
 use job_programs::{TimedStream, WireStream};
 
-// What a description says if it has no key for it, in units of 90 kHz: a second.
+// The limit of a PTS after its DTS in a description without the key, in units of 90 kHz: a second.
 const DEFAULT: u64 = 90_000;
 
-// As long as a byte may stay in the decoder of a stream, in units of 90 kHz.
+// Returns how long a byte may stay in the decoder of a stream, in units of 90 kHz.
 fn pts_limit_of(stream_type: u8, descriptors: &[u8]) -> u32
     ensures { result ≡ spec.pts_limit_of stream_type descriptors.now }
 {

@@ -1,4 +1,4 @@
-//! The measures of streams: what is said and counted of them, without the bytes of their units.
+//! The measures of streams: their entries in the program map and the counts of their units, without the units' bytes.
 
 ghost use Rattle.std.specs.Prelude.{◌≡◌, map, IfOk, None};
 ghost use Rattle.es_moments.specs.Stamps.{moved};
@@ -18,8 +18,8 @@ use std::marker::Model;
 use stream_coding::{ProfileLevel, profile_level};
 use unit_timing::framing::Framing;
 
-/// The measures of a stream: what its entry in the program map says, the bytes of its first unit, the access units of a
-/// stream of sound whose units are whole frames, and what is counted of its units.
+/// The measures of a stream: its entry in the program map, the bytes of its first unit, the framing of its sound if
+/// each unit is whole frames, and the counts of its units.
 #[derive(Drop)]
 pub struct StreamMeasures {
     pub pid: u16,
@@ -48,7 +48,7 @@ impl Model for StreamMeasures {
     } };
 }
 
-// The access units of a unit as a description declares them.
+// Returns the access units of a unit as a description declares them.
 #[tactic(auto, unfolding(crate::specs::Declarations::framing_of))]
 fn framing_of(frames: UnitFrames) -> Option<Framing>
     ensures { result ≡ spec.framing_of frames }
@@ -64,7 +64,7 @@ fn framing_of(frames: UnitFrames) -> Option<Framing>
     }
 }
 
-// The frames of all units; none if a unit is not whole frames.
+// Returns the frames of all units; `None` if a unit is not whole frames.
 fn all_frames(kind: FrameKind, units: &[Unit]) -> Option<UnitFrames>
     ensures { result ≡ all_frames kind no_frames (map (λ u. u.bytes) units.now) }
 {
@@ -78,7 +78,7 @@ fn all_frames(kind: FrameKind, units: &[Unit]) -> Option<UnitFrames>
     Some(frames)
 }
 
-// The access units of a stream's units, if it is sound whose units are whole frames.
+// Returns the access units of a stream's units, if it is sound whose units are whole frames.
 #[tactic(auto, unfolding(crate::specs::Declarations::framing_for))]
 fn framing_for(stream: &TimedStream) -> Option<Framing>
     ensures { result ≡ spec.framing_for stream.now }
@@ -87,7 +87,7 @@ fn framing_for(stream: &TimedStream) -> Option<Framing>
     framing_of(all_frames(kind, &stream.units)?)
 }
 
-// The bytes of the first unit.
+// Returns the bytes of the first unit.
 #[tactic(auto, unfolding(crate::specs::Declarations::first_bytes))]
 fn first_bytes(stream: &TimedStream) -> &[u8]
     ensures { result.now ≡ spec.first_bytes stream.now.units }
@@ -139,7 +139,7 @@ pub fn all_measured(
     Ok(all)
 }
 
-// A copy of the bytes of the first unit.
+// Returns a copy of the bytes of the first unit.
 #[tactic(auto, unfolding(crate::specs::OddStreams::first_carried))]
 fn first_copy(alloc: Global, stream: &WireStream<'_>) -> Result<Vec<u8>, AllocError>
     ensures { IfOk result (λ bytes. bytes.items ≡ first_carried stream.now.units) }

@@ -2,20 +2,20 @@
 
 ghost use Rattle.std.specs.Prelude.{◌≡◌, IfOk, OnOk, map};
 ghost use Rattle.es_units.specs.PidPlaces.{AreLinks, pids_in};
-ghost use Rattle.demux.specs.Shown.{finding_view};
+ghost use Rattle.pid_findings.specs.Shown.{finding_view};
 ghost use Rattle.job_units.specs.Moments as spec;
 ghost use Rattle.job_units.specs.TakenStreams.{StayCarried};
 ghost use Rattle.es_units.specs.CarriedUnits.{carried_units};
 
-use demux::Finding;
 use es_moments::{WireUnit, units_at};
 use es_units::{PidLinks, carried_units, taken_units};
 use job_programs::job_options::is_among;
 use job_programs::{StreamMoments, TimedStream};
+use pid_findings::Finding;
 use std::alloc::{AllocError, Global};
 use std::collections::VecDeque;
 
-// The units of a PID: moved out of the findings, or copied where a later stream is of it too.
+// Returns the units of a PID: moved out of the findings, or copied if a later stream has the same PID.
 #[tactic(auto, using(crate::proofs::TakenStreams::stay_same, crate::proofs::TakenStreams::stay_taken))]
 fn units_of(
     alloc: Global,
@@ -37,7 +37,7 @@ fn units_of(
     }
 }
 
-// A stream with its units.
+// Returns a stream with its units.
 #[tactic(auto, unfolding(crate::specs::Moments::with_units))]
 fn timed_stream(
     alloc: Global,
@@ -58,7 +58,7 @@ fn timed_stream(
     })
 }
 
-// The PIDs of streams.
+// Returns the PIDs of streams.
 fn pids_of(alloc: Global, streams: &[StreamMoments]) -> Result<Vec<u16>, AllocError>
     ensures { IfOk result (λ pids. pids.items ≡ map (λ s. s.pid) streams.now) }
 {

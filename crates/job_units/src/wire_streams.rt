@@ -3,7 +3,7 @@
 ghost use Rattle.std.specs.Prelude.{◌≡◌, ◌++◌, IfOk, IfErr, OnOk, Ok, All, flat_map, map, option_to_list};
 ghost use Rattle.es_units.specs.PidPlaces.{AreLinks, pids_in};
 ghost use Rattle.std.specs.List.{list_any};
-ghost use Rattle.demux.specs.Shown.{finding_view};
+ghost use Rattle.pid_findings.specs.Shown.{finding_view};
 ghost use Rattle.job_programs.specs.Answers.{Answers, Refuses};
 ghost use Rattle.job_units.specs.OddStreams.{odd_stream};
 ghost use Rattle.job_units.specs.WireStreams as spec;
@@ -12,17 +12,17 @@ ghost use Rattle.es_units.specs.CarriedUnits.{carried_units};
 ghost use Rattle.job_programs.specs.FoundUnits.{IsCarried};
 
 use crate::odd_streams::odd_stream;
-use demux::Finding;
 use es_moments::{DtsError, FoundUnit, apart_units, first_other, units_with_made_dts, written_id};
 use es_units::{PidLinks, UnitWarning, UnitWarningCause, found_units, unit_warnings};
 use job_programs::job_options::is_among;
 use job_programs::warnings::push_pid_warnings;
 use job_programs::{JobError, JobOptions, JobRefusal, Warning, WireStream};
+use pid_findings::Finding;
 use std::alloc::{AllocError, Global};
 use stream_coding::is_ac3;
 use stream_programs::FoundStream;
 
-// The refusal of the first unit of another stream_id.
+// Returns the refusal of the first unit of another stream_id.
 #[tactic(auto, unfolding(crate::specs::WireStreams::other_id_refusal))]
 fn other_id_refusal(pid: u16, first: u8, units: &[FoundUnit<'_>]) -> Option<JobRefusal>
     ensures { result ≡ spec.other_id_refusal pid first units.now }
@@ -37,7 +37,7 @@ fn other_id_refusal(pid: u16, first: u8, units: &[FoundUnit<'_>]) -> Option<JobR
     })
 }
 
-// The stream_id that is written for that of the first unit.
+// Returns the stream_id that is written for the stream_id of the first unit.
 #[tactic(auto, unfolding(crate::specs::WireStreams::id_of))]
 fn id_of(is_ac3: bool, first: &FoundUnit<'_>) -> Result<u8, JobRefusal>
     ensures { result ≡ spec.id_of is_ac3 first.now }
@@ -48,7 +48,7 @@ fn id_of(is_ac3: bool, first: &FoundUnit<'_>) -> Result<u8, JobRefusal>
     }
 }
 
-// The stream_id that is written for all of these units.
+// Returns the stream_id that is written for all of these units.
 #[tactic(auto, unfolding(crate::specs::WireStreams::common_id, job_programs::specs::Answers::unless))]
 fn common_id(pid: u16, is_ac3: bool, units: &[FoundUnit<'_>]) -> Result<u8, JobRefusal>
     ensures { result ≡ spec.common_id pid is_ac3 units.now }
@@ -62,7 +62,8 @@ fn common_id(pid: u16, is_ac3: bool, units: &[FoundUnit<'_>]) -> Result<u8, JobR
     }
 }
 
-// The units, each of a data stream with a DTS of its own; with DTS that are made from their PTS if `make_dts`.
+// Returns the units with their DTS: made from their PTS if `make_dts`; units of a data stream each get a DTS of their
+// own.
 #[tactic(auto, unfolding(crate::specs::WireStreams::with_stamps, crate::specs::WireStreams::dts_refusal, job_programs::specs::Answers::unless, job_programs::specs::Answers::Refuses))]
 fn with_stamps<'f>(
     alloc: Global,
@@ -84,7 +85,7 @@ fn with_stamps<'f>(
     }
 }
 
-// A stream with its units.
+// Returns a stream with its units.
 #[tactic(auto, unfolding(crate::specs::WireStreams::stream_of, crate::specs::WireStreams::with_units, job_programs::specs::Answers::and_then, job_programs::specs::Answers::Answers, job_programs::specs::Answers::Refuses))]
 fn stream_of<'f>(
     alloc: Global,
@@ -108,7 +109,7 @@ fn stream_of<'f>(
     })
 }
 
-// Whether a stream with these units can be carried: there are any, and their stream_id can be written.
+// Returns whether a stream with these units can be carried: there are any, and their stream_id can be written.
 #[tactic(auto, unfolding(crate::specs::WireStreams::is_written))]
 fn is_written(stream: &FoundStream, units: &[FoundUnit<'_>]) -> bool
     ensures { result ≡ spec.is_written stream.now units.now }
@@ -120,7 +121,7 @@ fn is_written(stream: &FoundStream, units: &[FoundUnit<'_>]) -> bool
     written_id(first.stream_id, is_ac3).is_some()
 }
 
-// A stream with the units of its PID, if it can be carried.
+// Returns a stream with the units of its PID, if it can be carried.
 #[tactic(auto, unfolding(crate::specs::WireStreams::stream_if_any, crate::specs::WireStreams::can_carry, crate::specs::WireStreams::wire_stream, job_programs::specs::Answers::and_then, job_programs::specs::Answers::Answers, job_programs::specs::Answers::Refuses))]
 fn stream_if_any<'f>(
     alloc: Global,
@@ -147,7 +148,7 @@ pub fn is_selected_stream(without: &[u16], stream: &FoundStream) -> bool
     !is_among(stream.pid, without)
 }
 
-// Whether it is about a PES packet that has no PTS, and no unit before it.
+// Returns whether a warning is about a PES packet without a PTS and without a unit before it.
 #[tactic(auto, unfolding(crate::specs::WireStreams::is_unstamped, crate::specs::WireStreams::is_unstamped_cause))]
 fn is_unstamped(warning: &UnitWarning) -> bool
     ensures { result ≡ spec.is_unstamped warning.now }
@@ -158,14 +159,14 @@ fn is_unstamped(warning: &UnitWarning) -> bool
     }
 }
 
-// Whether one of these is such a warning.
+// Returns whether any warning is about a PES packet without a PTS and without a unit before it.
 fn has_unstamped(found: &[UnitWarning]) -> bool
     ensures { result ≡ list_any spec.is_unstamped found.now }
 {
     found.iter().any(|warning| is_unstamped(warning))
 }
 
-// The warning about a stream without a unit: no PES packet comes, or none that has a PTS.
+// Returns the warning about a stream without a unit: it has no PES packet, or none with a PTS.
 #[tactic(auto, unfolding(crate::specs::WireStreams::no_unit_warning))]
 fn no_unit_warning(program: u16, pid: u16, found: &[UnitWarning]) -> Warning
     ensures { result ≡ spec.no_unit_warning program pid found.now }
@@ -244,7 +245,7 @@ fn push_unless<'f>(
     Ok(())
 }
 
-// Appends a stream, if a job can carry it, else the warning about it.
+// Appends a stream, or the warning why a job cannot carry it.
 fn push_unless_odd<'f>(
     alloc: Global,
     options: &JobOptions<'_>,
@@ -266,7 +267,7 @@ fn push_unless_odd<'f>(
     push_unless(odd, stream, streams)
 }
 
-// Appends a stream with its units, if it can be carried, else the warnings about it.
+// Appends a stream with its units, or the warnings why it is left out.
 #[tactic(auto, unfolding(crate::specs::WireStreams::carried_stream, crate::specs::WireStreams::kept_stream, crate::specs::WireStreams::left_out_warnings, crate::specs::WireStreams::warnings_by, job_programs::specs::Answers::Answers, job_programs::specs::Answers::Refuses))]
 fn push_stream<'f>(
     alloc: Global,
@@ -299,7 +300,7 @@ fn push_stream<'f>(
     }
 }
 
-// The streams that can be carried, each with its units, and the warnings about the others.
+// Returns the streams that a job can carry, each with its units, and the warnings about streams left out.
 fn carried_streams<'f>(
     alloc: Global,
     options: &JobOptions<'_>,
@@ -331,7 +332,7 @@ fn carried_streams<'f>(
     Ok(streams)
 }
 
-// The selected streams.
+// Returns the selected streams.
 fn selected(without: &[u16], found: Vec<FoundStream>) -> Vec<FoundStream>
     ensures { result.items ≡ spec.selected without.now found.items }
 {
@@ -340,8 +341,8 @@ fn selected(without: &[u16], found: Vec<FoundStream>) -> Vec<FoundStream>
     selected
 }
 
-/// Returns the selected streams that have units and a stream_id that can be written, and that a job can carry, each
-/// with its units, and the warnings about the others.
+/// Returns the selected streams that a job can carry, each with its units and a stream_id that can be written, and the
+/// warnings about streams left out.
 #[tactic(auto, using(crate::proofs::CarriedStreams::all_carried))]
 pub fn wire_streams<'f>(
     alloc: Global,

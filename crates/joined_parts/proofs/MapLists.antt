@@ -1,7 +1,7 @@
 -- Findings one after another: their maps, PIDs and codings.
 use Rattle.std.proofs.Common.{◌≡◌, ◌∙◌, ◌<◌, ◌≤◌, ℕ, ◌+◌, List, [], ◌∷◌, length, map, drop, get_or, refl, sym, ap}
 use Rattle.std.proofs.lemmas.List.{drop_all, drop_more}
-use Rattle.demux.specs.Views.{FindingView}
+use Rattle.pid_findings.specs.Views.{FindingView}
 use Rattle.joined_parts.specs.MapStreams.{MapsView, maps_after, with_finding}
 use Rattle.joined_parts.specs.Recodings.{CodingsView, codings_after, pids_after, with_codings_of, with_pids_of}
 

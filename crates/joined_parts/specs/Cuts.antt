@@ -17,7 +17,7 @@ with_last last r = insert_entry nat_eq last r.pid r
 abbrev pub cut_at : FoundPcr → FoundPcr → Cut
 cut_at before r = record { pid = r.pid; since = before.packet; before = before.base; packet = r.packet; base = r.base }
 
--- where the clock jumps from the one to the other
+-- a cut where the clock jumps from one reference to the next
 unfoldable pub cut_between : Option FoundPcr → FoundPcr → Option Cut
 cut_between None r = None
 cut_between (Some before) r = if jumps (Some before.base) r.base then Some (cut_at before r) else None
@@ -31,6 +31,6 @@ unfoldable pub cuts_after : LastReferences → List Cut → List FoundPcr → Li
 cuts_after last cuts [] = cuts
 cuts_after last cuts (r ∷ rs) = cuts_after (with_last last r) (with_cut cuts (cut_between (lookup (nat_eq r.pid) last) r)) rs
 
--- those of a recording with these references
+-- the cuts of a recording with these references
 abbrev pub cuts_in : List FoundPcr → List Cut
 cuts_in references = cuts_after [] [] references

@@ -1,6 +1,6 @@
 -- A recording whose parts come one after another: nothing changes but stamps and clock references.
 use Rattle.std.specs.Prelude.{ℕ, ◌==◌, ◌&&◌, nat_le, if◌then◌else◌, Option, Some, None, List, [], map, fold}
-use Rattle.demux.specs.Views.{FindingView, WhatView, IsPes}
+use Rattle.pid_findings.specs.Views.{FindingView, WhatView, IsPes}
 use Rattle.pes_packet.specs.declared.reading.PesHeader.{PesHeader}
 use Rattle.pes_packet.specs.declared.time_stamps.Stamps.{Stamps}
 use Rattle.pes_packet.specs.declared.time_stamps.Stamps.TheVariants.{Absent, Pts, PtsDts}
@@ -29,7 +29,7 @@ joins_for references findings = joins_by (programs_by (association findings) fin
 
 -- 2. Constants
 
--- that of the last cut of its clock after which a unit comes; a unit before all cuts has none
+-- the shift of a unit: the shift of the last cut of its clock before it; a unit before all cuts has none
 abbrev pub with_shift : UnitStamp → Option ℕ → Join → Option ℕ
 with_shift s shift j = if is_after j.cut s then Some j.shift else shift
 
@@ -40,14 +40,14 @@ unfoldable pub shift_with : List Join → Option UnitStamp → Option ℕ
 shift_with joins None = None
 shift_with joins (Some s) = shift_of joins s
 
--- that of a clock reference
+-- the shift of a clock reference
 abbrev pub with_own : FoundPcr → Option ℕ → Join → Option ℕ
 with_own r shift j = if j.cut.pid == r.pid && nat_le j.cut.packet r.packet then Some j.shift else shift
 
 abbrev pub shift_at : List Join → FoundPcr → Option ℕ
 shift_at joins r = fold (with_own r) None joins
 
--- 3. What is moved
+-- 3. Moved stamps and references
 
 unfoldable pub moved_stamps : ℕ → Stamps → Stamps
 moved_stamps shift Absent = Absent

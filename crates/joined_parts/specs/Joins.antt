@@ -81,7 +81,7 @@ shift_after cut before reach lead = distance (later cut.base lead) (later (later
 abbrev pub next_cut : ℕ → List Cut → Option Cut
 next_cut pid cuts = find (λ c. c.pid == pid) cuts
 
--- a cut with its constant, after those before it and before these cuts
+-- a cut with its constant, after `before` and before the cut `next`
 abbrev pub joined_after : List UnitStamp → Option Join → Cut → Option Cut → Join
 joined_after stamps before cut next = record {
   cut = cut;

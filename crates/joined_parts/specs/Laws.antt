@@ -1,6 +1,6 @@
 -- What the laws of this crate say.
 use Rattle.std.specs.Prelude.{◌≡◌, ◌≤◌, ℕ, ◌^◌, true, List, [], Option, Some, map, slice_get}
-use Rattle.demux.specs.Views.{FindingView, WhatView, IsPes}
+use Rattle.pid_findings.specs.Views.{FindingView, WhatView, IsPes}
 use Rattle.pes_packet.specs.declared.reading.PesHeader.{PesHeader}
 use Rattle.pes_packet.specs.declared.time_stamps.Stamps.TheVariants.{Absent}
 use Rattle.packet_pcr.specs.declared.pcr_reading.FoundPcr.{FoundPcr}
@@ -44,7 +44,7 @@ WholeRecordingStays = (references : List FoundPcr) (findings : List FindingView)
 
 -- 2. The order of parts
 
--- a unit of the part after a cut is due 0.3 s after each one of the part before it, or later, if their DTS are near to the references beside the cut
+-- a unit of the part after a cut is due 0.3 s after each unit of the part before it, or later, if their DTS are near to the references beside the cut
 abbrev pub PartsComeInOrder : Type 0
 PartsComeInOrder = (stamps : List UnitStamp) (before : Option Join) (cut : Cut) (next : Option Cut) (i k : ℕ) (s t : UnitStamp) →
     slice_get stamps i ≡ Some s → slice_get stamps k ≡ Some t →

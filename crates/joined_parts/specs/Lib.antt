@@ -1,6 +1,7 @@
 pub mod MapStreams
 pub mod WholeMaps
 pub mod Recodings
+pub mod MapPids
 pub mod Cuts
 pub mod UnitStamps
 pub mod Joins

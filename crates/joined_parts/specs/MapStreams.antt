@@ -1,15 +1,16 @@
--- The streams of the maps of a recording that was joined from several: its map names those that any map of its program names (ISO/IEC 13818-1, 2.4.4.8).
+-- The streams of the maps of a recording that was joined from several: its map names the streams that any map of its program names (ISO/IEC 13818-1,
+-- 2.4.4.8).
 use Rattle.std.specs.Prelude.{ℕ, ◌+◌, ◌==◌, ◌&&◌, nat_eq, nat_lt, nat_le, Bool, if◌then◌else◌, Option, Some, None, List, [], ◌∷◌, ◌++◌, length}
 use Rattle.std.specs.List.{list_any}
 use Rattle.std.specs.Map.{lookup}
 use Rattle.indexmap.specs.IndexMap.{insert_entry}
 use Rattle.psi_tables.specs.ProgramMap.{PmtView, StreamView, streams_bytes}
 use Rattle.psi_tables.specs.declared.pat.programs.Program.{Program}
-use Rattle.demux.specs.Views.{FindingView}
+use Rattle.pid_findings.specs.Views.{FindingView}
 use Rattle.program_tables.specs.MapPlaces.{map_key, program_found}
 use Rattle.program_tables.specs.ProgramMaps.{any_map}
 
--- 1. The streams of a map, and those of the maps before it that it does not name
+-- 1. The streams of a map, and the streams of the maps before it that it does not name
 
 unfoldable pub is_named : List StreamView → ℕ → Bool
 is_named streams pid = list_any (λ s. s.elementary_pid == pid) streams
@@ -46,11 +47,11 @@ unfoldable pub streams_if : Option KnownMapView → List StreamView
 streams_if None = []
 streams_if (Some m) = m.streams
 
--- a map after those of its program that are known
+-- a map after the known maps of its program
 abbrev pub map_after : Option KnownMapView → PmtView → KnownMapView
 map_after before pmt = record { pcr_pid = pmt.pcr_pid; streams = all_streams pmt.streams (streams_if before) }
 
--- and for each PID of clock references the key of the last map that names it
+-- the maps by key, and for each PID of clock references the key of the last map that names it
 pub record MapsView : Type 0 where
   pub known : List (ℕ × KnownMapView)
   pub clocks : List (ℕ × ℕ)
@@ -79,7 +80,7 @@ maps_after maps (f ∷ fs) = maps_after (with_finding maps f) fs
 abbrev pub maps_in : List FindingView → MapsView
 maps_in findings = maps_after no_maps findings
 
--- 3. What is known of the maps of a program, and of those of the program with this key
+-- 3. The known maps of a program, and of the program with this key
 
 unfoldable pub known_if : MapsView → Option Program → Option KnownMapView
 known_if maps None = None

@@ -6,12 +6,12 @@ use Rattle.std.specs.Map.{lookup}
 use Rattle.indexmap.specs.IndexMap.{insert_entry}
 use Rattle.psi_tables.specs.ProgramMap.{PmtView, StreamView}
 use Rattle.psi_tables.specs.declared.pat.programs.Program.{Program}
-use Rattle.demux.specs.Views.{FindingView}
+use Rattle.pid_findings.specs.Views.{FindingView}
 use Rattle.stream_coding.specs.Codings.{coding_of}
 use Rattle.stream_coding.specs.declared.coding.Coding.{Coding}
 use Rattle.stream_coding.specs.declared.coding.Coding.TheVariants.{Ac3, Pcm, Subtitles, Teletext}
 use Rattle.stream_programs.specs.FreePids.{is_taken, least_free}
-use Rattle.program_tables.specs.MapPlaces.{map_key, program_found}
+use Rattle.program_tables.specs.MapPlaces.{program_found}
 use Rattle.program_tables.specs.ProgramMaps.{any_map}
 use Rattle.joined_parts.specs.MapStreams.{with_stream}
 use Rattle.joined_parts.specs.UnitStamps.{begin_of}
@@ -97,7 +97,7 @@ with_codings c key packet (s ∷ ss) = with_codings (with_stream_coding c key pa
 unfoldable pub with_map_codings : CodingsView → ℕ → Option Program → Option PmtView → CodingsView
 with_map_codings c packet None found = c
 with_map_codings c packet (Some p) None = c
-with_map_codings c packet (Some p) (Some m) = with_codings c (map_key p) packet m.streams
+with_map_codings c packet (Some p) (Some m) = with_codings c p.program_number packet m.streams
 
 abbrev pub with_codings_of : CodingsView → FindingView → CodingsView
 with_codings_of c f = with_map_codings c f.packet (program_found f) (any_map f)

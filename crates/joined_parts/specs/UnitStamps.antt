@@ -1,7 +1,7 @@
 -- The stamps of the units of a recording, each by the clock of its program (ISO/IEC 13818-1, 2.4.3.7 and 2.4.4.9).
 use Rattle.std.specs.Prelude.{ℕ, ◌==◌, find, Option, Some, None, List, [], ◌∷◌, ◌++◌}
-use Rattle.demux.specs.Views.{FindingView, WhatView, IsPes}
-use Rattle.demux.specs.declared.finding.Kind.{Kind}
+use Rattle.pid_findings.specs.Views.{FindingView, WhatView, IsPes}
+use Rattle.pid_findings.specs.declared.finding.Kind.{Kind}
 use Rattle.pes_packet.specs.declared.time_stamps.Stamps.{Stamps}
 use Rattle.pes_packet.specs.declared.time_stamps.Stamps.TheVariants.{Absent, Pts, PtsDts}
 use Rattle.stream_programs.specs.Programs.{FoundProgramsView}
@@ -19,7 +19,7 @@ unfoldable pub dts_in : WhatView → Option ℕ
 dts_in (IsPes header unended body) = dts_of header.stamps
 dts_in what = None
 
--- the packet in which it begins
+-- the packet in which a unit begins
 unfoldable pub begin_of : Option (ℕ × Kind) → ℕ → ℕ
 begin_of None packet = packet
 begin_of (Some (first, kind)) packet = first
@@ -32,7 +32,7 @@ unfoldable pub clock_if : FoundProgramsView → Option FoundStreamView → Optio
 clock_if found None = None
 clock_if found (Some s) = clock_of found s
 
--- that of the stream on a PID
+-- the clock of the stream on a PID
 abbrev pub clock_on : FoundProgramsView → ℕ → Option ℕ
 clock_on found pid = clock_if found (find (λ s. s.pid == pid) found.streams)
 
@@ -44,7 +44,7 @@ unfoldable pub stamp_with : Option ℕ → ℕ → Option ℕ → Option UnitSta
 stamp_with (Some clock) packet (Some dts) = Some (record { clock = clock; packet = packet; dts = dts })
 stamp_with clock packet dts = None
 
--- that of a PES packet of a stream whose program has a clock
+-- the stamp of a PES packet of a stream whose program has a clock
 abbrev pub stamp_of : FoundProgramsView → FindingView → Option UnitStamp
 stamp_of found f = stamp_with (clock_at found f.pid) (begin_of f.begun f.packet) (dts_in f.what)
 

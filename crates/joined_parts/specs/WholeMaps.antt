@@ -6,7 +6,7 @@ use Rattle.std.specs.Map.{lookup}
 use Rattle.psi_tables.specs.Encoding.{section_bytes}
 use Rattle.psi_tables.specs.ProgramMap.{PmtView, StreamView, pmt_body, pmt_section}
 use Rattle.psi_tables.specs.declared.section.LongHeader.{LongHeader}
-use Rattle.demux.specs.Views.{FindingView, WhatView, IsSection}
+use Rattle.pid_findings.specs.Views.{FindingView, WhatView, IsSection}
 use Rattle.program_tables.specs.MapPlaces.{program_found}
 use Rattle.program_tables.specs.ProgramMaps.{any_map}
 use Rattle.packet_pcr.specs.declared.pcr_reading.FoundPcr.{FoundPcr}
@@ -31,7 +31,7 @@ map_with header pcr_pid program_info streams = record { header = header; pcr_pid
 abbrev pub section_with : LongHeader → ℕ → List ℕ → List StreamView → Option (List ℕ)
 section_with header pcr_pid program_info streams = written_map (map_with header pcr_pid program_info streams)
 
--- that of a map with the streams that it does not name after its own
+-- the section of a map with the streams that it does not name after its own
 abbrev pub whole_bytes : PmtView → List StreamView → Option (List ℕ)
 whole_bytes m streams = section_with m.header m.pcr_pid m.program_info (all_streams m.streams streams)
 

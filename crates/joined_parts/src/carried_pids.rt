@@ -2,14 +2,14 @@
 
 ghost use Rattle.std.specs.Prelude.{◌≡◌, ◌<◌, [], IfOk, OnOk, find, map, option_map};
 ghost use Rattle.psi_tables.specs.ProgramMap.{pmt_view, stream_loop_of, stream_view, streams_of};
-ghost use Rattle.demux.specs.Shown.{finding_view};
+ghost use Rattle.pid_findings.specs.Shown.{finding_view};
 ghost use Rattle.joined_parts.specs.Recodings as spec;
 
 use crate::map_streams::add_stream;
 use crate::recodings::Recoding;
 use crate::stamps::begin_of;
 use crate::whole_maps::{put_section, section_with};
-use demux::Finding;
+use pid_findings::Finding;
 use program_tables::any_map;
 use psi_tables::{Pmt, Stream, StreamLoop, Streams};
 use std::alloc::{AllocError, Global};
@@ -41,7 +41,7 @@ fn carried_pid(recodings: &[Recoding], packet: u64, pid: u16) -> u16
     }
 }
 
-// That of a PID that may be there.
+// Returns the PID that carries what begins in a packet on a PID, if there is one.
 #[tactic(auto, unfolding(crate::specs::Recodings::carried_pid_if))]
 fn carried_pid_if(recodings: &[Recoding], packet: u64, pid: Option<u16>) -> Option<u16>
     ensures { result ≡ spec.carried_pid_if recodings.now packet pid }
@@ -74,7 +74,7 @@ fn add_carried(recodings: &[Recoding], packet: u64, streams: &mut StreamLoop, mo
     }
 }
 
-// Whether another PID carries one of the streams that a map in a packet names.
+// Returns whether another PID carries a stream of a map in a packet.
 #[tactic(auto, unfolding(crate::specs::Recodings::any_moved))]
 fn any_moved(recodings: &[Recoding], packet: u64, streams: Streams<'_>) -> bool
     ensures { result ≡ spec.any_moved recodings.now packet (streams_of streams.entry) }
@@ -108,7 +108,7 @@ fn carried_map(
     )
 }
 
-// That of a map that may be there, if another PID carries one of its streams.
+// Returns the section of a map, if there is one and another PID carries a stream of it.
 #[tactic(auto, unfolding(crate::specs::Recodings::carried_section))]
 fn carried_section(
     alloc: Global,

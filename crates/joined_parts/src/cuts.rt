@@ -11,7 +11,7 @@ use pid_map::PidMap;
 use std::alloc::{AllocError, Global};
 use std::marker::Model;
 
-// The furthest that a clock goes on from one reference to the next, in units of 90 kHz: 10 s.
+// The longest step of a clock from one reference to the next, in units of 90 kHz: 10 s.
 const MAX_STEP: u64 = 900_000;
 
 // The most cuts of a recording.

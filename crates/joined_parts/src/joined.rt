@@ -1,16 +1,16 @@
 //! The findings and the clock references of a recording, its parts one after another.
 
 ghost use Rattle.std.specs.Prelude.{◌≡◌, IfOk, map};
-ghost use Rattle.demux.specs.Shown.{finding_view, what_view};
+ghost use Rattle.pid_findings.specs.Shown.{finding_view, what_view};
 ghost use Rattle.joined_parts.specs.Joined as spec;
 
 use crate::cuts::cuts_in;
 use crate::joins::{Join, is_after, joins_of, later};
 use crate::stamps::{UnitStamp, stamp_of, stamps_in};
 use data_times::programs_in;
-use demux::{Finding, What};
 use packet_pcr::FoundPcr;
 use pes_packet::{PesHeader, Stamps};
+use pid_findings::{Finding, What};
 use std::alloc::{AllocError, Global};
 use std::marker::Model;
 use std::mem;
@@ -29,7 +29,7 @@ fn shift_of(joins: &[Join], stamp: UnitStamp) -> Option<u64>
     })
 }
 
-// That of a unit that may be there.
+// Returns the constant that moves a unit, if there is one.
 #[tactic(auto, unfolding(crate::specs::Joined::shift_with))]
 fn shift_with(joins: &[Join], stamp: Option<UnitStamp>) -> Option<u64>
     ensures { result ≡ spec.shift_with joins.now stamp }
@@ -40,7 +40,7 @@ fn shift_with(joins: &[Join], stamp: Option<UnitStamp>) -> Option<u64>
     }
 }
 
-// That of a clock reference.
+// Returns the constant that moves a clock reference.
 fn shift_at(joins: &[Join], reference: FoundPcr) -> Option<u64>
     ensures { result ≡ spec.shift_at joins.now reference }
 {
@@ -82,7 +82,7 @@ fn moved_header(shift: u64, header: PesHeader) -> PesHeader
     }
 }
 
-// What is found, with such a header if it is a PES packet.
+// Returns what a finding has, with such a header if it is a PES packet.
 #[tactic(auto, unfolding(crate::specs::Joined::moved_what))]
 fn moved_what<'a>(shift: u64, what: What<'a>) -> What<'a>
     ensures { what_view result ≡ spec.moved_what shift (what_view what.entry) }

@@ -76,7 +76,7 @@ fn with_reach(before: Option<Cut>, cut: Cut, reach: u64, stamp: UnitStamp) -> u6
     }
 }
 
-// That of all units.
+// Returns the greatest such DTS of all units.
 fn reach_of(before: Option<Cut>, cut: Cut, stamps: &[UnitStamp]) -> u64
     ensures { result ≡ spec.reach_of before cut stamps.now }
 {
@@ -108,7 +108,7 @@ fn with_lead(cut: Cut, next: Option<Cut>, lead: Option<u64>, stamp: UnitStamp) -
     }
 }
 
-// That of all units; 0 if there are none.
+// Returns the least such DTS of all units; 0 if there are none.
 fn lead_of(cut: Cut, next: Option<Cut>, stamps: &[UnitStamp]) -> u64
     ensures { result ≡ spec.lead_of cut next stamps.now }
 {
@@ -183,7 +183,7 @@ fn next_cut(pid: u16, cuts: &[Cut]) -> Option<Cut>
     cut_on(pid, cuts).copied()
 }
 
-// A cut with its constant, after those before it and before the next ones.
+// Returns a cut with its constant, after the cuts before it and before the next cuts.
 fn join_of(stamps: &[UnitStamp], joins: &[Join], cut: Cut, cuts: &[Cut]) -> Join
     ensures { result ≡ spec.join_of stamps.now joins.now cut cuts.now }
 {

@@ -3,13 +3,13 @@
 ghost use Rattle.std.specs.Prelude.{◌≡◌, ◌<◌, IfOk, OnOk, nat_eq, map, option_map};
 ghost use Rattle.std.specs.Map.{lookup};
 ghost use Rattle.psi_tables.specs.ProgramMap.{pmt_view, stream_loop_of};
-ghost use Rattle.demux.specs.Shown.{finding_view};
+ghost use Rattle.pid_findings.specs.Shown.{finding_view};
 ghost use Rattle.program_tables.specs.MapPlaces.{map_key as key_of};
 ghost use Rattle.joined_parts.specs.MapStreams as spec;
 
 use crate::map_streams::{KnownMap, all_streams};
-use demux::Finding;
 use indexmap::IndexMap;
+use pid_findings::Finding;
 use pid_map::PidMap;
 use program_tables::{any_map, map_key, program_found};
 use psi_tables::{Pmt, Program, StreamLoop, Streams};
@@ -17,11 +17,11 @@ use std::alloc::{AllocError, Global};
 use std::hash::{BuildHasherDefault, FoldHasher};
 use std::marker::Model;
 
-/// By `map_key`: what is known of the maps of the program.
+/// The known maps of each program, by `map_key`.
 type KnownMaps = IndexMap<u32, KnownMap, BuildHasherDefault<FoldHasher>, Global>;
 
-/// The maps of a recording: what is known of those of each program, and by PID of clock references the program of the
-/// last map that names it.
+/// The maps of a recording: the known maps of each program, and by PID of clock references the program of the last map
+/// that names it.
 #[derive(Drop)]
 pub(crate) struct RecordingMaps {
     known: KnownMaps,
@@ -37,7 +37,7 @@ impl Model for RecordingMaps {
     ghost view = { λ m. record { known = m.known.entries; clocks = m.clocks.entries } };
 }
 
-// The streams of a map, and those of the maps of its program before it.
+// Returns the streams of a map, and of the earlier maps of its program.
 #[tactic(auto, unfolding(crate::specs::MapStreams::streams_if))]
 fn streams_after(before: Option<&KnownMap>, pmt: &Pmt<'_>) -> StreamLoop
     ensures { stream_loop_of result ≡ spec.all_streams (pmt_view pmt.now).streams
@@ -52,7 +52,7 @@ fn streams_after(before: Option<&KnownMap>, pmt: &Pmt<'_>) -> StreamLoop
     }
 }
 
-// A map after those of its program that are known.
+// Returns a map after the known maps of its program.
 fn map_after(before: Option<&KnownMap>, pmt: &Pmt<'_>) -> KnownMap
     ensures { result ≡ spec.map_after (option_map (λ m. m.now) before.entry) (pmt_view pmt.now) }
 {
@@ -73,7 +73,7 @@ impl RecordingMaps {
         }
     }
 
-    // Returns what is known of a program with a key.
+    // Returns the known maps of a program with a key.
     fn of_key(&self, key: u32) -> Option<&KnownMap>
         ensures { option_map (λ m. m.now) result ≡ lookup (nat_eq key) self.now.known }
     {
@@ -109,7 +109,7 @@ impl RecordingMaps {
         self.take_if(program_found(finding), any_map(finding))
     }
 
-    /// Returns what is known of the maps of a program.
+    /// Returns the known maps of a program.
     #[tactic(auto, unfolding(crate::specs::MapStreams::known_if))]
     pub(crate) fn known_if(&self, program: Option<Program>) -> Option<&KnownMap>
         ensures { option_map (λ m. m.now) result ≡ spec.known_if self.now program }
@@ -120,7 +120,7 @@ impl RecordingMaps {
         }
     }
 
-    /// Returns what is known of the last map that names clock references on a PID.
+    /// Returns the known maps of the program whose last map names clock references on a PID.
     #[tactic(auto, unfolding(crate::specs::MapStreams::clocked_if))]
     pub(crate) fn clocked(&self, pid: u16) -> Option<&KnownMap>
         ensures { option_map (λ m. m.now) result

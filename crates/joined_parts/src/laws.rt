@@ -2,7 +2,7 @@
 
 ghost use Rattle.joined_parts.specs.Laws.{NothingElseMoves, PartsComeInOrder, WholeRecordingStays};
 
-/// States that nothing of what is found changes but the stamps of PES packets.
+/// States that nothing of the findings changes except the stamps of PES packets.
 pub fn nothing_else_moves()
     ensures { NothingElseMoves }
 {}
@@ -12,7 +12,7 @@ pub fn whole_recording_stays()
     ensures { WholeRecordingStays }
 {}
 
-/// States that the units of the part after a cut are due 0.3 s after those of the part before it, or later.
+/// States that the units after a cut are due 0.3 s after the units before it, or later.
 pub fn parts_come_in_order()
     ensures { PartsComeInOrder }
 {}

@@ -1,18 +1,19 @@
 //! A recording that was joined from several, its parts one after another.
 //!
-//! Where a clock falls, or jumps ahead by more than 10 s (ISO/IEC 13818-1, 2.4.3.5), a recording is cut. The stamps
-//! and clock references of each part after a cut are moved by one constant, so that the part goes on where the one
-//! before it ends.
+//! Where a clock falls, or jumps ahead by more than 10 s (ISO/IEC 13818-1, 2.4.3.5), a recording is cut. One constant
+//! moves the stamps and clock references of each part after a cut, so that the part begins where the part before it
+//! ends.
 //!
 //! - `cuts`: where the clocks of a recording jump (`specs/Cuts`).
 //! - `stamps`: the DTS of units, each by the clock of its program (`specs/UnitStamps`).
-//! - `joins`: which unit is in which part, and the constant of each part (`specs/Joins`).
+//! - `joins`: the part of each unit, and the constant of each part (`specs/Joins`).
 //! - [`part_joins`], [`PartJoins`]: the findings and references of a recording, moved (`specs/Joined`).
 //! - `map_streams`, `known_maps`, `whole_maps`: each map with the streams of all maps of its program, one PID for its
 //!   clock references (`specs/MapStreams`, `specs/WholeMaps`).
+//! - `map_pids`: one PID for the maps of each program (`specs/MapPids`).
 //! - [`recodings_in`], `carried_pids`: what a PID carries before its coding changes, on a PID of its own
 //!   (`specs/Recodings`).
-//! - [`one_recording`]: the findings and references of a recording as those of one (`specs/Recordings`).
+//! - [`one_recording`]: the findings and references of a recording as if it had not been joined (`specs/Recordings`).
 //! - [`nothing_else_moves`], [`whole_recording_stays`], [`parts_come_in_order`]: laws over the definitions (`specs/Laws`).
 #![tactic(auto)]
 
@@ -22,6 +23,7 @@ mod joined;
 mod joins;
 mod known_maps;
 mod laws;
+mod map_pids;
 mod map_streams;
 mod recodings;
 mod recording;

@@ -7,12 +7,12 @@ ghost use Rattle.joined_parts.specs.MapStreams as spec;
 use psi_tables::{Stream, StreamLoop, Streams};
 use std::marker::Model;
 
-/// What is known of the maps of a program.
+/// The known maps of a program.
 #[derive(Drop)]
 pub(crate) struct KnownMap {
     /// The PID of the clock references that the last map names.
     pub pcr_pid: u16,
-    /// The streams of the last map, then those of earlier ones on other PIDs.
+    /// The streams of the last map, then the streams of earlier maps on further PIDs.
     pub streams: StreamLoop,
 }
 
@@ -26,7 +26,7 @@ impl Model for KnownMap {
     ghost view = { λ m. record { pcr_pid = m.pcr_pid; streams = stream_loop_of m.streams } };
 }
 
-/// Returns whether one of these streams has a PID.
+/// Returns whether a stream of these has a PID.
 #[tactic(auto, unfolding(crate::specs::MapStreams::is_named))]
 pub(crate) fn is_named(streams: Streams<'_>, pid: u16) -> bool
     ensures { result ≡ spec.is_named (streams_of streams.entry) pid }
@@ -84,7 +84,7 @@ fn add_others(streams: &mut StreamLoop, named: Streams<'_>, more: Streams<'_>)
     }
 }
 
-/// Returns the streams of a map, then others whose PIDs it does not name.
+/// Returns the streams of a map, then further streams whose PIDs it does not name.
 pub(crate) fn all_streams(named: Streams<'_>, others: Streams<'_>) -> StreamLoop
     ensures { stream_loop_of result ≡ spec.all_streams (streams_of named.entry) (streams_of others.entry) }
 {

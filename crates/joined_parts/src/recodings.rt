@@ -3,13 +3,13 @@
 ghost use Rattle.std.specs.Prelude.{◌≡◌, ◌<◌, [], IfOk, OnOk, nat_eq, map, option_map};
 ghost use Rattle.std.specs.Map.{lookup};
 ghost use Rattle.psi_tables.specs.ProgramMap.{pmt_view, stream_view, streams_of};
-ghost use Rattle.demux.specs.Shown.{finding_view};
+ghost use Rattle.pid_findings.specs.Shown.{finding_view};
 ghost use Rattle.stream_programs.specs.FreePids.{least_free};
 ghost use Rattle.joined_parts.specs.Recodings as spec;
 
-use demux::Finding;
 use indexmap::IndexMap;
-use program_tables::{any_map, map_key, program_found};
+use pid_findings::Finding;
+use program_tables::{any_map, program_found};
 use psi_tables::{Pmt, Program, Stream, Streams};
 use std::alloc::{AllocError, Global};
 use std::hash::{BuildHasherDefault, FoldHasher};
@@ -26,7 +26,7 @@ pub struct Recoding {
     pub pid: u16,
     /// The PID that carries what the PID carries before the change.
     pub to: u16,
-    /// The packet in which the first map with the new coding ends.
+    /// The packet that ends the first map with the new coding.
     pub packet: u64,
 }
 
@@ -251,7 +251,11 @@ impl CodingChanges {
             ≡ spec.with_map_codings self.old packet program (option_map pmt_view pmt.entry)) }
     {
         match (program, pmt) {
-            (Some(program), Some(pmt)) => self.take_streams(map_key(program), packet, pmt.streams),
+            (Some(program), Some(pmt)) => self.take_streams(
+                u32::from(program.program_number),
+                packet,
+                pmt.streams,
+            ),
             _ => Ok(()),
         }
     }

@@ -1,35 +1,36 @@
 //! A recording that was joined from several, as one recording.
 
 ghost use Rattle.std.specs.Prelude.{◌≡◌, IfOk, map};
-ghost use Rattle.demux.specs.Shown.{finding_view};
+ghost use Rattle.pid_findings.specs.Shown.{finding_view};
 ghost use Rattle.joined_parts.specs.Joined.{joined, joined_references};
-ghost use Rattle.joined_parts.specs.Recodings.{recoded};
 ghost use Rattle.joined_parts.specs.Recordings as spec;
 ghost use Rattle.joined_parts.specs.WholeMaps.{one_clock, whole_maps};
 
 use crate::carried_pids::carry_findings;
 use crate::joined::part_joins;
 use crate::known_maps::recording_maps;
+use crate::map_pids::one_pid_each;
 use crate::recodings::recodings_in;
 use crate::whole_maps::{complete_maps, with_clocks};
-use demux::Finding;
 use packet_pcr::FoundPcr;
+use pid_findings::Finding;
 use std::alloc::{AllocError, Global};
 
-// The findings of a recording, on the PIDs that carry them if the codings of PIDs change.
-fn recoded_findings(
+// Returns the findings of a recording, with one PID for each coding, and one for the maps of each program.
+fn on_own_pids(
     alloc: Global,
     findings: Vec<Finding<'static>>,
 ) -> Result<Vec<Finding<'static>>, AllocError>
-    ensures { IfOk result (λ all. map finding_view all.items ≡ recoded (map finding_view findings.entry.items)) }
+    ensures { IfOk result (λ all. map finding_view all.items ≡ spec.on_own_pids (map finding_view findings.entry.items)) }
 {
     let recodings = recodings_in(alloc, &findings)?;
     let mut findings = findings;
     carry_findings(alloc, &recodings, &mut findings)?;
+    one_pid_each(alloc, &mut findings)?;
     Ok(findings)
 }
 
-// The clock references and the findings of a recording, with the tables and the clock of one that was not joined.
+// Returns the clock references and findings of a recording, with the tables and the clock of an unjoined recording.
 fn with_one_map(
     alloc: Global,
     references: Vec<FoundPcr>,
@@ -47,7 +48,7 @@ fn with_one_map(
     Ok((references, findings))
 }
 
-// Those of the parts of a recording one after another.
+// Returns the clock references and findings of a recording, its parts one after another.
 fn in_order(
     alloc: Global,
     references: Vec<FoundPcr>,
@@ -65,8 +66,9 @@ fn in_order(
     Ok((references, findings))
 }
 
-/// Returns the clock references and the findings of a recording as those of one that was not joined: a PID has one
-/// coding, each map names the streams of all maps of its program, and the parts come one after another.
+/// Returns the clock references and the findings of a recording as if it had not been joined: a PID has one coding,
+/// the maps of a program have one PID, each map names the streams of all maps of its program, and the parts come one
+/// after another.
 pub fn one_recording(
     alloc: Global,
     references: Vec<FoundPcr>,
@@ -77,7 +79,7 @@ pub fn one_recording(
     ensures findings { IfOk result (λ one. map finding_view one.1.items
         ≡ spec.one_recording references.items (map finding_view findings.entry.items)) }
 {
-    let findings = recoded_findings(alloc, findings)?;
+    let findings = on_own_pids(alloc, findings)?;
     let (references, findings) = with_one_map(alloc, references, findings)?;
     in_order(alloc, references, findings)
 }

@@ -1,12 +1,12 @@
 //! The stamps of the units of a recording.
 
 ghost use Rattle.std.specs.Prelude.{◌≡◌, IfOk, OnOk, map};
-ghost use Rattle.demux.specs.Shown.{finding_view, what_view};
+ghost use Rattle.pid_findings.specs.Shown.{finding_view, what_view};
 ghost use Rattle.joined_parts.specs.UnitStamps as spec;
 
 use data_times::{pcr_of, stream_on};
-use demux::{Finding, Kind, What};
 use pes_packet::Stamps;
+use pid_findings::{Finding, Kind, What};
 use std::alloc::{AllocError, Global};
 use stream_programs::{FoundPrograms, FoundStream};
 
@@ -15,7 +15,7 @@ use stream_programs::{FoundPrograms, FoundStream};
 pub struct UnitStamp {
     /// The PID of the references of its program's clock.
     pub clock: u16,
-    //// Returns the packet in which it begins.
+    /// The packet of the unit's first byte.
     pub packet: u64,
     /// Its DTS, in units of 90 kHz modulo 2^33.
     pub dts: u64,
@@ -33,7 +33,7 @@ fn dts_of(stamps: Stamps) -> Option<u64>
     }
 }
 
-// The DTS of what is found.
+// Returns the DTS of a finding.
 #[tactic(auto, unfolding(crate::specs::UnitStamps::dts_in))]
 fn dts_in(what: &What<'_>) -> Option<u64>
     ensures { result ≡ spec.dts_in (what_view what.now) }
@@ -44,7 +44,7 @@ fn dts_in(what: &What<'_>) -> Option<u64>
     }
 }
 
-/// Returns the packet in which it begins.
+/// Returns the packet of a finding's first byte.
 #[tactic(auto, unfolding(crate::specs::UnitStamps::begin_of))]
 pub(crate) fn begin_of(begun: Option<(u64, Kind)>, packet: u64) -> u64
     ensures { result ≡ spec.begin_of begun packet }
@@ -62,7 +62,7 @@ fn clock_of(found: &FoundPrograms, stream: &FoundStream) -> Option<u16>
     pcr_of(&found.programs, stream.program)
 }
 
-// That of the stream on a PID.
+// Returns the PID of the clock references of the stream on a PID.
 #[tactic(auto, unfolding(crate::specs::UnitStamps::clock_if))]
 fn clock_on(found: &FoundPrograms, pid: u16) -> Option<u16>
     ensures { result ≡ spec.clock_on found.now pid }
@@ -73,7 +73,7 @@ fn clock_on(found: &FoundPrograms, pid: u16) -> Option<u16>
     }
 }
 
-// That of the stream on a PID that may be there.
+// Returns the PID of the clock references of the stream on a PID, if there is a PID.
 #[tactic(auto, unfolding(crate::specs::UnitStamps::clock_at))]
 fn clock_at(found: &FoundPrograms, pid: Option<u16>) -> Option<u16>
     ensures { result ≡ spec.clock_at found.now pid }

@@ -2,14 +2,14 @@
 
 ghost use Rattle.std.specs.Prelude.{◌≡◌, ◌<◌, IfOk, OnOk, map, option_map};
 ghost use Rattle.psi_tables.specs.ProgramMap.{pmt_view, streams_of};
-ghost use Rattle.demux.specs.Shown.{finding_view, what_view};
+ghost use Rattle.pid_findings.specs.Shown.{finding_view, what_view};
 ghost use Rattle.joined_parts.specs.WholeMaps as spec;
 
 use crate::known_maps::RecordingMaps;
 use crate::map_streams::{KnownMap, all_streams, is_named};
 use arrayvec::ArrayVec;
-use demux::{Finding, Part, What};
 use packet_pcr::FoundPcr;
+use pid_findings::{Finding, Part, What};
 use program_tables::{any_map, program_found};
 use psi_tables::{LongHeader, Pmt, Streams};
 use std::alloc::{AllocError, Global};
@@ -109,7 +109,7 @@ fn whole_section(
     written_with(alloc, &pmt, known.streams.streams())
 }
 
-/// Puts another section in place of what is found, if there is one.
+/// Replaces the section of a finding by another section, if there is one.
 #[tactic(auto, unfolding(crate::specs::WholeMaps::with_section))]
 pub(crate) fn put_section(finding: &mut Finding<'_>, bytes: Option<Vec<u8>>)
     ensures packet { finding.new.packet ≡ finding.old.packet }

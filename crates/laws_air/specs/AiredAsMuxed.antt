@@ -9,7 +9,7 @@ use Rattle.tsmux_cli.specs.Multiplexing.{cause_of, packets_of}
 use Rattle.tsair_cli.specs.declared.arguments.AirOptions.{AirOptions}
 use Rattle.tsair_cli.specs.AirRuns.{AirsJob, EndsRun, GoesOnAir, run_of}
 
--- both command lines ask for the same of a whole job: lines of digits or bytes, all slots, the periods of a first plan
+-- both command lines ask for the same output of a whole job: lines of digits or bytes, all slots, the periods of a first plan
 pub record AskTheSame (m : MuxOptions) (o : AirOptions) : Type 0 where
   pub hex : o.hex ≡ m.hex
   pub slots : m.slots ≡ None
@@ -21,12 +21,12 @@ pub record TakesJob (m : MuxOptions) (bytes : List ℕ) (j : MuxJobView) : Type 
   pub job : mux_job_of (is_some m.periods) bytes ≡ Ok j
   pub taken : cause_of m j ≡ None
 
--- a run that ends with status 0 wrote what `mux` writes
+-- a run that ends with status 0 wrote the bytes that `mux` writes
 abbrev pub AirsWhatMuxWrites : Type 0
 AirsWhatMuxWrites = (m : MuxOptions) (o : AirOptions) (bytes : List ℕ) (j : MuxJobView) (input output faults : Device) → AskTheSame m o → TakesJob m bytes j →
     input.before.bytes ≡ Some bytes → AirsJob o input output faults 0 → Takes output (packets_of m j)
 
--- without the ticks that stand among its records
+-- a job without the ticks among its records
 abbrev pub units_alone : MuxJobView → MuxJobView
 units_alone j = record j { units = without_ticks j.units }
 
@@ -35,8 +35,8 @@ pub record TakesUnits (m : MuxOptions) (bytes : List ℕ) (j : MuxJobView) : Typ
   pub job : mux_job_of (is_some m.periods) bytes ≡ Ok j
   pub taken : cause_of m (units_alone j) ≡ None
 
--- the records of a job come in order: each unit is due no earlier than the run waits before each unit and each tick that came before it, and
--- no record is further ahead than it allows. And there is room for all that wait
+-- the records of a job come in order: each unit is due no earlier than the run waits before each unit and each tick before it, and no record is further
+-- ahead than it allows. There is room for all units that wait
 pub record AreInOrder (run : Run) (j : MuxJobView) : Type 0 where
   pub in_order : ComeInOrder run j.units
   pub room : needed_room (lead_of run) j.description.streams ≤ run.capacity

@@ -1,4 +1,4 @@
--- The bytes between two clock references on which the clock goes on (ISO/IEC 13818-1, 2.4.2.2): all lie on the line through both.
+-- The bytes between two clock references of one continuous clock (ISO/IEC 13818-1, 2.4.2.2): all lie on the line through both.
 use Rattle.std.specs.Prelude.{◌≡◌, ℕ, ◌+◌, ◌-◌, ◌*◌, ◌<◌, ◌≤◌, true, List, [], ◌∷◌, ◌++◌, length, slice_get, Some, None}
 use Rattle.std.specs.Option.{option_map}
 use Rattle.arrival.specs.Clock.{elapsed, goes_on}
@@ -11,17 +11,17 @@ use Rattle.clocked_packets.specs.Waiting.{QueueState, most_waiting, no_packet, r
 use Rattle.clocked_packets.specs.declared.packet_queue.ClockPid.{ClockPid}
 use Rattle.laws_arrival.specs.TimedPackets.{Timed, timed_packets, with_one}
 
--- what is kept once these packets have come
+-- the state after these packets
 unfoldable pub with_all : QueueState → List (List ℕ) → QueueState
 with_all q [] = q
 with_all q (bytes ∷ packets) = with_all (with_one q bytes) packets
 
--- none of these has a reference by which the stream arrives
+-- none of these packets has a reference of the clock of arrival
 unfoldable pub AreQuiet : QueueState → List (List ℕ) → Type 0
 AreQuiet q [] = Unit {0}
 AreQuiet q (bytes ∷ packets) = (reference_in q bytes ≡ None) × AreQuiet (with_one q bytes) packets
 
--- the line through two references, the first of which has this moment
+-- the line through two references; the first reference has this moment
 abbrev pub line_through : ℕ → PcrSample → PcrSample → Line
 line_through moment before sample = record {
   byte = before.byte;
@@ -36,12 +36,12 @@ pub record LiesOn (packets : List Timed) (k i : ℕ) (line : Line) : Type 0 wher
   pub arrival : option_map (λ p. p.arrival) (slice_get packets k) ≡ Some (OnLines lines)
   pub is : line_at lines i ≡ line
 
--- what is kept once a packet has come after these
+-- the state after these packets and a further packet
 abbrev pub kept_with : ClockPid → List (List ℕ) → List ℕ → QueueState
 kept_with pid before a = with_one (with_all (no_packet pid) before) a
 
--- two packets with references on which the clock goes on, none between them, and no more waiting than may: each byte after the first reference,
--- up to the second one, lies on their line
+-- two packets with references of one continuous clock, none between them, and no more packets waiting than may: each byte after the first reference, up
+-- to the second, lies on their line
 abbrev pub BetweenLaw : Type 0
 BetweenLaw = (pid : ClockPid) (before : List (List ℕ)) (a : List ℕ) (between : List (List ℕ)) (b : List ℕ) (later : List (List ℕ)) (r r' : ℕ × PcrSample)
     (k i : ℕ) →

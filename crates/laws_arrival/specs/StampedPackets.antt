@@ -14,11 +14,11 @@ pub record Stamped : Type 0 where
   pub head : ℕ
   pub bytes : List ℕ
 
--- a packet comes with a sample of the stamps' clock, or with none, and waits
+-- a packet with a sample of the stamps' clock, or without one, is added and waits
 abbrev pub with_stamped : QueueState → Option PcrSample → List ℕ → QueueState
 with_stamped q sample bytes = with_held (stepped_with q sample) (waiting (released_with q sample) q.held ++ bytes ∷ [])
 
--- those that wait, and then these
+-- the packets that wait, and then these
 unfoldable pub stamped_from : StampState → QueueState → List Stamped → List Timed
 stamped_from c q [] = arriving_so (last_arrival q) q.held
 stamped_from c q (p ∷ packets) = arrived (released_with q (step_at c p.head).sample) q.held
@@ -37,6 +37,6 @@ abbrev pub StampedRiseLaw : Type 0
 StampedRiseLaw = (pid : ClockPid) (packets : List Stamped) (chosen : ℕ → List ℕ → Bool) (drain : ℕ) →
     Rises 0 (times_among chosen drain 0 (stamped_packets pid packets))
 
--- where a line begins within a packet of 188 bytes, its whole payload lies on that line
+-- if a line begins within a packet of 188 bytes, the packet's whole payload lies on that line
 abbrev pub StampedLeadLaw : Type 0
 StampedLeadLaw = (pid : ClockPid) (packets : List Stamped) → All (λ p. length p.bytes ≡ 188) packets → AllLead 0 (stamped_packets pid packets)

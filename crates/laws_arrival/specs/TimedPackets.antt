@@ -1,7 +1,7 @@
 -- The packets of a stream, each with how it arrives.
 --
--- By clock references a packet waits until its line is known, or too many wait; those that no longer wait arrive as they are told to then,
--- and at the end the others on the last line, which goes on.
+-- By clock references a packet waits until its line is known, or too many wait; a packet that no longer waits arrives by that line, and at the end the
+-- remaining packets arrive on the last line, extended.
 use Rattle.std.specs.Prelude.{◌≡◌, ℕ, List, [], ◌∷◌, ◌++◌, map, Option, Some, None}
 use Rattle.arrival.specs.declared.arrival.Arrival.{Arrival}
 use Rattle.clocked_packets.specs.Waiting.{QueueState, last_arrival, no_packet, released, stepped, with_held}
@@ -15,7 +15,7 @@ pub record Timed : Type 0 where
 abbrev pub arriving_so : Arrival → List (List ℕ) → List Timed
 arriving_so arrival packets = map (λ bytes. record { arrival = arrival; bytes = bytes }) packets
 
--- of packets that wait those that arrive, and those that wait still
+-- among packets that wait, the packets that arrive, and the packets that still wait
 unfoldable pub arrived : Option Arrival → List (List ℕ) → List Timed
 arrived None held = []
 arrived (Some arrival) held = arriving_so arrival held
@@ -28,7 +28,7 @@ waiting (Some arrival) held = []
 abbrev pub with_one : QueueState → List ℕ → QueueState
 with_one q bytes = with_held (stepped q bytes) (waiting (released q bytes) q.held ++ bytes ∷ [])
 
--- those that wait, and then these
+-- the packets that wait, and then these
 unfoldable pub timed_from : QueueState → List (List ℕ) → List Timed
 timed_from q [] = arriving_so (last_arrival q) q.held
 timed_from q (bytes ∷ packets) = arrived (released q bytes) q.held ++ timed_from (with_one q bytes) packets

@@ -10,7 +10,7 @@ use Rattle.arrival.specs.declared.arrival.Arrival.TheVariants.{Unknown, AtRate, 
 use Rattle.clocked_packets.specs.declared.packet_queue.ClockPid.{ClockPid}
 use Rattle.laws_arrival.specs.TimedPackets.{Timed, timed_packets}
 
--- byte i, on the line on which it lies itself; before a line is known it has no time
+-- the time of byte i, on its own line; before a line is known it has no time
 unfoldable pub time_of : Arrival → ℕ → ℕ → ℕ
 time_of Unknown drain i = 0
 time_of (AtRate rate) drain i = i * drain
@@ -21,11 +21,11 @@ unfoldable pub times_from : Arrival → ℕ → ℕ → ℕ → List ℕ
 times_from arrival drain i zero = []
 times_from arrival drain i (suc n) = time_of arrival drain i ∷ times_from arrival drain (suc i) n
 
--- the bytes of the packet at an index: none where it has no times
+-- the times of the bytes of the packet at an index: empty if it has no times
 abbrev pub packet_times : ℕ → ℕ → Arrival → List ℕ
 packet_times drain index arrival = if has_times arrival (188 * index) 188 then times_from arrival drain (188 * index) 188 else []
 
--- those of the packets that are chosen, by their indices and bytes; the first of all these has this index
+-- the times of the packets that are chosen, by their indices and bytes; the first of all packets has this index
 unfoldable pub times_among : (ℕ → List ℕ → Bool) → ℕ → ℕ → List Timed → List ℕ
 times_among chosen drain index [] = []
 times_among chosen drain index (p ∷ packets) =

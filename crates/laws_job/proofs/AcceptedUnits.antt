@@ -8,7 +8,7 @@ use Rattle.pes_packet.specs.AccessUnits.{AccessUnit}
 use Rattle.pes_packet.specs.Units.{units_of}
 use Rattle.description_parts.specs.Described.{Described, DescribedStream}
 use Rattle.description_parts.specs.Ranges.{IsInRange}
-use Rattle.demux.specs.Views.{FindingView}
+use Rattle.pid_findings.specs.Views.{FindingView}
 use Rattle.unit_queue.specs.Queues.{Kept}
 use Rattle.unit_queue.specs.declared.refusal.FeedError.{FeedError}
 use Rattle.mux_core.specs.Scheduled.{Scheduled}

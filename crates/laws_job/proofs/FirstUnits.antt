@@ -6,7 +6,7 @@ use Rattle.std.specs.List.{list_any}
 use Rattle.std.proofs.lemmas.Bool.{cases_Bool}
 use Rattle.std.proofs.lemmas.List.Elements.{All-nil, All-cons, All-head, All-tail}
 use Rattle.pes_packet.specs.AccessUnits.{AccessUnit}
-use Rattle.demux.specs.Views.{FindingView}
+use Rattle.pid_findings.specs.Views.{FindingView}
 use Rattle.laws_run.specs.TablesFirst.{DueLate}
 use Rattle.es_moments.specs.Stamps.{distance, dts_at, unit_at, moved, min_distance, constant_of, first_fault, after_half}
 use Rattle.es_moments.proofs.StampMoments.{constant_least}

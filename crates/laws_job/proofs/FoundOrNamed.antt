@@ -4,7 +4,7 @@ use Rattle.std.proofs.Common.{ap, subst, refl, arith}
 use Rattle.pes_packet.specs.AccessUnits.{AccessUnit}
 use Rattle.pes_packet.specs.declared.marks.Marks.{Marks}
 use Rattle.pes_packet.specs.declared.reading.PesHeader.{PesHeader}
-use Rattle.demux.specs.Views.{WhatView, IsPes, FindingView}
+use Rattle.pid_findings.specs.Views.{WhatView, IsPes, FindingView}
 use Rattle.demux.specs.Laws.{has_pid}
 use Rattle.es_moments.specs.ApartUnits.{apart_units}
 use Rattle.es_moments.specs.WireUnits.{CarriedUnit}

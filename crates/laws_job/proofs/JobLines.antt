@@ -4,7 +4,7 @@ use Rattle.std.proofs.Common.{flat_map, Option, Some, None, Result, Ok, Err, Con
 use Rattle.std.specs.Prelude.{ok_or, option_to_list, is_some}
 use Rattle.std.specs.List.{list_any}
 use Rattle.std.proofs.lemmas.List.Elements.{Contains-append_left, Contains-append_right}
-use Rattle.demux.specs.Views.{WhatView, IsTruncated, IsBadPacket, IsErrored, FindingView}
+use Rattle.pid_findings.specs.Views.{WhatView, IsTruncated, IsBadPacket, IsErrored, FindingView}
 use Rattle.program_tables.specs.Association.{AssociationView, association}
 use Rattle.stream_programs.specs.PidAssignment.{assigned_pids}
 use Rattle.stream_programs.specs.Programs.{FoundProgramsView, programs_of}

@@ -1,7 +1,7 @@
 -- The units of a job are those that were found.
 use Rattle.std.proofs.Common.{ℕ, false, List, None, sym, subst}
 use Rattle.pes_packet.specs.AccessUnits.{AccessUnit}
-use Rattle.demux.specs.Views.{FindingView}
+use Rattle.pid_findings.specs.Views.{FindingView}
 use Rattle.es_moments.specs.Stamps.{moved, MovedByOneConstant}
 use Rattle.job_programs.specs.FoundUnits.{AreFound, source_of}
 use Rattle.laws_job.specs.Laws.{AreTheSame, AreThose}

@@ -11,8 +11,8 @@ use Rattle.pes_packet.specs.declared.time_stamps.Stamps.TheVariants.{Absent, Pts
 use Rattle.pes_packet.proofs.Sixteen.{marks_have_sixteen}
 use Rattle.description_parts.specs.Described.{Described, DescribedStream}
 use Rattle.demux.specs.Laws.{has_pid}
-use Rattle.demux.specs.Views.{FindingView, WhatView, IsDuplicate, BreaksCounter, IsScrambled, IsTruncated, IsSection, IsBadSection, IsPes, IsBadPes}
-use Rattle.demux.specs.Views.{IsBadPacket, IsErrored, IsStray}
+use Rattle.pid_findings.specs.Views.{FindingView, WhatView, IsDuplicate, BreaksCounter, IsScrambled, IsTruncated, IsSection, IsBadSection, IsPes, IsBadPes}
+use Rattle.pid_findings.specs.Views.{IsBadPacket, IsErrored, IsStray}
 use Rattle.es_moments.specs.ApartUnits.{apart_dts}
 use Rattle.es_units.specs.CarriedUnits.{RoleView, carried_units, Ignored, Start, Continuation, Interruption, continuation, first_packet}
 use Rattle.es_units.specs.CarriedUnits.{is_access_point, is_cut, is_split, is_unstamped, pes_role, role_of, role_of_what, units_from, units_in}

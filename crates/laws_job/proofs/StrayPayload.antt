@@ -2,14 +2,14 @@
 use Rattle.std.proofs.Common.{◌≡◌, ◌∙◌, ◌⊎◌, inl, inr, ℕ, ◌++◌, ◌||◌, Bool, true, false, if◌then◌else◌, List, [], ◌∷◌, Option, Some, None, is_some}
 use Rattle.std.proofs.Common.{option_map, refl, sym, ap, ap₂}
 use Rattle.std.proofs.lemmas.List.{append_assoc}
-use Rattle.demux.specs.Views.{BreaksCounter, Found, IsDuplicate, WhatView}
-use Rattle.demux.specs.Marks.{Marked}
-use Rattle.demux.specs.Roles.{Role, NoPayload, ScrambledPayload, PesStart, SectionStart, PointerPastEnd, Continuation, role, role_divides}
-use Rattle.demux.specs.OpenUnits.{OpenUnit, appended, decided, last_in, plain, section}
-use Rattle.demux.specs.declared.open_unit.UnitKind.TheVariants as unit_kinds
-use Rattle.demux.specs.Findings.{begins, by_break, by_role, cut_short, divider, divides, found_appended, found_at, joined, open_after, stray, stretch}
-use Rattle.demux.specs.Findings.{undecided}
-use Rattle.demux.specs.Findings.{unless_decided}
+use Rattle.pid_findings.specs.Views.{BreaksCounter, Found, IsDuplicate, WhatView}
+use Rattle.pid_findings.specs.Marks.{Marked}
+use Rattle.pid_findings.specs.Roles.{Role, NoPayload, ScrambledPayload, PesStart, SectionStart, PointerPastEnd, Continuation, role, role_divides}
+use Rattle.pid_findings.specs.OpenUnits.{OpenUnit, appended, decided, last_in, plain, section}
+use Rattle.pid_findings.specs.declared.open_unit.UnitKind.TheVariants as unit_kinds
+use Rattle.pid_findings.specs.Findings.{begins, by_break, by_role, cut_short, divider, divides, found_appended, found_at, joined, open_after, stray, stretch}
+use Rattle.pid_findings.specs.Findings.{undecided}
+use Rattle.pid_findings.specs.Findings.{unless_decided}
 use Rattle.laws_job.specs.StrayPayload.{FollowsEnd, FollowsLoss, GoesOn, IsFoundStray, LostPayloadLaw, StrayPayloadLaw, Waits}
 
 -- 1. The last packet in which something could begin

@@ -12,7 +12,7 @@ use Rattle.pes_packet.specs.HeaderMarks.{header_marks}
 use Rattle.pes_packet.specs.declared.marks.Marks.{Marks}
 use Rattle.pes_packet.proofs.Written.{marks_are_read}
 use Rattle.pes_packet.proofs.Written.{header_sizes}
-use Rattle.demux.specs.Views.{FindingView}
+use Rattle.pid_findings.specs.Views.{FindingView}
 use Rattle.demux.specs.Laws.{with_pid_at}
 use Rattle.unit_queue.specs.OwnedStreams.{OwnedStream, first_slot, end_slot, has_access, packet_count}
 use Rattle.laws_pid.specs.Sent.{Sending, Ending, next_of, if_sent, each_found}

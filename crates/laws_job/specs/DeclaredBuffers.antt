@@ -8,7 +8,7 @@ use Rattle.description_parts.specs.Described.{Described, DescribedStream}
 use Rattle.description_parts.specs.Ranges.{IsInRange}
 use Rattle.slot_plan.specs.Planned.{Planned}
 use Rattle.slot_plan.specs.Conditions.{IsServing}
-use Rattle.demux.specs.Views.{FindingView}
+use Rattle.pid_findings.specs.Views.{FindingView}
 use Rattle.mux_core.specs.Scheduled.{Scheduled}
 use Rattle.mux_core.specs.Headline.{VideoKept}
 use Rattle.mux_core.specs.FramesKept.{FramesKept}
@@ -51,7 +51,7 @@ pub record HasBuffersOf (part : StreamPartView) (s : DescribedStream) : Type 0 w
   pub multiplexing : s.multiplexing ≡ part.multiplexing
   pub framing : s.framing ≡ part.framing
 
--- so each stream of a description is described with what was chosen for it
+-- each stream of a description is described with the choice made for it
 abbrev pub DeclaredLaw : Type 0
 DeclaredLaw = (options : JobOptionsView) (input : JobInputView) (rate : ℕ) (d : Described) → HasTomlNumbers options input rate →
     IsText d (description_text options input rate) →
@@ -65,7 +65,7 @@ pub record BuffersKept (schedule : Scheduled) (part : StreamPartView) (s : Descr
   -- with several access units in a unit the main buffer does not overflow, and each of them is removed at its own decoding time
   pub frames : (f : Framing) → part.framing ≡ Some f → FramesKept schedule s f units bytes
 
--- so of each stream, with what was chosen for it
+-- this holds for each stream, with the choice made for it
 abbrev pub BuffersKeptLaw : Type 0
 BuffersKeptLaw = (options : JobOptionsView) (input : JobInputView) (rate : ℕ) (d : Described) (p : Planned) (findings : List FindingView)
     (units : List (ℕ × AccessUnit)) (n : ℕ) →

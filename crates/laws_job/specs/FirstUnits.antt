@@ -7,7 +7,7 @@ use Rattle.description_parts.specs.Described.{Described, DescribedStream}
 use Rattle.description_parts.specs.Ranges.{IsInRange}
 use Rattle.slot_plan.specs.Planned.{Planned}
 use Rattle.slot_plan.specs.Conditions.{IsServing}
-use Rattle.demux.specs.Views.{FindingView}
+use Rattle.pid_findings.specs.Views.{FindingView}
 use Rattle.mux_core.specs.WholeJobs.{job_history, output_of}
 use Rattle.laws_run.specs.FollowedTables.{IsFollowed}
 use Rattle.laws_run.specs.TablesFirst.{DueLate}
@@ -31,14 +31,14 @@ head_stamp (stamp ∷ stamps) = stamp
 abbrev pub stamps_beside : List JobProgramView → List WireStreamView → WireStreamView → List ℕ
 stamps_beside programs streams s = stamps_of (clock_in programs s.program) (firsts programs streams)
 
--- the first DTS of a stream on the wire lies within half the range of 33 bits before and after that of the first stream on its clock, but not within
--- the last 2.5 s of it: else it can't be told which of the two comes first
+-- the first DTS of a stream on the wire lies within half the range of 33 bits before and after the first DTS of the first stream on its clock,
+-- but not in the last 2.5 s of that range: otherwise it is not known which of the two comes first
 abbrev pub BeginsNear : List JobProgramView → List WireStreamView → WireStreamView → Type 0
 BeginsNear programs streams s = after_half (head_stamp (stamps_beside programs streams s) % 2 ^ 33) (first_dts s.units) + 225000 < 2 ^ 33
 
 -- ---- what comes before them
 
--- what stands before a packet of a stream whose units are due late tells a decoder that follows PAT and PMT of each program and its streams
+-- the bytes before a packet of a stream whose units are due late name each program and its streams to a decoder that follows PAT and PMT
 abbrev pub TablesFirstLaw : Type 0
 TablesFirstLaw = (d : Described) (p : Planned) (findings : List FindingView) (units : List (ℕ × AccessUnit)) (n k j : ℕ) (s : DescribedStream) (e : Entry) →
     IsInRange d → IsServing d p → AreUnits false findings d units → slice_get d.streams k ≡ Some s → DueLate (units_of k units) →
@@ -47,7 +47,7 @@ TablesFirstLaw = (d : Described) (p : Planned) (findings : List FindingView) (un
 
 -- ---- both of a job
 
--- so it is of each job of this input, before each packet of each stream
+-- this holds for each job from this input, before each packet of each stream
 abbrev pub TablesComeFirst : JobOptionsView → List FindingView → JobInputView → Type 0
 TablesComeFirst options findings input =
     (d : Described) (p : Planned) (text : List ℕ) (units : List (ℕ × AccessUnit)) (n k j : ℕ) (s : DescribedStream) (e : Entry) →
@@ -55,8 +55,8 @@ TablesComeFirst options findings input =
     slice_get (pid_list s.pid (output_of false (schedule_for d p) (job_history units n))) j ≡ Some e →
     IsFollowed d (take (188 * e.index) (output_of false (schedule_for d p) (job_history units n)))
 
--- the streams on the wire of which a job is made, and its streams; where these begin near one another, their units are due late, and the tables come
--- before them
+-- the streams on the wire from which a job is made, and the job's streams; if these begin near one another, their units are due late, and the
+-- tables come before them
 pub record MadeOf (options : JobOptionsView) (findings : List FindingView) (input : JobInputView) : Type 0 where
   pub streams : List WireStreamView
   pub moved : moved_streams findings (earliest input.programs input.tables streams) input.programs streams ≡ Ok input.streams

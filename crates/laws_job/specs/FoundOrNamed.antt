@@ -1,4 +1,4 @@
--- What is found on a stream's PID is found again in the bytes of the job, or a line says why not.
+-- Each finding on a stream's PID is found again in the bytes of the job, or a line says why not.
 use Rattle.std.specs.Prelude.{◌≡◌, ◌≤◌, ◌⊎◌, ℕ, ◌^◌, Bool, true, false, List, ◌∷◌, ◌++◌, slice_get, Some, Contains}
 use Rattle.pes_packet.specs.AccessUnits.{AccessUnit}
 use Rattle.pes_packet.specs.Units.{units_of}
@@ -7,7 +7,7 @@ use Rattle.description_parts.specs.Described.{Described, DescribedStream}
 use Rattle.description_parts.specs.Ranges.{IsInRange}
 use Rattle.slot_plan.specs.Planned.{Planned}
 use Rattle.slot_plan.specs.Conditions.{IsServing}
-use Rattle.demux.specs.Views.{IsPes, FindingView}
+use Rattle.pid_findings.specs.Views.{IsPes, FindingView}
 use Rattle.demux.specs.Laws.{has_pid}
 use Rattle.mux_core.specs.WholeJobs.{job_history, output_of}
 use Rattle.es_moments.specs.WireUnits.{CarriedUnit}
@@ -20,7 +20,7 @@ use Rattle.stream_jobs.specs.Jobs.{AreUnits}
 use Rattle.laws_job.specs.Laws.{AllDue, schedule_for}
 use Rattle.laws_job.specs.LeftOut.{IsNamedUnit, PesAccounted}
 
--- one of these units has the marks and the bytes of a unit
+-- a unit among these has the marks and the bytes of the unit u
 pub record IsAgain (found : List AccessUnit) (u : CarriedUnit) : Type 0 where
   pub again : AccessUnit
   pub among : Contains found again
@@ -31,8 +31,8 @@ pub record IsAgain (found : List AccessUnit) (u : CarriedUnit) : Type 0 where
 abbrev pub units_again : Described → Planned → DescribedStream → List (ℕ × AccessUnit) → ℕ → List AccessUnit
 units_again d p s units n = wire_units s.pid (all_found (output_of false (schedule_for d p) (job_history units n)))
 
--- if the run ends no earlier than the DTS of each unit of a stream, each PES packet on its PID is padding_stream, or a part of a unit that is found
--- again, or a line with its first packet or that of its unit says why not
+-- if the run ends no earlier than the DTS of each unit of a stream, each PES packet on its PID is padding_stream, or a part of a unit that is
+-- found again, or a line with its first packet or its unit's first packet says why not
 abbrev pub FoundOrNamedLaw : Type 0
 FoundOrNamedLaw = (d : Described) (p : Planned) (before : List FindingView) (f : FindingView) (later : List FindingView) (units : List (ℕ × AccessUnit))
     (n k : ℕ) (s : DescribedStream) (base count : ℕ) (header : PesHeader) (unended : Bool) (body : List ℕ) →
@@ -42,7 +42,7 @@ FoundOrNamedLaw = (d : Described) (p : Planned) (before : List FindingView) (f :
     PesAccounted s.pid count before f later header body
     (λ u. IsAgain (units_again d p s units n) u ⊎ IsNamedUnit s.pid count (before ++ f ∷ later) u)
 
--- so of a job of several inputs, of which a stream's PID in its own input may be another one
+-- the same for a job of several inputs, where a stream's PID in its own input may differ
 abbrev pub JoinedOrNamedLaw : Type 0
 JoinedOrNamedLaw = (d : Described) (p : Planned) (inputs : List (List FindingView)) (origins : List Origin) (pid : ℕ) (before : List FindingView)
     (f : FindingView) (later : List FindingView) (units : List (ℕ × AccessUnit)) (n k : ℕ) (s : DescribedStream) (base count : ℕ) (header : PesHeader)

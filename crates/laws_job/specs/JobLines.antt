@@ -1,6 +1,6 @@
 -- The lines of a job say all that is left out of its input's streams.
 use Rattle.std.specs.Prelude.{◌≡◌, ◌⊎◌, ℕ, ◌==◌, Bool, true, false, List, map, Contains, Some, Ok}
-use Rattle.demux.specs.Views.{FindingView}
+use Rattle.pid_findings.specs.Views.{FindingView}
 use Rattle.program_tables.specs.Association.{AssociationView, association}
 use Rattle.stream_programs.specs.Programs.{programs_of}
 use Rattle.stream_programs.specs.Streams.{FoundStreamView}
@@ -33,9 +33,9 @@ pub record SaysAll (options : JobOptionsView) (count : ℕ) (findings : List Fin
   -- each line of each of its streams
   pub units : (pid : ℕ) (w : UnitWarning) → Contains (pids_of input) pid → Contains (unit_warnings pid count findings) w →
       Contains input.warnings (warnings.Units pid w)
-  -- and of each packet that is damaged, and so has no PID
+  -- each packet that is damaged, and so has no PID, has its warning
   pub packets : (f : FindingView) (w : Warning) → Contains findings f → Contains (packet_warning f) w → Contains input.warnings w
-  -- and each stream in the PMTs of the programs that are asked for, except those that options leave out, is a stream of the job, or a line names it
+  -- each stream in the PMTs of the selected programs, except streams that options leave out, is a stream of the job, or a line names it
   pub named_by : AssociationView
   pub in_force : association findings ≡ Some named_by
   pub streams : (s : FoundStreamView) → Contains (selected options.without (programs_of (named_of options named_by) findings).streams) s →

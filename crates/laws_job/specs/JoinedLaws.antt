@@ -6,7 +6,7 @@ use Rattle.description_parts.specs.Described.{Described, DescribedStream}
 use Rattle.description_parts.specs.Ranges.{IsInRange}
 use Rattle.slot_plan.specs.Planned.{Planned}
 use Rattle.slot_plan.specs.Conditions.{IsServing}
-use Rattle.demux.specs.Views.{FindingView}
+use Rattle.pid_findings.specs.Views.{FindingView}
 use Rattle.mux_core.specs.Scheduled.{Scheduled}
 use Rattle.mux_core.specs.WholeJobs.{first_refused, capacity_for, job_history, output_of}
 use Rattle.es_units.specs.CarriedUnits.{wire_units}
@@ -22,8 +22,8 @@ JoinedAcceptedLaw = (made : Bool) (schedule : Scheduled) (inputs : List (List Fi
     IsInRange schedule.description →
     AreUnitsIn made inputs origins schedule.description units → first_refused schedule (capacity_for units) [] units ≡ None
 
--- the units of a stream, which are these units of the wire, whose clock shows `base` at moment 0 if that of the description shows base0, are found
--- again on its PID: all of them and no other
+-- the units of a stream, which are these units of the wire, are found again on its PID, all of them and no other; their clock shows `base` at
+-- moment 0 if the description's clock shows base0
 abbrev pub JoinedAgainLaw : Type 0
 JoinedAgainLaw = (d : Described) (p : Planned) (inputs : List (List FindingView)) (origins : List Origin) (units : List (ℕ × AccessUnit)) (n k : ℕ)
     (s : DescribedStream) (wire : List AccessUnit) (base : ℕ) →

@@ -7,7 +7,7 @@ use Rattle.description_parts.specs.Described.{Described, DescribedStream}
 use Rattle.description_parts.specs.Ranges.{IsInRange}
 use Rattle.slot_plan.specs.Planned.{Planned}
 use Rattle.slot_plan.specs.Conditions.{IsServing}
-use Rattle.demux.specs.Views.{FindingView}
+use Rattle.pid_findings.specs.Views.{FindingView}
 use Rattle.unit_timing.specs.declared.framing.Framing.{Framing}
 use Rattle.unit_timing.specs.declared.multiplexing_buffer.MultiplexingBuffer.{MultiplexingBuffer}
 use Rattle.mux_core.specs.Scheduled.{Scheduled}
@@ -45,21 +45,21 @@ pub record AreThose (wire us : List AccessUnit) : Type 0 where
   pub range : base < 2 ^ 33
   pub same : AreTheSame wire base us
 
--- what holds of the bytes of a job
+-- what the bytes of a job keep
 pub record RoundTrip (schedule : Scheduled) (findings : List FindingView) (units : List (ℕ × AccessUnit)) (n : ℕ) (bytes : List ℕ) : Type 0 where
-  -- the units of each stream are those that were found on its PID, each of a data stream with a DTS of its own
+  -- the units of each stream are the units found on its PID, in a data stream with distinct DTS
   pub same : (k : ℕ) (s : DescribedStream) → slice_get schedule.description.streams k ≡ Some s → AreThose (apart_wire_units s.pid findings) (units_of k units)
-  -- the bytes give them back: each that was sent whole with its stamps on the wire and its bytes
+  -- the bytes give them back: each unit that was sent whole with its stamps on the wire and its bytes
   pub given_back : GivenBack schedule (λ k. units_of k units) n bytes
   -- nothing is wrong with them
   pub clean : IsClean schedule bytes
   -- each unit is in time, and no buffer overflows
   pub kept : Headline schedule (λ k. units_of k units) n bytes
-  -- where the main buffer is a multiplexing buffer and an elementary stream buffer, neither overflows, and each unit that is due is whole in the
-  -- second by its DTS
+  -- if a stream has a multiplexing buffer and an elementary stream buffer, neither overflows, and each due unit is whole in the elementary stream
+  -- buffer by its DTS
   pub video : (k : ℕ) (s : DescribedStream) (b : MultiplexingBuffer) → slice_get schedule.description.streams k ≡ Some s → s.multiplexing ≡ Some b →
       VideoKept schedule s b (units_of k units) n bytes
-  -- nor does the main buffer where a unit is several access units, and each is removed at its own decoding time
+  -- the main buffer does not overflow either if a unit has several access units, and each is removed at its own decoding time
   pub frames : (k : ℕ) (s : DescribedStream) (f : Framing) → slice_get schedule.description.streams k ≡ Some s → s.framing ≡ Some f →
       FramesKept schedule s f (units_of k units) bytes
 
@@ -82,9 +82,9 @@ later_by time u = record { dts = on_wire (u.dts + time); pts = on_wire (u.pts + 
 abbrev pub AllDue : ℕ → ℕ → List AccessUnit → Type 0
 AllDue rate n us = All (λ u. u.dts * rate ≤ n * slot_units_at_1bps) us
 
--- the units of a stream, whose clock shows `base` at moment 0 if that of the description shows base0, are found again: all of them and
--- no other. Where no two of a data stream in a row are due at one moment, they are just those of the wire (es_units `ApartStay`); else all
--- but DTS is (`ApartKeep`), and of a row with one DTS each is decoded before the next (`RowRises`)
+-- the units of a stream are found again, all of them and no other; their clock shows `base` at moment 0 if the description's clock shows base0.
+-- If no two successive units of a data stream are due at one moment, they are exactly the units on the wire (es_units `ApartStay`); otherwise
+-- all but DTS is the same (`ApartKeep`), and in a row with one DTS each unit is decoded before the next (`RowRises`)
 abbrev pub FoundAgainLaw : Type 0
 FoundAgainLaw = (d : Described) (p : Planned) (findings : List FindingView) (units : List (ℕ × AccessUnit)) (n k : ℕ) (s : DescribedStream) (base : ℕ) →
     IsInRange d → IsServing d p → AreUnits false findings d units → n ≤ 2 ^ 40 → slice_get d.streams k ≡ Some s →
@@ -104,7 +104,7 @@ OwnAgainLaw = (d : Described) (p : Planned) (findings : List FindingView) (units
 abbrev pub IsOnWire : AccessUnit → Type 0
 IsOnWire u = (u.dts < 2 ^ 33) × (u.pts < 2 ^ 33)
 
--- and if both clocks show the same, with the same stamps
+-- if both clocks show the same, the units have the same stamps
 abbrev pub SameAgainLaw : Type 0
 SameAgainLaw = (d : Described) (p : Planned) (findings : List FindingView) (units : List (ℕ × AccessUnit)) (n k : ℕ) (s : DescribedStream) →
     IsInRange d → IsServing d p → AreUnits false findings d units → n ≤ 2 ^ 40 → slice_get d.streams k ≡ Some s →

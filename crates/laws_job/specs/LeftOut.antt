@@ -1,9 +1,10 @@
 -- Nothing that is found of a stream is left out in silence: it is in a unit of the job, or a line names its packet.
 use Rattle.std.specs.Prelude.{◌≡◌, ◌⊎◌, ⊤, ℕ, true, List, [], ◌∷◌, ◌++◌, length, Contains}
 use Rattle.pes_packet.specs.declared.reading.PesHeader.{PesHeader}
-use Rattle.demux.specs.Views.{WhatView, IsDuplicate, BreaksCounter, IsScrambled, IsTruncated, IsSection, IsBadSection, IsPes, IsBadPes, IsBadPacket, IsErrored}
-use Rattle.demux.specs.Views.{IsStray}
-use Rattle.demux.specs.Views.{FindingView}
+use Rattle.pid_findings.specs.Views.{WhatView, IsDuplicate, BreaksCounter, IsScrambled, IsTruncated, IsSection, IsBadSection, IsPes, IsBadPes, IsBadPacket}
+use Rattle.pid_findings.specs.Views.{IsErrored}
+use Rattle.pid_findings.specs.Views.{IsStray}
+use Rattle.pid_findings.specs.Views.{FindingView}
 use Rattle.demux.specs.Laws.{has_pid}
 use Rattle.es_moments.specs.WireUnits.{CarriedUnit}
 use Rattle.es_units.specs.CarriedUnits.{Start, role_of, first_packet, continuation, with_more, carried_units}
@@ -21,14 +22,14 @@ HasLine pid count findings packet cause = Contains (unit_warnings pid count find
 abbrev pub IsNamedUnit : ℕ → ℕ → List FindingView → CarriedUnit → Type 0
 IsNamedUnit pid count findings u = HasLine pid count findings u.packet causes.PartLost ⊎ HasLine pid count findings u.packet causes.EmptyUnit
 
--- a unit is one of those that the findings carry, or is named
+-- a unit is among the units that the findings carry, or a warning names it
 abbrev pub IsCarriedOrNamed : ℕ → ℕ → List FindingView → CarriedUnit → Type 0
 IsCarriedOrNamed pid count findings u = Contains (carried_units pid findings) u ⊎ IsNamedUnit pid count findings u
 
 -- ---- a PES packet
 
--- a PES packet with these bytes is in a unit of which something is so, and which this PES packet begins or one before it. The unit's bytes are those
--- ahead, these, and those of the PES packets that follow
+-- a PES packet with these bytes is in a unit for which `IsSo` holds, and which this PES packet or an earlier one begins. The unit has the bytes
+-- of the earlier PES packets, these bytes, and the bytes of the PES packets that follow
 pub record IsInUnit (pid : ℕ) (before : List FindingView) (f : FindingView) (later : List FindingView) (body : List ℕ) (IsSo : CarriedUnit → Type 0) :
     Type 0 where
   pub earlier : List FindingView
@@ -51,7 +52,7 @@ PesAccounted pid count before f later header body IsSo =
 
 -- ---- a finding
 
--- what is found after `before` is accounted for. A duplicate packet repeats the one before it (2.4.3.3). A damaged packet is found on no PID:
+-- the finding after `before` is accounted for. A duplicate packet repeats the packet before it (2.4.3.3). A damaged packet is found on no PID:
 -- `JobLines` has its line
 unfoldable pub Accounted : ℕ → ℕ → List FindingView → FindingView → List FindingView → WhatView → Type 0
 Accounted pid count before f later IsDuplicate = ⊤
@@ -70,7 +71,7 @@ Accounted pid count before f later (IsBadPacket error) = ⊤
 Accounted pid count before f later IsErrored = ⊤
 Accounted pid count before f later (IsStray size) = HasLine pid count (before ++ f ∷ later) (first_packet f.packet f.begun) causes.Stray
 
--- so each finding of a PID, with those before it and those after it
+-- each finding of a PID is accounted for, with the findings before and after it
 abbrev pub NothingIsSilent : Type 0
 NothingIsSilent = (pid count : ℕ) (before : List FindingView) (f : FindingView) (later : List FindingView) → has_pid pid f.pid ≡ true →
     Accounted pid count before f later f.what

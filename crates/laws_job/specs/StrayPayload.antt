@@ -1,12 +1,12 @@
 -- Payload that is in no PES packet and in no section: it is found as stray. The packets of a PID have the last one first.
 use Rattle.std.specs.Prelude.{◌≡◌, ◌⊎◌, ℕ, List, ◌∷◌, ◌++◌, Some, None}
-use Rattle.demux.specs.Views.{WhatView, BreaksCounter}
-use Rattle.demux.specs.Marks.{Marked}
-use Rattle.demux.specs.Roles.{ScrambledPayload, SectionStart, PointerPastEnd, Continuation, role}
-use Rattle.demux.specs.OpenUnits.{OpenUnit, decided, appended, plain}
-use Rattle.demux.specs.Findings.{cut_short, divider, found_at, open_after, stray, stretch}
+use Rattle.pid_findings.specs.Views.{WhatView, BreaksCounter}
+use Rattle.pid_findings.specs.Marks.{Marked}
+use Rattle.pid_findings.specs.Roles.{ScrambledPayload, SectionStart, PointerPastEnd, Continuation, role}
+use Rattle.pid_findings.specs.OpenUnits.{OpenUnit, decided, appended, plain}
+use Rattle.pid_findings.specs.Findings.{cut_short, divider, found_at, open_after, stray, stretch}
 
--- the payload of the next packet goes on with a PES packet or a section that is not whole
+-- the payload of the next packet continues a PES packet or a section that is not whole
 pub record GoesOn (before : List Marked) (m : Marked) (payload : List ℕ) : Type 0 where
   pub unit : OpenUnit
   pub open_is : open_after before ≡ Some unit
@@ -36,7 +36,7 @@ pub record IsFoundStray (before : List Marked) (m : Marked) (payload : List ℕ)
   pub none : open_after before ≡ None
   pub found : found_at m (open_after before) ≡ stray payload
 
--- payload that begins nothing, is not scrambled and no repetition, and whose counter follows: it goes on with what is open, or it is found as stray
+-- payload that begins nothing, is not scrambled and no repetition, and whose counter follows: it continues the open unit, or it is found as stray
 abbrev pub StrayPayloadLaw : Type 0
 StrayPayloadLaw = (before : List Marked) (m : Marked) (payload : List ℕ) → role m ≡ Continuation payload → m.broken ≡ None →
     GoesOn before m payload ⊎ (IsFoundStray before m payload × Waits before)

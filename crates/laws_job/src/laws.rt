@@ -18,10 +18,10 @@ pub fn accepted()
 
 /// States that over a plan that serves the description, the bytes of n slots, 2^40 at most, give back the units of each
 /// stream, with nothing wrong; each unit has left its transport buffer by its DTS, no buffer overflows, and PCRs and
-/// tables recur within their limits; and the units are those that were found on the stream's PID, their stamps moved by
-/// one constant, their marks and bytes the same. Of video with a multiplexing buffer neither this buffer nor the
-/// elementary stream buffer overflows, and each due unit is whole in the second by its DTS; of units of several access
-/// units the main buffer does not overflow where each is removed at its own time.
+/// tables recur within their limits; and the units are the units found on the stream's PID, their stamps moved by one
+/// constant, their marks and bytes the same. Video with a multiplexing buffer overflows neither this buffer nor the
+/// elementary stream buffer, and each due unit is whole in the second by its DTS. If a unit has several access units,
+/// each removed at its own time, the main buffer does not overflow.
 pub fn carried()
     ensures { CarriedLaw }
 {
@@ -42,11 +42,11 @@ pub fn declared()
     carried();
 }
 
-/// States that if the run ends no earlier than the DTS of each unit of a stream, what a demultiplexer finds in these
-/// bytes, with their end, are all these units and no other: on the stream's PID the units are those of the input, in
-/// order, their marks and bytes the same and their stamps later by one constant, modulo 2^33; where units of a data
-/// stream in a row have one DTS, all but the last are decoded a little earlier, and if no two have one DTS it is their
-/// own (`own`). If that constant is 0 they are the input's.
+/// States that if the run ends no earlier than the DTS of each unit of a stream, a demultiplexer finds all these units
+/// and no further unit in these bytes, with their end: on the stream's PID the units are the units of the input, in
+/// order, their marks and bytes the same and their stamps later by one constant, modulo 2^33. If units of a data stream
+/// in a row have one DTS, all but the last are decoded a little earlier; if no two units have one DTS, each keeps its
+/// own (`own`). If the constant is 0, they are the input's.
 pub fn found_again()
     ensures moved { FoundAgainLaw }
     ensures own { OwnAgainLaw }
@@ -87,20 +87,20 @@ pub fn tables_first()
     laws_run::laws::tables_first();
 }
 
-/// States that nothing that is found of a stream is left out in silence: each PES packet on its PID is padding_stream
-/// (ISO/IEC 13818-1, 2.4.3.7), or a part of a unit that is carried, or a line names its first packet or that of its
-/// unit; and a line names each counter that breaks, scrambled or stray packet, section, and PES packet that is cut or wrong
-/// (`found`). The warnings of a job have these lines of all its streams, and a line for each damaged packet and for
-/// each stream that is left out, except by an option (`lines`).
+/// States that nothing found of a stream is left out in silence: each PES packet on its PID is padding_stream (ISO/IEC
+/// 13818-1, 2.4.3.7), or a part of a unit that is carried, or a line names its first packet or the first packet of its
+/// unit; and a line names each counter that breaks, scrambled or stray packet, section, and PES packet that is cut or
+/// wrong (`found`). The warnings of a job have these lines of all its streams, and a line for each damaged packet and
+/// for each stream that is left out, except by an option (`lines`).
 pub fn nothing_is_silent()
     ensures found { NothingIsSilent }
     ensures lines { JobLinesLaw }
 {}
 
-/// States that what is found on a stream's PID comes out of the job, or a line says why not: if the run ends no earlier
-/// than the DTS of each unit of the stream, each PES packet on its PID is padding_stream, or its bytes are a part of a
-/// unit that a demultiplexer finds in the bytes of the job, or a line names its first packet or that of its unit
-/// (`alone`). The same is true of a job made of several inputs (`joined`).
+/// States that everything found on a stream's PID is in the output of the job, or a line says why not: if the run ends
+/// no earlier than the DTS of each unit of the stream, each PES packet on its PID is padding_stream, or its bytes are a
+/// part of a unit that a demultiplexer finds in the bytes of the job, or a line names its first packet or the first
+/// packet of its unit (`alone`). The same is true of a job made of several inputs (`joined`).
 pub fn found_or_named()
     ensures alone { FoundOrNamedLaw }
     ensures joined { JoinedOrNamedLaw }
@@ -110,10 +110,10 @@ pub fn found_or_named()
     nothing_is_silent();
 }
 
-/// States which payload of a PID's packets is found as stray, if it is not scrambled and begins nothing: what comes
-/// before the first beginning, after a loss or a section up to the next beginning, and after the bytes that a PES packet
-/// or a section has by its own length. All other payload goes on with what is open (`found`). If the counter breaks,
-/// the payload is stray (`lost`).
+/// States which payload of a PID's packets is found as stray, if it is not scrambled and begins nothing: payload before
+/// the first beginning, after a loss or a section up to the next beginning, and after the bytes that a PES packet or a
+/// section has by its own length. All other payload continues the open PES packet or section (`found`). If the counter
+/// breaks, the payload is stray (`lost`).
 pub fn stray_payload()
     ensures found { StrayPayloadLaw }
     ensures lost { LostPayloadLaw }

@@ -1,20 +1,13 @@
 //! The round trip of a job: of any stream, and multiplexed.
 //!
-//! What a demultiplexer finds in any stream, made a job and multiplexed, it finds again.
+//! A demultiplexer finds the units of any stream; a job made of them and multiplexed gives them back. Each function of
+//! [`laws`] is a law: it does nothing, and its contract states a fact about the definitions of `stream_jobs` (ISO/IEC
+//! 13818-1, 2.4.3), `mux_core` and `laws_run`.
 //!
-//! Each function here is a law: it does nothing, and its contract states a fact about the definitions.
-//! `stream_jobs` says what the units of a job made of any stream are (ISO/IEC 13818-1, 2.4.3), `mux_core`
-//! which units a multiplexer refuses and what it promises, `laws_run` has the findings of the bytes;
-//! here they are joined.
-//!
-//! Definitions are in `specs/`: `Laws` says what is accepted, carried and found again, `DeclaredBuffers`
-//! what is kept of the buffers that were chosen for the streams, `JoinedLaws` what is so of a job of
-//! several streams, `FirstUnits` when the first units are due and what comes before them, `LeftOut`,
-//! `JobLines` and `FoundOrNamed` where everything is that is found of a stream, `StrayPayload` which payload is
+//! Definitions in `specs/`: `Laws` has the units accepted, carried and found again, `DeclaredBuffers` the buffers kept,
+//! `JoinedLaws` jobs of several streams, `FirstUnits` when the first units are due and the tables before them;
+//! `LeftOut`, `JobLines` and `FoundOrNamed` account for everything found, and `StrayPayload` says which payload is
 //! stray.
-//!
-//! - [`laws`]: no unit of such a job is refused, its bytes give the units back, and these are the units of
-//!   the input or inputs; PAT and PMT precede them; nothing found of a stream is without a line.
 #![tactic(auto)]
 
 pub mod laws;

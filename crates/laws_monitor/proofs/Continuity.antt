@@ -10,11 +10,11 @@ use Rattle.ts_packet.specs.declared.packet.PacketError.{PacketError}
 use Rattle.ts_packet.specs.Views.{PacketView}
 use Rattle.ts_packet.specs.Reading.{packet_at}
 use Rattle.ts_packet.specs.PidList.{Entry, cut_packets, entry_of}
-use Rattle.demux.specs.Views.{FindingView, IsErrored}
-use Rattle.demux.specs.Marks.{LastView, break_at, mark, seen}
-use Rattle.demux.specs.Machine.{PidState, found_by, step, step_marked}
-use Rattle.demux.specs.Shown.{with_pid}
-use Rattle.demux.specs.Findings.{ended}
+use Rattle.pid_findings.specs.Views.{FindingView, IsErrored}
+use Rattle.pid_findings.specs.Marks.{LastView, break_at, mark, seen}
+use Rattle.pid_findings.specs.Machine.{PidState, found_by, step, step_marked}
+use Rattle.pid_findings.specs.Shown.{with_pid}
+use Rattle.pid_findings.specs.Findings.{ended}
 use Rattle.demux.specs.Stream.{States, StreamState, ended_found, findings_by, finished, found_in, next_packet, start, state_of, states_by, taken, with_state}
 use Rattle.demux.specs.Stream.{without_pid}
 use Rattle.demux.specs.FoundSoFar.{found_in_all, taken_all}

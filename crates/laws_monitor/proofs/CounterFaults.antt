@@ -6,7 +6,7 @@ use Rattle.std.specs.Str.{bytes_eq}
 use Rattle.std.specs.List.{Contains}
 use Rattle.std.proofs.lemmas.Bool.Decides.{nat_tests}
 use Rattle.ts_packet.specs.PidList.{Entry, pid_list}
-use Rattle.demux.specs.Marks.{LastView, Marked, break_after, break_at, content, following, is_discontinuity, is_repeat, mark, marked, repeats, seen}
+use Rattle.pid_findings.specs.Marks.{LastView, Marked, break_after, break_at, content, following, is_discontinuity, is_repeat, mark, marked, repeats, seen}
 use Rattle.monitor.specs.declared.fault.StreamFault.{StreamFault}
 use Rattle.monitor.specs.declared.fault.Rule.TheVariants as rules
 use Rattle.monitor.specs.InOrder.{rule_number}

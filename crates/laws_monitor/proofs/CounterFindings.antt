@@ -10,18 +10,20 @@ use Rattle.pes_packet.specs.Reading.{header_at}
 use Rattle.pes_packet.specs.declared.reading.PesHeader.{PesHeader}
 use Rattle.pes_packet.specs.declared.refusal.PesError.{PesError}
 use Rattle.pes_packet.specs.declared.refusal.PesError.TheVariants as pes_errors
-use Rattle.demux.specs.Views.{Found, WhatView, IsDuplicate, IsScrambled, IsTruncated, IsSection, IsBadSection, IsPes, IsBadPes, IsStray}
-use Rattle.demux.specs.Marks.{LastView, Marked, break_at, is_repeat, mark}
+use Rattle.pid_findings.specs.Views.{Found, WhatView, IsDuplicate, IsScrambled, IsTruncated, IsSection, IsBadSection, IsPes, IsBadPes, IsStray}
+use Rattle.pid_findings.specs.Marks.{LastView, Marked, break_at, is_repeat, mark}
 use Rattle.ts_packet.specs.PidList.{Entry}
-use Rattle.demux.specs.Roles.{Role, NoPayload, ScrambledPayload, PesStart, SectionStart, PointerPastEnd, Continuation, role}
-use Rattle.demux.specs.OpenUnits.{OpenUnit, about_within, appended, decided, max_unbounded_pes, of_header, of_pes, of_section, plain, section, sections_in}
-use Rattle.demux.specs.OpenUnits.{taken_by}
-use Rattle.demux.specs.declared.open_unit.UnitKind.{UnitKind}
-use Rattle.demux.specs.declared.open_unit.UnitKind.TheVariants as unit_kinds
-use Rattle.demux.specs.Findings.{by_break, by_role, cut_short, decided_within, end_of, ended, found_appended, found_at, found_if, found_or_cut, found_within}
-use Rattle.demux.specs.Findings.{last_bytes, last_bytes_by}
-use Rattle.demux.specs.Machine.{PidState, found_by}
-use Rattle.demux.specs.Shown.{with_pid}
+use Rattle.pid_findings.specs.Roles.{Role, NoPayload, ScrambledPayload, PesStart, SectionStart, PointerPastEnd, Continuation, role}
+use Rattle.pid_findings.specs.OpenUnits.{OpenUnit, about_within, appended, decided, max_unbounded_pes, of_header, of_pes, of_section, plain, section}
+use Rattle.pid_findings.specs.OpenUnits.{sections_in}
+use Rattle.pid_findings.specs.OpenUnits.{taken_by}
+use Rattle.pid_findings.specs.declared.open_unit.UnitKind.{UnitKind}
+use Rattle.pid_findings.specs.declared.open_unit.UnitKind.TheVariants as unit_kinds
+use Rattle.pid_findings.specs.Findings.{by_break, by_role, cut_short, decided_within, end_of, ended, found_appended, found_at, found_if, found_or_cut}
+use Rattle.pid_findings.specs.Findings.{found_within}
+use Rattle.pid_findings.specs.Findings.{last_bytes, last_bytes_by, past_end}
+use Rattle.pid_findings.specs.Machine.{PidState, found_by}
+use Rattle.pid_findings.specs.Shown.{with_pid}
 use Rattle.monitor.specs.declared.fault.StreamFault.{StreamFault}
 use Rattle.monitor.specs.declared.fault.Rule.TheVariants as rules
 use Rattle.monitor.specs.InOrder.{rule_number}
@@ -137,15 +139,20 @@ unfolding ended
 ended_quiet unended None = tt
 ended_quiet unended (Some unit) = (end_quiet unended unit.bytes unit.kind (header_at unit.bytes), tt)
 
+stray_quiet : (n : ℕ) (none : Bool) → all_quiet (cond none [] (plain (IsStray n) ∷ []))
+unfolding finding_rule failing
+stray_quiet n true = tt
+stray_quiet n false = (λ pid packet. refl, tt)
+
 if_quiet : (unit : OpenUnit) (what : Option WhatView) → quiet_if what → all_quiet (found_if unit what)
 unfolding found_if
 if_quiet unit None h = tt
-if_quiet unit (Some what) h = (h, tt)
+if_quiet unit (Some what) h = let n = past_end (length unit.bytes) what in (h, stray_quiet n (n == 0))
 
 within_quiet : (unit : OpenUnit) (what : Option WhatView) → quiet_if what → all_quiet (found_within unit what)
 unfolding found_within
 within_quiet unit None h = tt
-within_quiet unit (Some what) h = (h, tt)
+within_quiet unit (Some what) h = let n = past_end (length unit.bytes) what in (h, stray_quiet n (n == 0))
 
 or_cut_quiet : (unit : OpenUnit) (what : Option WhatView) → quiet_if what → all_quiet (found_or_cut unit what)
 unfolding found_or_cut
@@ -161,11 +168,6 @@ last_quiet bytes (Some unit) = by unit.kind
     by unit_kinds.Pes = ended_quiet false (Some unit)
     by unit_kinds.Section =
         or_cut_quiet (appended unit bytes) (decided unit_kinds.Section (unit.bytes ++ bytes)) (decided_quiet unit_kinds.Section (unit.bytes ++ bytes))
-
-stray_quiet : (n : ℕ) (none : Bool) → all_quiet (cond none [] (plain (IsStray n) ∷ []))
-unfolding finding_rule failing
-stray_quiet n true = tt
-stray_quiet n false = (λ pid packet. refl, tt)
 
 appended_quiet : (payload : List ℕ) (held : Option OpenUnit) → all_quiet (found_appended payload held)
 unfolding found_appended

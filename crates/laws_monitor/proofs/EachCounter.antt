@@ -3,7 +3,7 @@ use Rattle.std.proofs.Common.{◌≡◌, ◌∙◌, ℕ, ◌==◌, Bool, true, f
 use Rattle.std.proofs.Common.{refl, ap}
 use Rattle.std.specs.Prelude.{◌&&◌, is_some, not, option_map}
 use Rattle.ts_packet.specs.PidList.{Entry, entries_of, is_of_pid, pid_list}
-use Rattle.demux.specs.Marks.{LastView, Marked, break_at, mark, marked, seen}
+use Rattle.pid_findings.specs.Marks.{LastView, Marked, break_at, mark, marked, seen}
 use Rattle.tr101290.specs.Continuity.{Lasts, after, before_if, breaks, error_at, error_of, errors_from, last_of}
 use Rattle.tr101290.specs.declared.continuity.ContinuityError.{ContinuityError}
 use Rattle.tr101290.proofs.Continuities.{continuity_law}

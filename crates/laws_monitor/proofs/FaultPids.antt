@@ -9,8 +9,9 @@ use Rattle.ts_packet.specs.declared.packet.PacketError.TheVariants as refusals
 use Rattle.ts_packet.specs.Views.{PacketView}
 use Rattle.ts_packet.specs.Reading.{packet_at}
 use Rattle.ts_packet.specs.PidList.{cut_packets}
-use Rattle.demux.specs.Views.{PidFinding, WhatView, IsDuplicate, BreaksCounter, IsScrambled, IsTruncated, IsSection, IsBadSection, IsPes, IsBadPes, IsBadPacket}
-use Rattle.demux.specs.Views.{IsErrored, IsStray}
+use Rattle.pid_findings.specs.Views.{PidFinding, WhatView, IsDuplicate, BreaksCounter, IsScrambled, IsTruncated, IsSection, IsBadSection, IsPes, IsBadPes}
+use Rattle.pid_findings.specs.Views.{IsBadPacket}
+use Rattle.pid_findings.specs.Views.{IsErrored, IsStray}
 use Rattle.monitor.specs.declared.fault.StreamFault.{StreamFault}
 use Rattle.monitor.specs.declared.fault.Rule.{Rule}
 use Rattle.monitor.specs.declared.fault.Rule.TheVariants as rules

@@ -14,18 +14,19 @@ use Rattle.events.specs.declared.rule_event.BufferKind.{BufferKind}
 use Rattle.events.specs.declared.rule_event.BufferKind.TheVariants as buffers
 use Rattle.events.specs.declared.rule_event.RuleEvent.TheVariants as rule_events
 use Rattle.events.specs.declared.rule_event.ScrambledPacket.{ScrambledPacket}
-use Rattle.es_view.specs.declared.entry_events.Place.{Place}
-use Rattle.es_view.specs.declared.tally.Tally.{Tally}
-use Rattle.es_view.specs.declared.video_figures.VideoFigures.{VideoFigures}
-use Rattle.es_view.specs.declared.video_tally.VideoTally.{VideoTally}
-use Rattle.es_view.specs.declared.view_options.ViewOptions.{ViewOptions}
-use Rattle.es_view.specs.EntryEvents.{closing_events, excess_event, excess_events, late_events, main_event, main_excess_event, main_excess_events, main_figures}
-use Rattle.es_view.specs.EntryEvents.{transport_total, under_way_events, with_size}
-use Rattle.es_view.specs.VideoEvents.{elementary_event, multiplexing_event, video_closing_events, video_under_way}
-use Rattle.es_view.specs.VideoFigures.{figures_of}
+use Rattle.es_events.specs.declared.entry_events.Place.{Place}
+use Rattle.es_events.specs.declared.tally.Tally.{Tally}
+use Rattle.es_events.specs.declared.video_figures.VideoFigures.{VideoFigures}
+use Rattle.es_events.specs.declared.video_tally.VideoTally.{VideoTally}
+use Rattle.es_events.specs.declared.view_options.ViewOptions.{ViewOptions}
+use Rattle.es_events.specs.EntryEvents.{closing_events, excess_event, excess_events, late_events, main_event, main_excess_event, main_excess_events}
+use Rattle.es_events.specs.EntryEvents.{main_figures}
+use Rattle.es_events.specs.EntryEvents.{transport_total, under_way_events, with_size}
+use Rattle.es_events.specs.VideoEvents.{elementary_event, multiplexing_event, video_closing_events, video_under_way}
+use Rattle.es_events.specs.VideoFigures.{figures_of}
 use Rattle.es_view.specs.HeldEvents.{tally_events}
-use Rattle.es_view.specs.MarkTallies.{mark_events}
-use Rattle.es_view.specs.EntryStays.{busy_closing}
+use Rattle.es_events.specs.MarkTallies.{mark_events}
+use Rattle.es_events.specs.EntryStays.{busy_closing}
 use Rattle.es_view.specs.EntryFrames.{leak_under_way}
 use Rattle.es_view.specs.Entries.{EntryState, closed_seen, place_at, seen_held, stays_closing}
 use Rattle.es_view.specs.Entries as entry_views

@@ -33,18 +33,18 @@ use Rattle.events.specs.declared.event.Event.{Event}
 use Rattle.events.specs.declared.event.ProgramExcess.{ProgramExcess}
 use Rattle.events.specs.declared.rule_event.BufferKind.{BufferKind}
 use Rattle.events.specs.declared.rule_event.BufferKind.TheVariants as buffers
-use Rattle.es_view.specs.declared.entry_events.Place.{Place}
-use Rattle.es_view.specs.declared.tally.Tally.{Tally}
-use Rattle.es_view.specs.declared.video_figures.VideoLimits.{VideoLimits}
-use Rattle.es_view.specs.declared.view_options.ViewOptions.{ViewOptions}
-use Rattle.es_view.specs.Clocks.{ClockEntries, clock_of}
-use Rattle.es_view.specs.Tallies.{is_late}
-use Rattle.es_view.specs.EntryEvents.{ahead_events, ended_events, excess_event, late_event, late_events, main_excess_event, with_size}
-use Rattle.es_view.specs.VideoEvents.{elementary_excess_event, elementary_late_events, events_of_both, late_events_by}
-use Rattle.es_view.specs.VideoEvents.{multiplexing_excess_event, video_ended_events}
-use Rattle.es_view.specs.VideoFigures.{limits_of}
+use Rattle.es_events.specs.declared.entry_events.Place.{Place}
+use Rattle.es_events.specs.declared.tally.Tally.{Tally}
+use Rattle.es_events.specs.declared.video_tally.VideoLimits.{VideoLimits}
+use Rattle.es_events.specs.declared.view_options.ViewOptions.{ViewOptions}
+use Rattle.es_events.specs.Clocks.{ClockEntries, clock_of}
+use Rattle.es_events.specs.Tallies.{is_late}
+use Rattle.es_events.specs.EntryEvents.{ahead_events, ended_events, excess_event, late_event, late_events, main_excess_event, with_size}
+use Rattle.es_events.specs.VideoEvents.{elementary_excess_event, elementary_late_events, events_of_both, late_events_by}
+use Rattle.es_events.specs.VideoEvents.{multiplexing_excess_event, video_ended_events}
+use Rattle.es_events.specs.VideoFigures.{limits_of}
 use Rattle.es_view.specs.HeldEvents.{held_event, tally_events, unit_event}
-use Rattle.es_view.specs.EntryStays.{busy_ended, busy_event, delayed_events, overstay_of}
+use Rattle.es_events.specs.EntryStays.{busy_ended, busy_event, delayed_events, overstay_of}
 use Rattle.es_view.specs.EntryFrames.{FramedPayload, busy_seen, count_of, frame_events, frames_among, frames_events, front_events, front_held, leak_busy_of}
 use Rattle.es_view.specs.EntryFrames.{leak_ended}
 use Rattle.es_view.specs.EntryFrames.{part_of, payload_events, place_of, stays_ended, whole_events, frame_tick}

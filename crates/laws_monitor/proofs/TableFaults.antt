@@ -7,8 +7,8 @@ use Rattle.std.specs.List.{Contains}
 use Rattle.std.specs.Map.{lookup}
 use Rattle.std.proofs.lemmas.Bool.Decides.{nat_tests}
 use Rattle.ts_packet.specs.PidList.{pid_list}
-use Rattle.demux.specs.Views.{PidFinding}
-use Rattle.demux.specs.Findings.{divider, ended, findings_after, findings_to_end, open_after, stretch}
+use Rattle.pid_findings.specs.Views.{PidFinding}
+use Rattle.pid_findings.specs.Findings.{divider, ended, findings_after, findings_to_end, open_after, stretch}
 use Rattle.monitor.specs.declared.fault.StreamFault.{StreamFault}
 use Rattle.monitor.specs.declared.fault.Rule.{Rule}
 use Rattle.monitor.specs.declared.fault.Rule.TheVariants as rules

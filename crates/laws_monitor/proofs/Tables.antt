@@ -7,10 +7,10 @@ use Rattle.std.specs.Option.{option_to_list}
 use Rattle.std.proofs.lemmas.Bool.Decides.{nat_tests}
 use Rattle.std.proofs.lemmas.Grind.{common_steps}
 use Rattle.std.proofs.lemmas.List.{map-append}
-use Rattle.demux.specs.Views.{PidFinding, WhatView}
+use Rattle.pid_findings.specs.Views.{PidFinding, WhatView}
 use Rattle.demux.specs.Laws.{with_pid_at}
-use Rattle.demux.specs.declared.finding.Kind.{Kind}
-use Rattle.demux.specs.declared.finding.Kind.TheVariants.{Table, Pes}
+use Rattle.pid_findings.specs.declared.finding.Kind.{Kind}
+use Rattle.pid_findings.specs.declared.finding.Kind.TheVariants.{Table, Pes}
 use Rattle.tr101290.specs.Intervals.{IntervalState, before_in, error_at, error_if, key_of, no_section, part_before, places_after, places_at, section_key, taken}
 use Rattle.tr101290.specs.Intervals.{time_between, time_of_packets}
 use Rattle.tr101290.specs.Limits.{limit_of, milliseconds}

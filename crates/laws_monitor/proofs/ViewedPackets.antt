@@ -8,7 +8,7 @@ use Rattle.std.proofs.lemmas.List.Elements.{filter-append, filter_map-append}
 use Rattle.ts_packet.specs.declared.packet.PacketError.{PacketError}
 use Rattle.ts_packet.specs.declared.packet.PacketError.TheVariants as refusals
 use Rattle.ts_packet.specs.Views.{PacketView}
-use Rattle.demux.specs.Views.{FindingView}
+use Rattle.pid_findings.specs.Views.{FindingView}
 use Rattle.arrival.specs.declared.arrival.Arrival.{Arrival}
 use Rattle.tr101290.specs.Continuity.{error_at}
 use Rattle.tr101290.specs.Distances.{DistanceState}
@@ -34,7 +34,7 @@ use Rattle.events.specs.declared.event.Event.{Event}
 use Rattle.events.specs.declared.event.Event.TheVariants as found
 use Rattle.events.specs.declared.rule_event.RuleEvent.TheVariants as rule_events
 use Rattle.events.specs.declared.packet_fault.RefusalCause.TheVariants as causes
-use Rattle.es_view.specs.declared.view_options.ViewOptions.{ViewOptions}
+use Rattle.es_events.specs.declared.view_options.ViewOptions.{ViewOptions}
 use Rattle.ts_tables.specs.NamedStreams.{NamedView}
 use Rattle.ts_watch.specs.ClockEvents.{error_event, error_events, inaccuracy_events, report_events_if, variable_events}
 use Rattle.ts_watch.specs.declared.clock_events.ClockRule.TheVariants as clock_rules

@@ -4,7 +4,7 @@
 -- that repeats the one before it, one with discontinuity_indicator 1, or one without payload that keeps the counter (ISO/IEC 13818-1, 2.4.3.3).
 use Rattle.std.specs.Prelude.{◌≡◌, ℕ, ◌/◌, ◌-◌, ◌^◌, ◌<◌, ◌==◌, not, is_some, if◌then◌else◌, Bool, List, [], length, map, filter, Some, None}
 use Rattle.ts_packet.specs.PidList.{Entry, entries_of, pid_list}
-use Rattle.demux.specs.Marks.{Marked, marked}
+use Rattle.pid_findings.specs.Marks.{Marked, marked}
 use Rattle.tr101290.specs.Continuity.{errors_from}
 use Rattle.tr101290.specs.declared.continuity.ContinuityError.{ContinuityError}
 use Rattle.monitor.specs.declared.fault.StreamFault.{StreamFault}

@@ -4,12 +4,12 @@ use Rattle.std.specs.Prelude.{◌≡◌, ◌↔◌, ℕ, ◌/◌, ◌-◌, ◌^�
 use Rattle.std.specs.Str.{bytes_eq}
 use Rattle.std.specs.List.{Contains}
 use Rattle.ts_packet.specs.PidList.{Entry, pid_list}
-use Rattle.demux.specs.Marks.{content, following, is_discontinuity}
+use Rattle.pid_findings.specs.Marks.{content, following, is_discontinuity}
 use Rattle.monitor.specs.declared.fault.Rule.TheVariants as rules
 use Rattle.monitor.specs.ReportOf.{stream_report}
 use Rattle.monitor.specs.Rules.{fault}
 
--- a packet has all bytes of the last one except those of a clock reference, and both have a payload
+-- whether a packet has all bytes of the last packet except the clock reference's, and both have a payload
 abbrev pub is_copy : Entry → Entry → Bool
 is_copy last entry = is_some last.packet.payload && is_some entry.packet.payload
     && (entry.packet.header.continuity_counter == last.packet.header.continuity_counter) && bytes_eq (content entry) (content last)
@@ -19,13 +19,13 @@ unfoldable pub is_second : List Entry → Entry → Bool
 is_second [] entry = false
 is_second (last ∷ before) entry = not (is_second before last) && is_copy last entry
 
--- the counter is neither that which follows the last one, nor that of a second copy, and no discontinuity is signalled
+-- whether the counter neither follows the last counter nor belongs to a second copy, and no discontinuity is signalled
 unfoldable pub breaks_after : List Entry → Entry → Bool
 breaks_after [] entry = false
 breaks_after (last ∷ before) entry = not (is_second (last ∷ before) entry) && (not (is_discontinuity entry.packet.adaptation)
     && not (entry.packet.header.continuity_counter == following last.packet.header.continuity_counter (is_some entry.packet.payload)))
 
--- packets with the last one first, in their order, and then others
+-- packets, given with the last one first, in their order, before `rest`
 unfoldable pub turned : List Entry → List Entry → List Entry
 turned [] rest = rest
 turned (last ∷ before) rest = turned before (last ∷ rest)
@@ -39,7 +39,7 @@ pub record BreaksAt (packet : ℕ) (all : List Entry) : Type 0 where
   pub here : entry.index ≡ packet
   pub breaks : breaks_after before entry ≡ true
 
--- by rule 4 the report names a packet of a PID, not that of null packets, if and only if the counter breaks at it
+-- by rule 4 the report names a packet of a PID, other than the PID of null packets, if and only if the counter breaks at it
 abbrev pub CounterFaultLaw : Type 0
 CounterFaultLaw = (rate given pid packet : ℕ) (bytes : List ℕ) → length bytes / 188 < 2 ^ 64 - 1 → (pid == 8191) ≡ false →
     Contains (stream_report rate given bytes).faults (fault rules.Counter (Some pid) packet) ↔ BreaksAt packet (pid_list pid bytes)

@@ -7,7 +7,7 @@ use Rattle.monitor.specs.declared.fault.Rule.TheVariants as rules
 use Rattle.monitor.specs.ReportOf.{stream_report}
 use Rattle.laws_monitor.specs.FaultsByRule.{is_pid}
 
--- a fault has no PID, that of its table, or any
+-- whether a fault has no PID, the PID of its table, or any PID, as its rule asks
 unfoldable pub has_its_pid : Rule → Option ℕ → Bool
 has_its_pid rules.Sync pid = not (is_some pid)
 has_its_pid rules.Packet pid = not (is_some pid)
@@ -25,6 +25,6 @@ has_its_pid rules.Pcr pid = is_some pid
 has_its_pid rules.Pts pid = is_some pid
 has_its_pid rules.Cut pid = not (is_some pid)
 
--- so the laws of each rule, which name a PID, say all of a report
+-- so the laws of each rule, which name a PID, cover all of a report
 abbrev pub PidLaw : Type 0
 PidLaw = (rate given : ℕ) (bytes : List ℕ) (f : StreamFault) → Contains (stream_report rate given bytes).faults f → has_its_pid f.rule f.pid ≡ true

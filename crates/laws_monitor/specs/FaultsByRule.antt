@@ -15,7 +15,7 @@ faults_by rule faults = filter (is_by (rule_number rule)) faults
 abbrev pub monitored : Rule → ℕ → ℕ → List ℕ → List StreamFault
 monitored rule rate limit bytes = faults_by rule (stream_report rate limit bytes).faults
 
--- and of them those of a PID
+-- the faults of a PID
 unfoldable pub is_pid : ℕ → Option ℕ → Bool
 is_pid pid None = false
 is_pid pid (Some q) = q == pid

@@ -1,6 +1,6 @@
 -- Faults that packets have by themselves (ETSI TR 101 290, 5.2.1, indicator 1.2, and 5.2.2, indicator 2.1), by their bytes.
 --
--- Each law is an equation of lists: it says at which packets a fault is reported, that none is reported elsewhere, in which order and how many.
+-- Each law is an equation of lists: it gives the packets at which a fault is reported, their order and number, and so that no other is reported.
 use Rattle.std.specs.Prelude.{◌≡◌, ℕ, ◌/◌, ◌%◌, ◌==◌, ◌&&◌, not, is_ok, if◌then◌else◌, Bool, List, [], ◌∷◌, length, map, filter, slice_index, None}
 use Rattle.std.specs.List.{enumerate_from}
 use Rattle.ts_packet.specs.Reading.{packet_at}
@@ -27,7 +27,7 @@ has_sync_byte_error packet = not (slice_index packet 0 == 0x47)
 abbrev pub is_readable : List ℕ → Bool
 is_readable packet = is_ok (packet_at packet)
 
--- rule 2, which is none of ETSI TR 101 290: sync_byte is 0x47, and the packet can't be read
+-- rule 2, which ETSI TR 101 290 does not have: sync_byte is 0x47, and the packet can't be read
 abbrev pub is_unreadable : List ℕ → Bool
 is_unreadable packet = (slice_index packet 0 == 0x47) && not (is_readable packet)
 
@@ -35,7 +35,7 @@ is_unreadable packet = (slice_index packet 0 == 0x47) && not (is_readable packet
 abbrev pub has_transport_error : List ℕ → Bool
 has_transport_error packet = is_readable packet && (slice_index packet 1 / 128 % 2 == 1)
 
--- rule 15, which is none of ETSI TR 101 290: at the end, if bytes are left after the last whole packet
+-- rule 15, which ETSI TR 101 290 does not have: at the end, if bytes remain after the last whole packet
 abbrev pub EndLaw : Type 0
 EndLaw = (rate limit : ℕ) (bytes : List ℕ) →
     monitored rules.Cut rate limit bytes ≡ (if length bytes % 188 == 0 then [] else fault rules.Cut None (length bytes / 188) ∷ [])

@@ -26,7 +26,7 @@ abbrev pub ReferenceLaw : Type 0
 ReferenceLaw = (rate limit pid packet : ℕ) (bytes : List ℕ) →
     Contains (stream_report rate limit bytes).faults (fault rules.Pcr (Some pid) packet) ↔ ComesLate rate limit (references pid bytes) packet
 
--- and it names these in their order, each once
+-- the report names these packets in order, each once
 abbrev pub ReferencesInOrder : Type 0
 ReferencesInOrder = (rate limit pid : ℕ) (bytes : List ℕ) →
     monitored_on pid rules.Pcr rate limit bytes ≡ map (fault rules.Pcr (Some pid)) (late rate limit (references pid bytes))

@@ -1,10 +1,10 @@
 -- Tables and time stamps that come too late (ETSI TR 101 290, 5.2.1: 1.3.a and 1.5.a; 5.2.2: 2.5; 5.2.3: 3.1.a, 3.5.a, 3.6.a and 3.8), and sections
 -- that are refused (5.2.2: 2.2).
 --
--- Each law says that the report names a packet by a rule if and only if something is true of the stream. The limits are those of the standard.
+-- Each law says that the report names a packet by a rule if and only if something is true of the stream. The limits are the standard's.
 use Rattle.std.specs.Prelude.{◌≡◌, ◌↔◌, ℕ, ◌-◌, ◌*◌, ◌/◌, ◌<◌, nat_lt, List, [], ◌∷◌, ◌++◌, length, map, filter, Some}
 use Rattle.std.specs.List.{Contains}
-use Rattle.demux.specs.Views.{PidFinding}
+use Rattle.pid_findings.specs.Views.{PidFinding}
 use Rattle.tr101290.specs.Intervals.{no_section}
 use Rattle.tr101290.specs.declared.intervals.TableTiming.TheVariants.{ConstantRate}
 use Rattle.monitor.specs.declared.fault.Rule.{Rule}
@@ -22,7 +22,7 @@ use Rattle.laws_monitor.specs.Limits.{Limit, pat_limit, pmt_limit, pts_limit}
 abbrev pub IsReported : ℕ → ℕ → List ℕ → Rule → ℕ → ℕ → Type 0
 IsReported rate given bytes rule pid packet = Contains (stream_report rate given bytes).faults (fault rule (Some pid) packet)
 
--- a packet is the next of these after one from which more time passes than a limit in milliseconds: a packet lasts 1,504,000 / R at R bits a second
+-- a packet follows another of these packets after more time than a limit in milliseconds: a packet lasts 1,504,000 / R ms at R bits a second
 pub record IsTooLate (rate limit : ℕ) (places : List ℕ) (packet : ℕ) : Type 0 where
   pub before : ℕ
   pub next : Contains (successive places) (before, packet)
@@ -33,7 +33,7 @@ abbrev pub TableFaultLaw : Limit → ℕ → ℕ → Type 0
 TableFaultLaw limit pid table_id = (rate given packet : ℕ) (bytes : List ℕ) →
     IsReported rate given bytes limit.rule pid packet ↔ IsTooLate rate limit.standard (table_begins table_id (found_on pid bytes)) packet
 
--- so of a table without parts that have to come again by themselves the report names the errors that `tr101290` finds
+-- for a table without parts that recur by themselves the report names the errors that `tr101290` finds
 abbrev pub TableErrorLaw : Limit → ℕ → ℕ → Type 0
 TableErrorLaw limit pid table_id = (rate given : ℕ) (bytes : List ℕ) → 0 < rate → monitored limit.rule rate given bytes ≡ in_order
     (map (λ e. fault limit.rule (Some pid) e.section.packet) (errors_from (no_section (ConstantRate rate)) (sections_of pid table_id (found_on pid bytes))))
@@ -43,7 +43,7 @@ abbrev pub PatFaultLaw : Type 0
 PatFaultLaw = (rate given packet : ℕ) (bytes : List ℕ) → IsReported rate given bytes pat_limit.rule 0x00 packet
     ↔ IsTooLate rate pat_limit.standard (0 ∷ table_begins 0x00 (found_on 0 bytes) ++ (length bytes / 188) ∷ []) packet
 
--- 1.5.a: a PAT names the PID from a packet on; that packet, those after it at which a section of table_id 0x02 begins on the PID, and the end
+-- 1.5.a: a PAT names the PID from a packet on; the places are that packet, later packets where a section of table_id 0x02 begins, and the end
 pub record IsLateMap (rate limit pid : ℕ) (bytes : List ℕ) (packet : ℕ) : Type 0 where
   pub since : ℕ
   pub named : named_since pid bytes ≡ Some since

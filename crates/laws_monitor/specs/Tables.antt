@@ -4,7 +4,7 @@
 use Rattle.std.specs.Prelude.{◌≡◌, ℕ, ◌*◌, ◌<◌, ◌==◌, nat_lt, false, List, [], ◌∷◌, ◌++◌, map, filter, Some}
 use Rattle.std.specs.List.{filter_map}
 use Rattle.std.specs.Option.{option_to_list}
-use Rattle.demux.specs.Views.{PidFinding}
+use Rattle.pid_findings.specs.Views.{PidFinding}
 use Rattle.demux.specs.Laws.{with_pid_at}
 use Rattle.tr101290.specs.Intervals.{IntervalState, error_at, no_section, taken, time_of_packets}
 use Rattle.tr101290.specs.Limits.{milliseconds}
@@ -16,7 +16,7 @@ use Rattle.tr101290.specs.declared.intervals.TableTiming.TheVariants.{ConstantRa
 use Rattle.monitor.specs.Begins.{table_begins}
 use Rattle.monitor.specs.Gaps.{is_long, late}
 
--- whatever the limit, one is over it exactly where the other is
+-- whatever the limit, a gap is over it by one reckoning exactly if it is by the other
 abbrev pub GapLaw : Type 0
 GapLaw = (rate limit gap : ℕ) → 0 < rate → nat_lt (limit * 27000) (time_of_packets rate gap) ≡ is_long (limit * rate) gap
 
@@ -25,12 +25,12 @@ unfoldable pub errors_from : IntervalState → List SectionBegin → List TableE
 errors_from s [] = []
 errors_from s (section ∷ sections) = option_to_list (error_at s section) ++ errors_from (taken s section) sections
 
--- the sections of a table that begin on a PID, by what is found on it
+-- the sections of a table that begin on a PID, by the findings on it
 abbrev pub sections_of : ℕ → ℕ → List PidFinding → List SectionBegin
 sections_of pid table_id found = filter (λ s. s.table_id == table_id) (filter_map (λ at. section_begin (with_pid_at pid at)) found)
 
--- so of what is found on a PID the sections of a table that are late for the monitor are those that are late for `tsview`, if the table has no
--- parts that have to come again by themselves
+-- the sections of a table that are late for the monitor are exactly the sections that are late for `tsview`, if the table has no parts that recur
+-- by themselves
 abbrev pub TableLaw : Type 0
 TableLaw = (rate limit pid table_id : ℕ) (found : List PidFinding) → 0 < rate → milliseconds pid table_id ≡ Some limit → has_parts pid table_id ≡ false →
     late rate limit (table_begins table_id found) ≡ map (λ e. e.section.packet) (errors_from (no_section (ConstantRate rate)) (sections_of pid table_id found))

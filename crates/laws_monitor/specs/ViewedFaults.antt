@@ -27,7 +27,7 @@ table_rule pid table_id =
     else (if (pid == 0x11) && (table_id == 0x42) then Some rules.Sdt
     else (if (pid == 0x14) && (table_id == 0x70) then Some rules.Tdt else None))
 
--- an event of which the monitor has a rule
+-- the fault for an event, if the monitor has a rule for it
 unfoldable pub fault_in : Event → Option StreamFault
 fault_in (found.Refused r) = Some (fault (cause_rule r.cause) None r.packet)
 fault_in (found.Continuity c) = Some (fault rules.Counter (Some c.pid) c.packet)
@@ -36,11 +36,11 @@ fault_in (found.PcrRepetition c) = Some (fault rules.Pcr (Some c.pid) c.packet)
 fault_in (found.TableRepetition t) = option_map (λ rule. fault rule (Some t.pid) t.packet) (table_rule t.pid t.table)
 fault_in event = None
 
--- the events of packets, also of those that wait until it is known when they arrive, and then of the end of the stream
+-- the events of packets, also of packets that wait until their arrival is known, and then the events of the end of the stream
 abbrev pub events_to_end : ClockedState → List (List ℕ) → ℕ → List Event
 events_to_end s packets left = events_all s packets ++ end_events (after_all s packets) left
 
--- of a report on a whole stream
+-- the faults for the events of a report on a whole stream
 abbrev pub viewed_faults : RequestView → List ℕ → List StreamFault
 viewed_faults request bytes = filter_map fault_in (events_to_end (start request) (cut_packets bytes) (length bytes % 188))
 

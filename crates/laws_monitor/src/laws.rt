@@ -11,15 +11,16 @@ ghost use Rattle.laws_monitor.specs.SharedRules.{IsShared, PcrLaw};
 ghost use Rattle.laws_monitor.specs.TableFaults.{FindingFaultLaw, MapFaultLaw, PatFaultLaw, StampFaultLaw, TableErrorLaw, TableFaultLaw};
 ghost use Rattle.laws_monitor.specs.Tables.{GapLaw, TableLaw};
 
-/// States that each fault of a report has the PID of its rule: none by rules 1 to 3 and 15, PID of the table by rules 7
-/// and 9 to 12, some PID by the others. So the laws of each rule say all of a report.
+/// States that each fault of a report has the PID of its rule: no PID by rules 1 to 3 and 15, the PID of the table by
+/// rules 7 and 9 to 12, some PID by each further rule. So the laws of the rules describe a whole report.
 pub fn pids()
     ensures { PidLaw }
 {}
 
-/// States at which packets the monitor reports the faults that packets have by themselves, and that it reports no other:
-/// those that do not begin with 0x47 (5.2.1, 1.2), those that begin so and can't be read, those that can be read and
-/// have transport_error_indicator 1 (5.2.2, 2.1), and the end, if bytes are left after the last whole packet.
+/// States at which packets the monitor reports the faults of single packets, and that it reports no further packet:
+/// packets that do not begin with 0x47 (5.2.1, 1.2), packets that begin with 0x47 and can't be read, packets that can
+/// be read and have transport_error_indicator 1 (5.2.2, 2.1), and the end, if bytes are left after the last whole
+/// packet.
 pub fn packets()
     ensures sync { NamesPackets rules.Sync has_sync_byte_error }
     ensures packet { NamesPackets rules.Packet is_unreadable }
@@ -77,8 +78,8 @@ pub fn late_stamps()
     ensures { StampFaultLaw }
 {}
 
-/// States that a gap of packets is too long for both or for neither, whatever the limit, and that of what is found on a
-/// PID the same sections of a table begin late for both, if the table has no parts that have to come again by
+/// States that a gap of packets is too long for both programs or for neither, whatever the limit, and that among the
+/// findings on a PID the same sections of a table begin late for both, if the table has no parts that have to recur by
 /// themselves (5.2.1, 1.3; 5.2.3, 3.1, 3.5 and 3.8). The monitor reports these errors of NIT, SDT and TDT.
 pub fn tables()
     ensures gaps { GapLaw }
@@ -88,7 +89,7 @@ pub fn tables()
     ensures tdt { TableErrorLaw tdt_limit 0x14 0x70 }
 {}
 
-/// States that the limits of both are those of one table.
+/// States that the limits of both programs are the limits of one table.
 pub fn limits()
     ensures monitor { MonitorLimits }
     ensures tsview { TsviewKeeps }

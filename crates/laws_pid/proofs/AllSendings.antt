@@ -3,9 +3,9 @@ use Rattle.std.proofs.Common.{◌≡◌, ℕ, true, List, [], ◌∷◌, ◌++�
 use Rattle.std.proofs.lemmas.List.Elements.{All-head, All-tail}
 use Rattle.ts_packet.specs.declared.start.Start.{Start}
 use Rattle.slot_contents.specs.Contents.{Payload}
-use Rattle.demux.specs.Views.{PidFinding}
-use Rattle.demux.specs.OpenUnits.{OpenUnit}
-use Rattle.demux.specs.Findings.{at_packet, ended}
+use Rattle.pid_findings.specs.Views.{PidFinding}
+use Rattle.pid_findings.specs.OpenUnits.{OpenUnit}
+use Rattle.pid_findings.specs.Findings.{at_packet, ended}
 use Rattle.laws_pid.specs.Sent.{cut, Sending, Ending, begin_or, next_of, if_sent, each_found}
 use Rattle.laws_pid.proofs.PidSteps.{finds, leaves, finds_append, leaves_append, Waits, leaves_waits}
 

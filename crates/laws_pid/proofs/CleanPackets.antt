@@ -12,15 +12,16 @@ use Rattle.pes_packet.specs.declared.refusal.PesError.TheVariants as pes_errors
 use Rattle.ts_packet.specs.declared.start.Start.TheVariants.{Continues, Begins}
 use Rattle.unit_queue.specs.OwnedStreams.{has_access}
 use Rattle.slot_contents.specs.Contents.{Payload, run_bytes}
-use Rattle.demux.specs.declared.open_unit.UnitKind.{UnitKind}
-use Rattle.demux.specs.declared.open_unit.UnitKind.TheVariants as unit_kinds
-use Rattle.demux.specs.Views.{WhatView, IsPes, IsTruncated, IsStray, Found, PidFinding, FindingView}
-use Rattle.demux.specs.Roles.{role_by, may_begin_pes}
-use Rattle.demux.specs.OpenUnits.{OpenUnit, decided, of_pes, of_header, about, plain, section, is_stuffing}
-use Rattle.demux.specs.Findings.{at_packet, by_role, ended, end_of, found_if, found_within, found_appended, undecided, unless_decided}
-use Rattle.demux.specs.Machine.{next_open}
+use Rattle.pid_findings.specs.declared.open_unit.UnitKind.{UnitKind}
+use Rattle.pid_findings.specs.declared.open_unit.UnitKind.TheVariants as unit_kinds
+use Rattle.pid_findings.specs.Views.{WhatView, IsPes, IsTruncated, IsStray, Found, PidFinding, FindingView}
+use Rattle.pid_findings.specs.Roles.{role_by, may_begin_pes}
+use Rattle.pid_findings.specs.OpenUnits.{OpenUnit, decided, of_pes, of_header, about, about_within, plain, section, is_stuffing}
+use Rattle.pid_findings.specs.Findings.{at_packet, by_role, ended, end_of, found_if, found_within, found_appended, past_end, stray_bytes, undecided}
+use Rattle.pid_findings.specs.Findings.{unless_decided}
+use Rattle.pid_findings.specs.Machine.{next_open}
 use Rattle.demux.specs.Laws.{found_of, with_pid_at, has_pid}
-use Rattle.demux.proofs.SectionWalk.{fill_found, fill_last}
+use Rattle.pid_findings.proofs.SectionWalk.{fill_found, fill_last}
 use Rattle.laws_pid.specs.Sent.{cut, Sending, sendings, Ending, begin_or, if_sent, each_found, next_of}
 use Rattle.laws_pid.specs.Units.{unit_found, unit_header, unit_packets, carried_in}
 use Rattle.laws_pid.specs.Sections.{filled_section, section_found, section_packets, IsRecognized}
@@ -115,15 +116,20 @@ decided_fine : (bytes : List ℕ) → FineIf (decided unit_kinds.Pes bytes)
 unfolding decided
 decided_fine bytes = pes_fine bytes (header_at bytes)
 
+stray_fine : (n : ℕ) (none : Bool) → All Fine (cond none [] (plain (IsStray n) ∷ []))
+stray_fine n true = All-nil Fine
+stray_fine n false = All-cons Fine (plain (IsStray n)) [] refl (All-nil Fine)
+
 found_fine : (part : OpenUnit) (d : Option WhatView) → FineIf d → All Fine (found_if part d)
 unfolding found_if
 found_fine part None h = All-nil Fine
-found_fine part (Some w) h = All-cons Fine (about part w) [] h (All-nil Fine)
+found_fine part (Some w) h =
+    let n = past_end (length part.bytes) w in All-cons Fine (about part w) (stray_bytes n) h (stray_fine n (n == 0))
 
 within_fine : (part : OpenUnit) (d : Option WhatView) → FineIf d → All Fine (found_within part d)
 unfolding found_within
 within_fine part None h = All-nil Fine
-within_fine part (Some w) h = All-cons Fine _ [] h (All-nil Fine)
+within_fine part (Some w) h = let n = past_end (length part.bytes) w in All-cons Fine (about_within part w) (stray_bytes n) h (stray_fine n (n == 0))
 
 -- ---- packets that go on with a PES packet, or with nothing
 
@@ -136,10 +142,6 @@ open_pes : (packet : ℕ) (access : Bool) (bytes : List ℕ) (d : Option WhatVie
 unfolding unless_decided
 open_pes packet access bytes None = refl
 open_pes packet access bytes (Some w) = tt
-
-stray_fine : (n : ℕ) (none : Bool) → All Fine (cond none [] (plain (IsStray n) ∷ []))
-stray_fine n true = All-nil Fine
-stray_fine n false = All-cons Fine (plain (IsStray n)) [] refl (All-nil Fine)
 
 rest_one : (i : ℕ) (front : List ℕ) (held : Option OpenUnit) → PesOrNone held →
     All Fine (by_role i (does (later i front)) held) × PesOrNone (next_open i (does (later i front)) held)

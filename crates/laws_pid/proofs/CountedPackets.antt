@@ -4,10 +4,10 @@ use Rattle.ts_packet.specs.declared.start.Start.{Start}
 use Rattle.ts_packet.specs.PidList.{Entry}
 use Rattle.ts_packet.proofs.PlainWritten.{start_again}
 use Rattle.slot_contents.specs.Contents.{Payload, payload_entry, view_of}
-use Rattle.demux.specs.Marks.{LastView, Marked, mark, is_repeat, break_at, repeats, break_after, seen}
-use Rattle.demux.specs.Roles.{Role, role_by, role_of, role}
-use Rattle.demux.specs.Findings.{by_role, by_break, found_at}
-use Rattle.demux.specs.Machine.{PidState, found_by, next_open, step, step_marked, unbroken}
+use Rattle.pid_findings.specs.Marks.{LastView, Marked, mark, is_repeat, break_at, repeats, break_after, seen}
+use Rattle.pid_findings.specs.Roles.{Role, role_by, role_of, role}
+use Rattle.pid_findings.specs.Findings.{by_role, by_break, found_at}
+use Rattle.pid_findings.specs.Machine.{PidState, found_by, next_open, step, step_marked, unbroken}
 
 -- a payload packet of this number follows the last one
 abbrev pub Follows : ℕ → Option LastView → Type 0

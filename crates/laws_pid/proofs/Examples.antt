@@ -5,8 +5,8 @@ use Rattle.pes_packet.specs.declared.time_stamps.Stamps.TheVariants.{Pts, PtsDts
 use Rattle.pes_packet.specs.Encoding.{pes_header_bytes, header_with, pts_header, pts_dts_header, pes_start_bytes, packet_length, stamp_bytes, pes_packet_bytes}
 use Rattle.pes_packet.specs.Laws.{written_header}
 use Rattle.pes_packet.specs.Marks.{no_flags, no_marks}
-use Rattle.demux.specs.declared.finding.Kind.TheVariants.{Pes, Table}
-use Rattle.demux.specs.Views.{IsPes, IsSection, IsTruncated}
+use Rattle.pid_findings.specs.declared.finding.Kind.TheVariants.{Pes, Table}
+use Rattle.pid_findings.specs.Views.{IsPes, IsSection, IsTruncated}
 use Rattle.laws_pid.specs.Sent.{sendings, each_found, next_of, if_sent, begin_or}
 use Rattle.laws_pid.specs.Units.{unit_packets, unit_found}
 use Rattle.laws_pid.specs.Sections.{section_packets, section_found}

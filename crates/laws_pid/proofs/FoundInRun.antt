@@ -15,8 +15,8 @@ use Rattle.unit_queue.specs.OwnedStreams.{has_access}
 use Rattle.ts_packet.specs.PidList.{Entry, pid_list}
 use Rattle.slot_contents.specs.Contents.{Content, Payload, Piece, payload_entries, payload_at, run_bytes}
 use Rattle.slot_contents.proofs.Runs.{run_length, run_pid_list}
-use Rattle.demux.specs.Views.{PidFinding}
-use Rattle.demux.specs.Findings.{at_packet, ended, findings_to_end}
+use Rattle.pid_findings.specs.Views.{PidFinding}
+use Rattle.pid_findings.specs.Findings.{at_packet, ended, findings_to_end}
 use Rattle.demux.specs.Laws.{with_pid_at}
 use Rattle.demux.proofs.WholeStream.{each_pid_alone}
 use Rattle.unit_queue.specs.Payloads.{piece_in}

@@ -3,12 +3,12 @@ use Rattle.std.proofs.Common.{◌≡◌, ℕ, suc, ◌+◌, ◌-◌, ◌*◌, �
 use Rattle.std.proofs.Common.{append_assoc, append-nil, mul-suc, take-add}
 use Rattle.ts_packet.specs.declared.start.Start.TheVariants.{Continues}
 use Rattle.slot_contents.specs.Contents.{Payload}
-use Rattle.demux.specs.Views.{WhatView}
-use Rattle.demux.specs.Roles.{role_by}
-use Rattle.demux.specs.OpenUnits.{OpenUnit, decided, about, appended}
-use Rattle.demux.specs.Findings.{at_packet, by_role, found_if, found_appended, undecided, unless_decided}
-use Rattle.demux.specs.Machine.{next_open}
-use Rattle.demux.proofs.DecidedBytes.{undecided_before}
+use Rattle.pid_findings.specs.Views.{WhatView}
+use Rattle.pid_findings.specs.Roles.{role_by}
+use Rattle.pid_findings.specs.OpenUnits.{OpenUnit, decided, about, appended}
+use Rattle.pid_findings.specs.Findings.{at_packet, by_role, found_if, found_appended, past_end, stray_bytes, undecided, unless_decided}
+use Rattle.pid_findings.specs.Machine.{next_open}
+use Rattle.pid_findings.proofs.DecidedBytes.{undecided_before}
 use Rattle.laws_pid.specs.Sent.{cut, last_of}
 use Rattle.laws_pid.proofs.CountedPackets.{does}
 use Rattle.laws_pid.proofs.PidSteps.{finds, leaves}
@@ -27,9 +27,13 @@ unfolding next_open role_by undecided unless_decided
 quiet_left i front b e = ap (unless_decided (appended b front)) e
 
 last_found : (i : ℕ) (front : List ℕ) (b : OpenUnit) (w : WhatView) → decided b.kind (b.bytes ++ front) ≡ Some w →
+    past_end (length (b.bytes ++ front)) w ≡ 0 →
     by_role i (does (later i front)) (Some b) ≡ about (appended b front) w ∷ []
 unfolding by_role role_by found_appended found_if
-last_found i front b w e = ap (found_if (appended b front)) e
+last_found i front b w e none =
+    let found : found_if (appended b front) (Some w) ≡ about (appended b front) w ∷ [] =
+    ap (λ (n : ℕ). about (appended b front) w ∷ stray_bytes n) none in
+    ap (found_if (appended b front)) e ∙ found
 
 last_left : (i : ℕ) (front : List ℕ) (b : OpenUnit) (w : WhatView) → decided b.kind (b.bytes ++ front) ≡ Some w →
     next_open i (does (later i front)) (Some b) ≡ None
@@ -62,14 +66,15 @@ rest_quiet text (i ∷ is) b e =
           ∙ ap (λ (t : List ℕ). Some (record b { bytes = t })) (sym (covered (length is) b.bytes text)),
     )
 
--- the packets that first have this number of bytes find what these decide
+-- the packets that first have this number of bytes find what these decide, if none comes past its end
 pub rest_decided : (text : List ℕ) (i : ℕ) (is : List ℕ) (b : OpenUnit) (size : ℕ) (w : WhatView) → 184 * length is < size →
     ((n : ℕ) → n < size → decided b.kind (b.bytes ++ take n text) ≡ None) → decided b.kind (b.bytes ++ take (184 * suc (length is)) text) ≡ Some w →
+    past_end (length (b.bytes ++ take (184 * suc (length is)) text)) w ≡ 0 →
     (finds (cut Continues text (i ∷ is)) (Some b) ≡ at_packet (last_of i is) (about (appended b (take (184 * suc (length is)) text)) w) ∷ [])
     × (leaves (cut Continues text (i ∷ is)) (Some b) ≡ None)
 unfolding finds leaves cut
-rest_decided text i [] b size w h u e = (rw (last_found i (take 184 text) b w e) refl, last_left i (take 184 text) b w e)
-rest_decided text i (j ∷ is) b size w h u e =
+rest_decided text i [] b size w h u e none = (rw (last_found i (take 184 text) b w e none) refl, last_left i (take 184 text) b w e)
+rest_decided text i (j ∷ is) b size w h u e none =
     let front : List ℕ = take 184 text in
     let more : 184 * suc (length is) ≡ 184 + 184 * length is = omega (arith, mul-suc 184 (length is)) in
     let first : decided b.kind (b.bytes ++ front) ≡ None = u 184 (omega arith) in
@@ -78,7 +83,9 @@ rest_decided text i (j ∷ is) b size w h u e =
     (ap (λ (t : List ℕ). b.bytes ++ t) (take-add 184 n text) ∙ sym (append_assoc b.bytes front (take n (drop 184 text)))) (u (184 + n) (omega arith)) in
     let whole : decided b.kind ((b.bytes ++ front) ++ take (184 * suc (length is)) (drop 184 text)) ≡ Some w =
     subst (λ (t : List ℕ). decided b.kind t ≡ Some w) (covered (suc (length is)) b.bytes text) e in
-    let rest = rest_decided (drop 184 text) j is (appended b front) (size - 184) w (omega arith) then whole in (
+    let past : past_end (length ((b.bytes ++ front) ++ take (184 * suc (length is)) (drop 184 text))) w ≡ 0 =
+    subst (λ (t : List ℕ). past_end (length t) w ≡ 0) (covered (suc (length is)) b.bytes text) none in
+    let rest = rest_decided (drop 184 text) j is (appended b front) (size - 184) w (omega arith) then whole past in (
       rw (quiet_found i front b first, quiet_left i front b first, rest.0)
           (ap (λ (t : List ℕ). at_packet (last_of j is) (about (record b { bytes = t }) w) ∷ []) (sym (covered (suc (length is)) b.bytes text))),
       ap (leaves (cut Continues (drop 184 text) (j ∷ is))) (quiet_left i front b first) ∙ rest.1,

@@ -8,10 +8,10 @@ use Rattle.ts_packet.specs.Reading.{packet_at}
 use Rattle.slot_contents.specs.Contents.{Content, PayloadContent, PcrContent, NullContent, view_of, packet_of, run_bytes}
 use Rattle.slot_contents.specs.RunLaws.{Fits}
 use Rattle.slot_contents.proofs.Runs.{content_again}
-use Rattle.demux.specs.Views.{IsErrored, Found, FindingView}
-use Rattle.demux.specs.Findings.{ended}
-use Rattle.demux.specs.Machine.{PidState, step, found_by}
-use Rattle.demux.specs.Shown.{with_pid}
+use Rattle.pid_findings.specs.Views.{IsErrored, Found, FindingView}
+use Rattle.pid_findings.specs.Findings.{ended}
+use Rattle.pid_findings.specs.Machine.{PidState, step, found_by}
+use Rattle.pid_findings.specs.Shown.{with_pid}
 use Rattle.demux.specs.Stream.{States, StreamState, start, state_of, with_state, states_by, findings_by, entry_of, without_pid, taken, found_in, pushed}
 use Rattle.demux.specs.Stream.{finished, ended_found, next_packet}
 use Rattle.demux.specs.FoundSoFar.{FoundSoFar, taken_all, found_in_all}

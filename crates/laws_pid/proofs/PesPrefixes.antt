@@ -15,12 +15,12 @@ use Rattle.pes_packet.specs.declared.reading.PesHeader.{PesHeader}
 use Rattle.pes_packet.specs.declared.time_stamps.Stamps.TheVariants.{Pts, PtsDts}
 use Rattle.pes_packet.proofs.Written.{written_is_read, header_sizes}
 use Rattle.ts_packet.specs.Beginnings.{room_of, start_by}
-use Rattle.demux.specs.declared.finding.Kind.TheVariants.{Pes}
-use Rattle.demux.specs.declared.open_unit.UnitKind.TheVariants as unit_kinds
-use Rattle.demux.specs.Views.{IsPes, IsTruncated}
-use Rattle.demux.specs.Roles.{may_begin_pes}
-use Rattle.demux.specs.OpenUnits.{decided, of_header, of_pes, max_unbounded_pes, is_stamped, begun_kind}
-use Rattle.demux.specs.Findings.{end_of}
+use Rattle.pid_findings.specs.declared.finding.Kind.TheVariants.{Pes}
+use Rattle.pid_findings.specs.declared.open_unit.UnitKind.TheVariants as unit_kinds
+use Rattle.pid_findings.specs.Views.{IsPes, IsTruncated}
+use Rattle.pid_findings.specs.Roles.{may_begin_pes}
+use Rattle.pid_findings.specs.OpenUnits.{decided, of_header, of_pes, max_unbounded_pes, is_stamped, begun_kind}
+use Rattle.pid_findings.specs.Findings.{end_of}
 use Rattle.laws_pid.specs.Units.{unit_header, unit_header_size}
 
 -- a PES packet whose header, of n bytes, is read as h, and its data
@@ -172,6 +172,11 @@ whole_at text h n body m t len less =
     let rest : take (6 + h.len - n) (drop n (take m text)) ≡ body =
     ap (take (6 + h.len - n)) (t.parted m le ∙ take_all (m - n) body (omega (arith, t.size))) ∙ take_all (6 + h.len - n) body (omega (arith, t.counted len)) in
     rw (t.header m le, len, le-ltb (length (take m text)) (6 + h.len) size, rest) refl
+
+-- and no byte comes past its end
+pub none_past : (text : List ℕ) (h : PesHeader) (n : ℕ) (body : List ℕ) (m : ℕ) → PesText text h n body → (h.len == 0) ≡ false →
+    length (take m text) - (6 + h.len) ≡ 0
+none_past text h n body m t len = omega (arith, length-take m text, t.counted len, t.size)
 
 -- its kind, and how it ends where nothing more comes
 pub kind_at : (access : Bool) (text : List ℕ) (h : PesHeader) (n : ℕ) (body : List ℕ) (m : ℕ) → PesText text h n body → n ≤ m →

@@ -1,14 +1,14 @@
 -- A PID's packets as a fold over its payloads: what they find and what they leave open.
 use Rattle.std.proofs.Common.{◌≡◌, ℕ, ◌+◌, true, List, [], ◌∷◌, ◌++◌, map, Option, Some, None, refl, sym, ap, ap₂, ◌∙◌, append_assoc}
 use Rattle.slot_contents.specs.Contents.{Payload, payload_entry, payload_entries}
-use Rattle.demux.specs.Views.{WhatView, PidFinding}
-use Rattle.demux.specs.Roles.{Role, NoPayload, ScrambledPayload, PesStart, SectionStart, PointerPastEnd, Continuation}
-use Rattle.demux.specs.OpenUnits.{OpenUnit, decided, appended, section, last_in}
-use Rattle.demux.specs.Findings.{at_packet, by_role, ended, findings_to_end, undecided, unless_decided}
-use Rattle.demux.specs.Machine.{PidState, fresh, next_open, run, run_to, step}
+use Rattle.pid_findings.specs.Views.{WhatView, PidFinding}
+use Rattle.pid_findings.specs.Roles.{Role, NoPayload, ScrambledPayload, PesStart, SectionStart, PointerPastEnd, Continuation}
+use Rattle.pid_findings.specs.OpenUnits.{OpenUnit, decided, appended, section, last_in}
+use Rattle.pid_findings.specs.Findings.{at_packet, by_role, ended, findings_to_end, undecided, unless_decided}
+use Rattle.pid_findings.specs.Machine.{PidState, fresh, next_open, run, run_to, step}
 use Rattle.std.specs.Prelude.{option_map}
-use Rattle.demux.proofs.DecidedBytes.{last_undecided}
-use Rattle.demux.proofs.MachineRun.{run_finds_all}
+use Rattle.pid_findings.proofs.DecidedBytes.{last_undecided}
+use Rattle.pid_findings.proofs.MachineRun.{run_finds_all}
 use Rattle.laws_pid.proofs.CountedPackets.{Follows, does, found_plain, part_plain, last_plain}
 
 -- what payloads find, and what they leave open, with what is open before them

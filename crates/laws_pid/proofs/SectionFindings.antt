@@ -6,16 +6,16 @@ use Rattle.std.proofs.lemmas.List.{map-append}
 use Rattle.std.proofs.lemmas.Bool.{lt-leb, cases_lt}
 use Rattle.ts_packet.specs.declared.start.Start.TheVariants.{Continues, Begins}
 use Rattle.slot_contents.specs.Contents.{Payload}
-use Rattle.demux.specs.declared.finding.Kind.{Kind}
-use Rattle.demux.specs.declared.finding.Kind.TheVariants.{Table}
-use Rattle.demux.specs.declared.open_unit.UnitKind.{UnitKind}
-use Rattle.demux.specs.declared.open_unit.UnitKind.TheVariants as unit_kinds
-use Rattle.demux.specs.Views.{IsSection, IsTruncated, Found, PidFinding}
-use Rattle.demux.specs.Roles.{Role, SectionStart, role_by, role_by_pointer, may_begin_pes}
-use Rattle.demux.specs.OpenUnits.{OpenUnit, decided, about_within, begun_kind, section, sections_in, last_in, taken_by}
-use Rattle.demux.specs.Findings.{at_packet, by_role, ended, found_or_cut, last_bytes, last_bytes_by}
-use Rattle.demux.specs.Machine.{next_open}
-use Rattle.demux.proofs.SectionWalk.{fill_found, fill_last, cut_found, cut_last, more_found, more_last}
+use Rattle.pid_findings.specs.declared.finding.Kind.{Kind}
+use Rattle.pid_findings.specs.declared.finding.Kind.TheVariants.{Table}
+use Rattle.pid_findings.specs.declared.open_unit.UnitKind.{UnitKind}
+use Rattle.pid_findings.specs.declared.open_unit.UnitKind.TheVariants as unit_kinds
+use Rattle.pid_findings.specs.Views.{IsSection, IsTruncated, Found, PidFinding}
+use Rattle.pid_findings.specs.Roles.{Role, SectionStart, role_by, role_by_pointer, may_begin_pes}
+use Rattle.pid_findings.specs.OpenUnits.{OpenUnit, decided, about_within, begun_kind, section, sections_in, last_in, taken_by}
+use Rattle.pid_findings.specs.Findings.{at_packet, by_role, ended, found_or_cut, last_bytes, last_bytes_by}
+use Rattle.pid_findings.specs.Machine.{next_open}
+use Rattle.pid_findings.proofs.SectionWalk.{fill_found, fill_last, cut_found, cut_last, more_found, more_last}
 use Rattle.laws_pid.specs.Sent.{cut, Ending, begin_or, if_sent, last_of}
 use Rattle.laws_pid.specs.Sections.{filled_section, begun_table, section_found, IsRecognized}
 use Rattle.laws_pid.proofs.CountedPackets.{does}
@@ -177,7 +177,8 @@ later_packets text i j is g held w few whole =
     λ m less. subst (λ (t : List ℕ). decided unit_kinds.Section t ≡ None) (after_first m text) (open_before text (183 + m) g (omega (arith, less))) in
     let is_whole : decided unit_kinds.Section (filled_to 183 text ++ take n (drop 183 body)) ≡ Some (IsSection text) =
     subst (λ (t : List ℕ). decided unit_kinds.Section t ≡ Some (IsSection text)) (after_first n text) (whole_at text (183 + n) g (omega (arith, many))) in
-    let rest = rest_decided (drop 183 body) j is (section i (filled_to 183 text)) (length text - 183) (IsSection text) (omega (arith, more)) stays is_whole in
+    let rest = rest_decided (drop 183 body) j is (section i (filled_to 183 text)) (length text - 183) (IsSection text) (omega (arith, more)) stays is_whole
+    refl in
     let kind : begun_kind unit_kinds.Section false (filled_to 183 text ++ take n (drop 183 body)) ≡ Table (slice_index text 0) =
     subst (λ (t : List ℕ). begun_kind unit_kinds.Section false t ≡ Table (slice_index text 0)) (after_first n text)
     (kind_at text (183 + n) (omega (arith, given_size text g)) (omega arith)) in (

@@ -10,11 +10,11 @@ use Rattle.psi_tables.specs.Reading.{section_at, section_start_at, sized_at}
 use Rattle.psi_tables.specs.declared.error.SectionError.{SectionError}
 use Rattle.psi_tables.specs.declared.error.SectionError.TheVariants as section_errors
 use Rattle.psi_tables.proofs.SectionForms.{section_longer}
-use Rattle.demux.specs.declared.finding.Kind.TheVariants.{Table}
-use Rattle.demux.specs.declared.open_unit.UnitKind.TheVariants as unit_kinds
-use Rattle.demux.specs.Views.{IsSection}
-use Rattle.demux.specs.Roles.{may_begin_pes}
-use Rattle.demux.specs.OpenUnits.{decided, of_section, is_stuffing, begun_kind, declared_size, taken_by}
+use Rattle.pid_findings.specs.declared.finding.Kind.TheVariants.{Table}
+use Rattle.pid_findings.specs.declared.open_unit.UnitKind.TheVariants as unit_kinds
+use Rattle.pid_findings.specs.Views.{IsSection}
+use Rattle.pid_findings.specs.Roles.{may_begin_pes}
+use Rattle.pid_findings.specs.OpenUnits.{decided, of_section, is_stuffing, begun_kind, declared_size, taken_by}
 use Rattle.laws_pid.specs.Sections.{IsRecognized}
 
 -- ---- a section has the bytes that it says, and its beginnings are too short

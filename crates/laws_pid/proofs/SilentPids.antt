@@ -5,12 +5,12 @@ use Rattle.std.proofs.lemmas.Bool.{cases_Bool}
 use Rattle.clock27.specs.Reference.{Reference}
 use Rattle.ts_packet.specs.PidList.{Entry, is_of_pid}
 use Rattle.slot_contents.specs.Contents.{Content, PayloadContent, PcrContent, NullContent, view_of, entry_at, entries_in, Payload, payload_in}
-use Rattle.demux.specs.Views.{PidFinding}
-use Rattle.demux.specs.Marks.{LastView, Marked, mark, is_repeat, break_at, repeats, break_after, seen}
-use Rattle.demux.specs.Roles.{role, role_by, role_of}
-use Rattle.demux.specs.Findings.{at_packet, by_break, by_role, ended, findings_to_end, found_at}
-use Rattle.demux.specs.Machine.{PidState, fresh, found_by, next_open, run, run_to, step, step_marked, unbroken}
-use Rattle.demux.proofs.MachineRun.{run_finds_all}
+use Rattle.pid_findings.specs.Views.{PidFinding}
+use Rattle.pid_findings.specs.Marks.{LastView, Marked, mark, is_repeat, break_at, repeats, break_after, seen}
+use Rattle.pid_findings.specs.Roles.{role, role_by, role_of}
+use Rattle.pid_findings.specs.Findings.{at_packet, by_break, by_role, ended, findings_to_end, found_at}
+use Rattle.pid_findings.specs.Machine.{PidState, fresh, found_by, next_open, run, run_to, step, step_marked, unbroken}
+use Rattle.pid_findings.proofs.MachineRun.{run_finds_all}
 use Rattle.slot_contents.proofs.Counts.{null_other}
 
 -- after clock references alone the last packet, if there was one, had counter 15

@@ -14,22 +14,22 @@ use Rattle.ts_packet.specs.Beginnings.{room_of, start_by}
 use Rattle.unit_queue.specs.OwnedStreams.{has_access}
 use Rattle.unit_queue.proofs.PieceBytes.{field_most}
 use Rattle.slot_contents.specs.Contents.{Payload}
-use Rattle.demux.specs.declared.finding.Kind.{Kind}
-use Rattle.demux.specs.declared.finding.Kind.TheVariants.{Pes}
-use Rattle.demux.specs.declared.open_unit.UnitKind.TheVariants as unit_kinds
-use Rattle.demux.specs.Views.{WhatView, IsPes, IsTruncated, is_whole, PidFinding}
-use Rattle.demux.specs.Roles.{role_by, may_begin_pes}
-use Rattle.demux.specs.OpenUnits.{OpenUnit, decided, about_within, begun_kind}
-use Rattle.demux.specs.Findings.{at_packet, by_role, decided_within, ended, end_of, found_within, undecided, unless_decided}
-use Rattle.demux.specs.Machine.{next_open}
-use Rattle.demux.proofs.DecidedBytes.{undecided_before}
+use Rattle.pid_findings.specs.declared.finding.Kind.{Kind}
+use Rattle.pid_findings.specs.declared.finding.Kind.TheVariants.{Pes}
+use Rattle.pid_findings.specs.declared.open_unit.UnitKind.TheVariants as unit_kinds
+use Rattle.pid_findings.specs.Views.{WhatView, IsPes, IsTruncated, is_whole, PidFinding}
+use Rattle.pid_findings.specs.Roles.{role_by, may_begin_pes}
+use Rattle.pid_findings.specs.OpenUnits.{OpenUnit, decided, about_within, begun_kind}
+use Rattle.pid_findings.specs.Findings.{at_packet, by_role, decided_within, ended, end_of, found_within, past_end, stray_bytes, undecided, unless_decided}
+use Rattle.pid_findings.specs.Machine.{next_open}
+use Rattle.pid_findings.proofs.DecidedBytes.{undecided_before}
 use Rattle.laws_pid.specs.Sent.{cut, Ending, begin_or, if_sent, last_of, is_none}
 use Rattle.laws_pid.specs.Units.{unit_start, unit_header, unit_header_size, begun_pes, unit_found}
 use Rattle.laws_pid.proofs.CountedPackets.{does}
 use Rattle.laws_pid.proofs.PidSteps.{finds, leaves}
 use Rattle.laws_pid.proofs.LaterPackets.{covered_from, rest_quiet, rest_decided}
 use Rattle.laws_pid.proofs.AllSendings.{Gives, ends_at}
-use Rattle.laws_pid.proofs.PesPrefixes.{PesText, unit_is_pes, open_before, open_without, whole_at, kind_at, end_without, end_within}
+use Rattle.laws_pid.proofs.PesPrefixes.{PesText, none_past, unit_is_pes, open_before, open_without, whole_at, kind_at, end_without, end_within}
 
 -- the first payload of a PES packet
 abbrev opening : ℕ → Bool → List ℕ → Payload
@@ -81,23 +81,26 @@ room_least : (access : Bool) → 182 ≤ room access
 room_least true = omega arith
 room_least false = omega arith
 
--- those of which the last one decides it find that
+-- those of which the last one decides it, with no byte past its end, find that
 text_decided : (access : Bool) (text : List ℕ) (i : ℕ) (is : List ℕ) (held : Option OpenUnit) (w : WhatView) → may_begin_pes (take (room access) text) ≡ true →
     is_whole w ≡ true →
     ((m : ℕ) → 182 ≤ m → begun_kind unit_kinds.Pes access (take m text) ≡ Pes true access) → room access + 184 * length is < length text + 184 →
     ((m : ℕ) → 182 ≤ m → m < length text → decided unit_kinds.Pes (take m text) ≡ None) →
     decided unit_kinds.Pes (take (room access + 184 * length is) text) ≡ Some w →
+    past_end (length (take (room access + 184 * length is) text)) w ≡ 0 →
     (finds (cut (start_by true access) text (i ∷ is)) held ≡ map (at_packet i) (ended false held)
     ++ record { packet = last_of i is; found = begun_pes i access w (is_none is) } ∷ [])
     × (leaves (cut (start_by true access) text (i ∷ is)) held ≡ None)
 unfolding finds leaves cut found_within undecided unless_decided
-text_decided access text i [] held w begins whole kind h u e =
+text_decided access text i [] held w begins whole kind h u e none =
     let front : List ℕ = take (room access) text in
     let one : room access + 184 * 0 ≡ room access = omega arith in
     let here' : decided unit_kinds.Pes front ≡ Some w = rw one at e in
+    let past : past_end (length front) w ≡ 0 = rw one at none in
     let k : begun_kind unit_kinds.Pes access front ≡ Pes true access = kind (room access) (room_least access) in
     let here : by_role i (does (opening i access front)) held ≡ ended false held ++ about_within (pes_at i access front) w ∷ [] =
-    first_found i access front held begins ∙ ap (λ (d : Option WhatView). ended false held ++ found_within (pes_at i access front) d) here' in
+    first_found i access front held begins ∙ ap (λ (d : Option WhatView). ended false held ++ found_within (pes_at i access front) d) here'
+    ∙ ap (λ (n : ℕ). ended false held ++ about_within (pes_at i access front) w ∷ stray_bytes n) past in
     let left : next_open i (does (opening i access front)) held ≡ None =
     first_left i access front held begins ∙ ap (unless_decided (pes_at i access front)) here' in (
       rw here (append-nil (map (at_packet i) (ended false held ++ about_within (pes_at i access front) w ∷ []))
@@ -106,7 +109,7 @@ text_decided access text i [] held w begins whole kind h u e =
           ++ record { packet = i; found = record { begun = Some (i, kd); what = w; within = b } } ∷ []) k whole),
       left,
     )
-text_decided access text i (j ∷ is) held w begins whole kind h u e =
+text_decided access text i (j ∷ is) held w begins whole kind h u e past =
     let front : List ℕ = take (room access) text in
     let more : room access + 184 * suc (length is) ≡ room access + 184 + 184 * length is = omega (arith, mul-suc 184 (length is)) in
     let first : decided unit_kinds.Pes front ≡ None = u (room access) (room_least access) (omega (arith, h, more)) in
@@ -123,7 +126,9 @@ text_decided access text i (j ∷ is) held w begins whole kind h u e =
     let k : begun_kind unit_kinds.Pes access (front ++ take (184 * suc (length is)) (drop (room access) text)) ≡ Pes true access =
     subst (λ (t : List ℕ). begun_kind unit_kinds.Pes access t ≡ Pes true access) (covered_from (room access) (suc (length is)) [] text)
     (kind (room access + 184 * suc (length is)) (omega (arith, room_least access))) in
-    let rest = rest_decided (drop (room access) text) j is (pes_at i access front) (length text - room access) w (omega (arith, h, more)) then all in (
+    let no_more : past_end (length (front ++ take (184 * suc (length is)) (drop (room access) text))) w ≡ 0 =
+    subst (λ (t : List ℕ). past_end (length t) w ≡ 0) (covered_from (room access) (suc (length is)) [] text) past in
+    let rest = rest_decided (drop (room access) text) j is (pes_at i access front) (length text - room access) w (omega (arith, h, more)) then all no_more in (
       rw (none, left, rest.0)
           (ap (λ (kd : Kind). map (at_packet i) (ended false held)
           ++ record { packet = last_of j is; found = record { begun = Some (i, kd); what = w; within = false } } ∷ []) k),
@@ -215,7 +220,8 @@ unit_whole id base0 u i is fits few e held len whole =
     rw (len, same, test) refl in
     let o = text_decided (has_access u) text i is held (IsPes h false u.bytes) (t.begins (has_access u)) refl
     (λ k more. kind_at (has_access u) text h n u.bytes k t (omega (arith, t.short, more))) few
-    (λ k more less. open_before text h n u.bytes k t (omega (arith, t.short, more)) len less) (whole_at text h n u.bytes m t len whole) in
+    (λ k more less. open_before text h n u.bytes k t (omega (arith, t.short, more)) len less) (whole_at text h n u.bytes m t len whole)
+    (none_past text h n u.bytes m t len) in
     ap₂ (λ (a : List PidFinding) (b : Option OpenUnit). a ++ ends_at e b) o.0 o.1
     ∙ append-nil (map (at_packet i) (ended false held)
     ++ record { packet = last_of i is; found = begun_pes i (has_access u) (IsPes h false u.bytes) (is_none is) } ∷ [])

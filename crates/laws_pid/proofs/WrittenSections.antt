@@ -6,8 +6,8 @@ use Rattle.psi_tables.specs.Reading.{section_at}
 use Rattle.psi_tables.specs.Encoding.{start_bytes, front_bytes, header_bytes, with_crc, section_bytes}
 use Rattle.psi_tables.specs.declared.section.LongHeader.{LongHeader}
 use Rattle.psi_tables.proofs.SectionWritten.{written}
-use Rattle.demux.specs.OpenUnits.{is_stuffing}
-use Rattle.demux.specs.Roles.{may_begin_pes}
+use Rattle.pid_findings.specs.OpenUnits.{is_stuffing}
+use Rattle.pid_findings.specs.Roles.{may_begin_pes}
 use Rattle.laws_pid.specs.Sections.{WrittenAreRecognized}
 
 no_both : (a b : Bool) → b ≡ false → (a && (b && true)) ≡ false

@@ -6,9 +6,10 @@ use Rattle.pes_packet.specs.StreamIds.{fits_packet}
 use Rattle.psi_tables.specs.Views.{SectionView}
 use Rattle.psi_tables.specs.Reading.{section_at}
 use Rattle.slot_contents.specs.Contents.{Content, run_bytes}
-use Rattle.demux.specs.Views.{WhatView, IsDuplicate, BreaksCounter, IsScrambled, IsTruncated, IsSection, IsBadSection, IsPes, IsBadPes, IsBadPacket, IsErrored}
-use Rattle.demux.specs.Views.{IsStray}
-use Rattle.demux.specs.Views.{FindingView}
+use Rattle.pid_findings.specs.Views.{WhatView, IsDuplicate, BreaksCounter, IsScrambled, IsTruncated, IsSection, IsBadSection, IsPes, IsBadPes, IsBadPacket}
+use Rattle.pid_findings.specs.Views.{IsErrored}
+use Rattle.pid_findings.specs.Views.{IsStray}
+use Rattle.pid_findings.specs.Views.{FindingView}
 use Rattle.laws_pid.specs.Units.{unit_pieces}
 use Rattle.laws_pid.specs.Sections.{section_pieces}
 use Rattle.laws_pid.specs.Laws.{IsRun, CarriesPieces, all_found, found_on}
@@ -41,12 +42,12 @@ UnitsAreClean = (pid n id base0 : ℕ) (content : ℕ → Content) (us : List Ac
     CarriesPieces pid (run_bytes content 0 n) (flat_map (unit_pieces id base0) us) → All (λ u. IsTrue (fits_packet id (length u.bytes))) us →
     All IsClean (found_on pid (run_bytes content 0 n))
 
--- nor on one that carries sections, also where one begins 00 01 or has table_id 0xFF
+-- nor on a PID that carries sections, even if a section begins 00 01 or has table_id 0xFF
 abbrev pub SectionsAreClean : Type 0
 SectionsAreClean = (pid n : ℕ) (content : ℕ → Content) (sections : List (List ℕ)) → IsRun n content → (pid == 8191) ≡ false →
     CarriesPieces pid (run_bytes content 0 n) (flat_map section_pieces sections) → All IsWhole sections → All IsClean (found_on pid (run_bytes content 0 n))
 
--- what holds of the findings of each PID holds of all that is found
+-- a property of the findings of each PID is a property of all findings
 abbrev pub ByPids : Type 0
 ByPids = (n : ℕ) (content : ℕ → Content) (test : FindingView → Bool) → IsRun n content →
     ((pid : ℕ) → (pid == 8191) ≡ false → All (λ f. test f ≡ true) (found_on pid (run_bytes content 0 n))) →

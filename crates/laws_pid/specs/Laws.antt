@@ -1,4 +1,4 @@
--- What the laws of this crate say: what is found in the finished bytes of a run of slots, with their end, by what the packets of a PID carry.
+-- The laws of this crate: the findings in the finished bytes of a run of slots, with their end, by what the packets of a PID carry.
 use Rattle.std.specs.Prelude.{◌≡◌, ℕ, ◌-◌, ◌%◌, ◌^◌, ◌<◌, ◌≤◌, ◌==◌, false, List, [], ◌∷◌, length, map, take, All, IsTrue, Some, slice_get}
 use Rattle.std.specs.List.{flat_map}
 use Rattle.pes_packet.specs.AccessUnits.{AccessUnit}
@@ -6,7 +6,7 @@ use Rattle.pes_packet.specs.StreamIds.{fits_packet}
 use Rattle.ts_packet.specs.PidList.{Entry, pid_list}
 use Rattle.slot_contents.specs.Contents.{Content, run_bytes, Piece, payload_at, payload_in, payloads_in, Numbered}
 use Rattle.slot_contents.specs.RunLaws.{Fits}
-use Rattle.demux.specs.Views.{FindingView}
+use Rattle.pid_findings.specs.Views.{FindingView}
 use Rattle.demux.specs.Stream.{start, pushed, finished}
 use Rattle.demux.specs.Laws.{found_of, with_pid_at}
 use Rattle.unit_queue.specs.Payloads.{piece_in}
@@ -37,14 +37,14 @@ pub record CarriesPieces (pid : ℕ) (bytes : List ℕ) (pieces : List Piece) : 
   -- the start indicator is set where something begins, and there alone
   pub payloads : map (λ e. piece_in (payload_at e)) (pid_list pid bytes) ≡ take (length (pid_list pid bytes)) pieces
 
--- units of a stream: one finding of each of which anything was sent, in order, and nothing else
+-- units of a stream: one finding for each unit with a sent packet, in order, and nothing else
 abbrev pub UnitsComeBack : Type 0
 UnitsComeBack = (pid n id base0 : ℕ) (content : ℕ → Content) (us : List AccessUnit) → IsRun n content → (pid == 8191) ≡ false →
     CarriesPieces pid (run_bytes content 0 n) (flat_map (unit_pieces id base0) us) → All (λ u. IsTrue (fits_packet id (length u.bytes))) us →
     found_on pid (run_bytes content 0 n)
     ≡ map (with_pid_at pid) (each_found (unit_found id base0) n (sendings (unit_packets id base0) us (packets_on pid (run_bytes content 0 n))))
 
--- sections, of a table or of several: one finding of each of which anything was sent, in order, and nothing else
+-- sections, of a table or of several: one finding for each section with a sent packet, in order, and nothing else
 abbrev pub SectionsComeBack : Type 0
 SectionsComeBack = (pid n : ℕ) (content : ℕ → Content) (sections : List (List ℕ)) → IsRun n content → (pid == 8191) ≡ false →
     CarriesPieces pid (run_bytes content 0 n) (flat_map section_pieces sections) → All IsRecognized sections →
@@ -56,7 +56,7 @@ abbrev pub NothingComesBack : Type 0
 NothingComesBack = (pid n : ℕ) (content : ℕ → Content) → IsRun n content → (pid == 8191) ≡ false → ((t : ℕ) → t < n → payload_in pid t (content t) ≡ []) →
     found_on pid (run_bytes content 0 n) ≡ []
 
--- a finding of a PID that is not that of null packets
+-- a finding of a PID other than the PID of null packets
 abbrev pub IsOfPid : FindingView → Type 0
 IsOfPid f = (pid : ℕ) × (f.pid ≡ Some pid) × ((pid == 8191) ≡ false)
 
@@ -69,11 +69,11 @@ unfoldable pub InOrder : ℕ → ℕ → List FindingView → Type 0
 InOrder from last [] = Unit {0}
 InOrder from last (f ∷ fs) = (from ≤ f.packet) × (f.packet ≤ last) × InOrder f.packet last fs
 
--- all that is found comes in the order of the packets; what the end of the stream decides has the number of packets
+-- all findings come in the order of the packets; findings that the end of the stream decides have the number of packets
 abbrev pub FoundInOrder : Type 0
 FoundInOrder = (n : ℕ) (content : ℕ → Content) → IsRun n content → InOrder 0 n (all_found (run_bytes content 0 n))
 
--- where the payloads on a PID, slot by slot, are numbered from 0 on, and nothing else is on it, its packets carry them
+-- if the payloads on a PID, slot by slot, are numbered from 0 on, and nothing else is on the PID, its packets carry them
 abbrev pub NumberedPayloads : Type 0
 NumberedPayloads = (pid n : ℕ) (content : ℕ → Content) (pieces : List Piece) → Fits content → (pid == 8191) ≡ false → Numbered pid content 0 n 0 →
     map piece_in (payloads_in pid content 0 n) ≡ take (length (payloads_in pid content 0 n)) pieces →

@@ -23,7 +23,7 @@ unfoldable pub sections_from : (ℕ → List ℕ) → ℕ → List ℕ → List 
 sections_from section j [] = []
 sections_from section j (l ∷ lengths) = section j ∷ sections_from section (suc j) lengths
 
--- the sections of a round that begins in slot s: those of the moment at which that slot begins
+-- the sections of a round that begins in slot s, as they are at the begin of that slot
 abbrev pub round_sections : Table → ℕ → List (List ℕ)
 round_sections table s = sections_from (λ j. table.bytes j (moment_of table s)) 0 table.lengths
 
@@ -35,22 +35,22 @@ sections_of_rounds table n = flat_map (round_sections table) (own_slots (starts 
 abbrev pub HasRoom : Table → Type 0
 HasRoom table = (j moment : ℕ) → j < length table.lengths → length (table.bytes j moment) ≤ slice_index_or table.lengths j 0
 
--- the payloads of a table in its own slots are the first of those of these sections
+-- the payloads of a table in its own slots are the first payloads of these sections
 abbrev pub RoundsAreSections : Type 0
 RoundsAreSections = (table : Table) (n : ℕ) → HasPlaces table → HasRoom table →
     map piece_in (table_payloads table n) ≡ take (length (table_payloads table n)) (flat_map section_pieces (sections_of_rounds table n))
 
--- where a table in its own slots is alone on its PID, its packets carry the first of those payloads
+-- if a table in its own slots is alone on its PID, its packets carry the first payloads of these sections
 abbrev pub TablesCarry : Type 0
 TablesCarry = (table : Table) (n : ℕ) (content : ℕ → Content) → TableIsAlone table content → HasPlaces table → HasRoom table →
     CarriesPieces table.pid (run_bytes content 0 n) (flat_map section_pieces (sections_of_rounds table n))
 
--- and those of a stream in its own slots the first of its units' payloads
+-- the packets of a stream in its own slots carry the first payloads of its units
 abbrev pub StreamsCarry : Type 0
 StreamsCarry = (l : OwnedStream) (n : ℕ) (us : List AccessUnit) (content : ℕ → Content) → StreamIsAlone l us content →
     CarriesPieces l.parameters.pid (run_bytes content 0 n) (flat_map (unit_pieces l.parameters.stream_id l.parameters.base0) us)
 
--- a table in its own slots, alone on its PID: what is found are its sections, round after round
+-- a table in its own slots, alone on its PID: the findings are its sections, round after round
 abbrev pub TablesComeBack : Type 0
 TablesComeBack = (table : Table) (n : ℕ) (content : ℕ → Content) → IsRun n content → TableIsAlone table content → HasPlaces table → HasRoom table →
     All IsRecognized (sections_of_rounds table n) →
@@ -58,7 +58,7 @@ TablesComeBack = (table : Table) (n : ℕ) (content : ℕ → Content) → IsRun
     ≡ map (with_pid_at table.pid)
     (each_found section_found n (sendings section_packets (sections_of_rounds table n) (packets_on table.pid (run_bytes content 0 n))))
 
--- a stream in its own slots, alone on its PID: what is found are its units
+-- a stream in its own slots, alone on its PID: the findings are its units
 abbrev pub StreamsComeBack : Type 0
 StreamsComeBack = (l : OwnedStream) (n : ℕ) (us : List AccessUnit) (content : ℕ → Content) → IsRun n content → StreamIsAlone l us content →
     All (λ u. IsTrue (fits_packet l.parameters.stream_id (length u.bytes))) us →

@@ -1,4 +1,4 @@
--- What is found of sections that are sent on one PID, each from the begin of a payload on, after pointer_field 0.
+-- The findings of sections that are sent on one PID, each from the begin of a payload on, after pointer_field 0.
 use Rattle.std.specs.Prelude.{◌≡◌, ℕ, ◌+◌, ◌-◌, ◌*◌, ◌==◌, Bool, false, nat_le, if◌then◌else◌, List, ◌∷◌, ◌++◌, length, take, replicate, slice_index, Some, Ok}
 use Rattle.pes_packet.specs.Payloads.{piece_count}
 use Rattle.psi_tables.specs.Views.{SectionView}
@@ -6,10 +6,10 @@ use Rattle.psi_tables.specs.Reading.{section_at}
 use Rattle.psi_tables.specs.Encoding.{IsWritable, section_bytes}
 use Rattle.ts_packet.specs.declared.start.Start.TheVariants.{Begins}
 use Rattle.slot_contents.specs.Contents.{Piece}
-use Rattle.demux.specs.declared.finding.Kind.TheVariants.{Table}
-use Rattle.demux.specs.Views.{WhatView, IsSection, IsTruncated, Found, PidFinding}
-use Rattle.demux.specs.OpenUnits.{is_stuffing}
-use Rattle.demux.specs.Roles.{may_begin_pes}
+use Rattle.pid_findings.specs.declared.finding.Kind.TheVariants.{Table}
+use Rattle.pid_findings.specs.Views.{WhatView, IsSection, IsTruncated, Found, PidFinding}
+use Rattle.pid_findings.specs.OpenUnits.{is_stuffing}
+use Rattle.pid_findings.specs.Roles.{may_begin_pes}
 use Rattle.laws_pid.specs.Sent.{first_pieces, Ending, last_of, is_none}
 
 -- pointer_field 0, the section, and the greatest number of bytes 0xFF that a packet can need (ISO/IEC 13818-1, 2.4.4.1)
@@ -27,7 +27,7 @@ section_pieces section = first_pieces Begins (section_packets section) (filled_s
 abbrev pub begun_table : ℕ → List ℕ → WhatView → Bool → Found
 begun_table i section what within = record { begun = Some (i, Table (slice_index section 0)); what = what; within = within }
 
--- what is found of a section that has packets i and `is`: it is whole in its last packet, or cut short where the next begins
+-- the finding of a section that has packets i and `is`: it is whole in its last packet, or cut short where the next section begins
 unfoldable pub section_found : Ending → List ℕ → ℕ → List ℕ → PidFinding
 section_found e section i is =
     if nat_le (1 + length section) (184 * length (i ∷ is))

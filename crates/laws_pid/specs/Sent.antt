@@ -1,5 +1,5 @@
--- What is sent on one PID: PES packets, or sections with their pointer_field, one after another, each cut into payloads of 184 bytes, of 182 the
--- first if a decoder may begin with it, and the packets that carry them.
+-- What is sent on one PID: PES packets, or sections with their pointer_field, in order, each cut into payloads of 184 bytes (182 for the first
+-- payload if a decoder may begin with it), and the packets that carry these payloads.
 use Rattle.std.specs.Prelude.{ℕ, zero, suc, Bool, true, false, List, [], ◌∷◌, ◌++◌, take, drop}
 use Rattle.std.specs.Simd.{first_chunks}
 use Rattle.ts_packet.specs.declared.start.Start.{Start}
@@ -7,7 +7,7 @@ use Rattle.ts_packet.specs.declared.start.Start.TheVariants.{Continues, Begins, 
 use Rattle.ts_packet.specs.Beginnings.{room_of}
 use Rattle.slot_contents.specs.Contents.{Payload, Piece}
 use Rattle.unit_queue.specs.Payloads.{marked}
-use Rattle.demux.specs.Views.{PidFinding}
+use Rattle.pid_findings.specs.Views.{PidFinding}
 
 -- the bytes of the first payloads of a PES packet or section: 184 each, or 182 the first, the last one the rest
 unfoldable pub access_chunks : ℕ → List ℕ → List (List ℕ)
@@ -34,12 +34,12 @@ pub record Sending (X : Type 0) : Type 0 where
   pub item : X
   pub packets : List ℕ
 
--- each has the packets that it needs, in order, until there are no more: only the last one that has any can have fewer
+-- each item has the packets that it needs, in order, until there are no more packets: only the last item with packets can have fewer
 unfoldable pub sendings : {X : Type 0} → (X → ℕ) → List X → List ℕ → List (Sending X)
 sendings count [] packets = []
 sendings count (x ∷ xs) packets = record { item = x; packets = take (count x) packets } ∷ sendings count xs (drop (count x) packets)
 
--- where what is open ends: at the packet in which the next thing begins, or with the stream, after its last packet
+-- where an open unit ends: at the packet in which the next begins, or with the stream, after its last packet
 pub record Ending : Type 0 where
   pub packet : ℕ
   pub open_ended : Bool
@@ -48,12 +48,12 @@ unfoldable pub begin_or : Ending → List ℕ → Ending
 begin_or e [] = e
 begin_or e (i ∷ is) = record { packet = i; open_ended = false }
 
--- where the first of these begins, in a stream of `count` packets
+-- where the first of these items begins, in a stream of `count` packets
 unfoldable pub next_of : {X : Type 0} → ℕ → List (Sending X) → Ending
 next_of count [] = record { packet = count; open_ended = true }
 next_of count (x ∷ xs) = begin_or (next_of count xs) x.packets
 
--- what is found of one thing that is sent in these packets, nothing if there are none
+-- the finding of one item that is sent in these packets; nothing if there are none
 unfoldable pub if_sent : (ℕ → List ℕ → PidFinding) → List ℕ → List PidFinding
 if_sent found [] = []
 if_sent found (i ∷ is) = found i is ∷ []

@@ -1,4 +1,4 @@
--- What is found of access units that are sent on one PID, each as a PES packet of its own.
+-- The findings of access units that are sent on one PID, each as its own PES packet.
 use Rattle.std.specs.Prelude.{ℕ, ◌+◌, ◌-◌, ◌*◌, ◌==◌, nat_le, Bool, true, false, if◌then◌else◌, List, ◌∷◌, length, take, Some}
 use Rattle.pes_packet.specs.AccessUnits.{AccessUnit}
 use Rattle.pes_packet.specs.Encoding.{header_size, pes_packet_bytes}
@@ -10,8 +10,8 @@ use Rattle.ts_packet.specs.Beginnings.{start_by}
 use Rattle.pes_packet.specs.Marks.{field_size}
 use Rattle.unit_queue.specs.OwnedStreams.{has_access}
 use Rattle.slot_contents.specs.Contents.{Piece}
-use Rattle.demux.specs.declared.finding.Kind.TheVariants.{Pes}
-use Rattle.demux.specs.Views.{WhatView, IsPes, IsTruncated, Found, PidFinding}
+use Rattle.pid_findings.specs.declared.finding.Kind.TheVariants.{Pes}
+use Rattle.pid_findings.specs.Views.{WhatView, IsPes, IsTruncated, Found, PidFinding}
 use Rattle.laws_pid.specs.Sent.{first_pieces, Ending, last_of, is_none}
 
 -- the packets that a unit takes, and its payloads
@@ -41,8 +41,8 @@ begun_pes i access what within = record { begun = Some (i, Pes true access); wha
 abbrev pub carried_in : Bool → List ℕ → ℕ
 carried_in access packets = 184 * length packets - field_size access
 
--- what is found of a unit that has packets i and `is`. Without a PES_packet_length it goes to where the next begins, with the bytes that
--- came; else it is whole in its last packet, or cut short where the next begins
+-- the finding of a unit that has packets i and `is`. Without a PES_packet_length the unit ends where the next begins, with the bytes that were
+-- sent; otherwise it is whole in its last packet, or cut short where the next begins
 unfoldable pub unit_found : ℕ → ℕ → Ending → AccessUnit → ℕ → List ℕ → PidFinding
 unit_found id base0 e u i is =
     if (unit_header id base0 u).len == 0

@@ -3,7 +3,7 @@ use Rattle.std.proofs.Common.{◌≡◌, ◌≤◌, ℕ, ◌+◌, ◌==◌, Bool
 use Rattle.std.specs.List.{AllZip}
 use Rattle.std.proofs.lemmas.Bool.{eq-eqb, ne_eqb}
 use Rattle.std.proofs.lemmas.List.{length-append}
-use Rattle.demux.specs.Views.{FindingView}
+use Rattle.pid_findings.specs.Views.{FindingView}
 use Rattle.job_inputs.specs.ClockConstants.{IsMovedBy, clock_of}
 use Rattle.job_inputs.specs.JobInput.{JobInputView}
 use Rattle.job_programs.specs.JobOptions.{JobOptionsView}

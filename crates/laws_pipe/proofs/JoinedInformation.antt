@@ -1,7 +1,7 @@
 -- What is said of inputs that are joined has no end of a line in its texts.
 use Rattle.std.proofs.Common.{◌≡◌, ℕ, zero, suc, ◌+◌, List, [], ◌∷◌, ◌++◌, map, take, Ok, subst}
 use Rattle.std.specs.List.{AllZip}
-use Rattle.demux.specs.Views.{FindingView}
+use Rattle.pid_findings.specs.Views.{FindingView}
 use Rattle.job_text.specs.DescriptionParts.{EventPartView}
 use Rattle.job_programs.specs.Information.{JobInformationView}
 use Rattle.job_inputs.specs.JobInput.{JobInputView}

@@ -4,7 +4,7 @@ use Rattle.std.proofs.Common.{Some, None, Result, Ok, Err, All, refl, sym, ap, â
 use Rattle.std.specs.Prelude.{is_ok}
 use Rattle.std.specs.List.{AllZip}
 use Rattle.clap.specs.Words.{Text}
-use Rattle.demux.specs.Views.{FindingView}
+use Rattle.pid_findings.specs.Views.{FindingView}
 use Rattle.packet_sync.specs.OtherPackets.{other_packets}
 use Rattle.packet_sync.specs.Slips.{carried}
 use Rattle.packet_sync.specs.declared.packet_sizes.OtherPackets.{OtherPackets}

@@ -1,7 +1,7 @@
 -- The units of a PID, of whose findings both ways of `tsjob units` ask for the same marks.
 use Rattle.std.proofs.Common.{◌≡◌, ◌∙◌, ◌&&◌, ℕ, Bool, true, false, if◌then◌else◌, Some, List, [], ◌∷◌, map, refl, sym, ap, ap₂}
 use Rattle.demux.specs.Laws.{found_of, has_pid}
-use Rattle.demux.specs.Views.{FindingView}
+use Rattle.pid_findings.specs.Views.{FindingView}
 use Rattle.data_times.specs.DataTimes.{is_unstamped, seen_in, timed}
 use Rattle.packet_pcr.specs.declared.pcr_reading.FoundPcr.{FoundPcr}
 use Rattle.data_times.proofs.OtherPids.{others_stay}

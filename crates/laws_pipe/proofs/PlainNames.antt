@@ -10,7 +10,7 @@ use Rattle.std.proofs.lemmas.List.Elements.{All-nil, All-cons, All-from_get_or, 
 use Rattle.std.proofs.lemmas.List.Sums.{list_all-from_AllPass}
 use Rattle.std.proofs.lemmas.Str.{NoCharPasses-byte}
 use Rattle.clap.specs.Words.{Row, Text, first_of}
-use Rattle.demux.specs.Views.{FindingView}
+use Rattle.pid_findings.specs.Views.{FindingView}
 use Rattle.ts_services.specs.NetworkInformation.{FoundNetworkView}
 use Rattle.ts_services.specs.Services.{FoundServiceView}
 use Rattle.dvb_texts.specs.Texts.{characters, decode_text}

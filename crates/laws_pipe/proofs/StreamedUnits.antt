@@ -11,7 +11,7 @@ use Rattle.description_parts.specs.Described.{Described, DescribedStream}
 use Rattle.description_parts.specs.Ranges.{IsInRange}
 use Rattle.description.proofs.Pids.{pid_positions, pids_apart}
 use Rattle.description_parts.specs.Tables.{table_count}
-use Rattle.demux.specs.Views.{FindingView}
+use Rattle.pid_findings.specs.Views.{FindingView}
 use Rattle.packet_sync.specs.Slips.{carried}
 use Rattle.data_times.specs.DataTimes.{is_unstamped, seen_in, timed}
 use Rattle.data_times.specs.References.{references_in}

@@ -1,7 +1,7 @@
 -- `mux` refuses nothing of a job that is written, if it is asked for all packets.
 use Rattle.std.proofs.Common.{◌≡◌, ◌≤◌, ℕ, ◌+◌, ◌*◌, ◌/◌, ◌^◌, min, Bool, if◌then◌else◌, List, [], Option, Some, None, refl, ap, ◌∙◌, arith, unwrap_or}
 use Rattle.std.proofs.lemmas.Bool.{le-ltb}
-use Rattle.demux.specs.Views.{FindingView}
+use Rattle.pid_findings.specs.Views.{FindingView}
 use Rattle.description_parts.specs.Ranges.{IsInRange}
 use Rattle.mux_core.specs.WholeJobs.{capacity_for, first_refused, or_cause, slots_cause}
 use Rattle.mux_core.specs.declared.multiplexing.MuxError.{MuxError}

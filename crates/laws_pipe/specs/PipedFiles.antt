@@ -4,7 +4,7 @@ use Rattle.std.specs.List.{AllZip}
 use Rattle.clap.specs.Words.{Text}
 use Rattle.description_parts.specs.Described.{DescribedStream}
 use Rattle.pes_packet.specs.AccessUnits.{AccessUnit}
-use Rattle.demux.specs.Views.{FindingView}
+use Rattle.pid_findings.specs.Views.{FindingView}
 use Rattle.es_units.specs.CarriedUnits.{wire_units, apart_wire_units}
 use Rattle.job_inputs.specs.JobInput.{JobInputView, job_input}
 use Rattle.job_programs.specs.JobOptions.{JobOptionsView}
@@ -26,19 +26,19 @@ use Rattle.tsmux_cli.specs.MuxJobs.{MuxJobView, greatest_dts, mux_job_of}
 use Rattle.tsmux_cli.specs.Multiplexing.{IsKept, packets_of}
 use Rattle.laws_pipe.specs.PipedJobs.{AreLater, MuxesAll}
 
--- ---- what is read of what is written
+-- ---- the job that is read from the output
 
 -- the description, the plan and the units of a job of several streams that is written; there is no second plan
 abbrev pub as_joined_job : {w : JobOptionsView} {inputs : List (List FindingView)} {j : JoinedInputsView} {output : List ℕ} → GivesJobIn w inputs j output →
     MuxJobView
 as_joined_job job = record { description = job.description; plan = job.plan; second = None; units = job.units }
 
--- a job takes this of what is found in a stream of some number of whole packets
+-- a job takes this input from the findings in a stream of some number of whole packets
 pub record TakesInput (w : JobOptionsView) (findings : List FindingView) (m : JobInputView) : Type 0 where
   pub count : ℕ
   pub is : job_input w count findings ≡ Ok m
 
--- so a job of one stream or several is read, whatever words before the names of their files ask for it: one of what it takes of each of them, joined
+-- a job of one stream or several is read, whatever words before the names of their files ask for it: a job of the inputs from each stream, joined
 abbrev pub JoinedIsRead : Type 0
 JoinedIsRead = (words : List Text) (a : JobArgumentsView) (inputs : List (List FindingView)) (ms : List JobInputView) (j : JoinedInputsView) (output : List ℕ) →
     file_arguments words ≡ Some a →
@@ -47,7 +47,7 @@ JoinedIsRead = (words : List Text) (a : JobArgumentsView) (inputs : List (List F
 
 -- ---- both programs
 
--- words ask `tsjob` for a whole job of the streams in files; no device ended it, nor want of memory, of which the status would be 3, and its writer,
+-- words ask `tsjob` for a whole job of the streams in files; no device failed and memory sufficed (otherwise the status would be 3), and its writer,
 -- which held nothing, has these bytes, not none
 pub record WritesJobOfFiles (words : List Text) (a : JobArgumentsView) (files : Files) (output : List ℕ) (input job faults : Device) (status : ℕ) : Type 0 where
   pub asked : file_arguments words ≡ Some a
@@ -58,31 +58,31 @@ pub record WritesJobOfFiles (words : List Text) (a : JobArgumentsView) (files : 
   pub output_is : job.after.bytes ≡ Some output
   pub some : 0 < length output
 
--- the units that are found of a stream in the input where it was found, on the PID that it had there, each of a data stream with a DTS of its own
+-- the units of a stream in the input where it was found, on its PID there, with distinct DTS in a data stream
 abbrev pub wire_units_in : List (List FindingView) → Origin → List AccessUnit
 wire_units_in inputs from = apart_wire_units from.pid (findings_in inputs from.input)
 
--- what goes through both
+-- a stream goes through both programs
 pub record FilesGoThrough (a : JobArgumentsView) (o : MuxOptions) (files : Files) (names : List Text) (output : List ℕ)
     (packets faults : Device) (status : ℕ) : Type 0 where
-  -- the streams in the files, of which the bytes are those that the files have, where these are known
+  -- the streams in the files, with the bytes of the files, if these are known
   pub streams : List NamedStream
   pub streams_are : AllZip (HasRead files) names streams
-  -- what of each a job is made of, all of it joined, and the job that `tsjob` wrote
+  -- the input that a job takes from each stream, all of them joined, and the job that `tsjob` wrote
   pub inputs : List JobInputView
   pub inputs_are : stream_inputs a.options 0 streams ≡ Ok inputs
   pub joined : JoinedInputsView
   pub joined_is : all_joined inputs ≡ Ok joined
   pub job : GivesJobIn a.options (all_findings a.options streams) joined output
-  -- `mux` read that job, refused nothing and told nothing
+  -- `mux` read that job, refused nothing and reported nothing
   pub read : mux_job_of false output ≡ Ok (as_joined_job job)
   pub good : status ≡ 0
   pub silent : Reports faults []
   -- it wrote its packets, which keep every promise
   pub written : Takes packets (packets_of o (as_joined_job job))
   pub kept : IsKept o (as_joined_job job)
-  -- each stream was found in one of the inputs; and in the packets a demultiplexer finds its units that it finds on its PID there, with the marks that
-  -- are asked for, later by the time of the clock by which it counts there
+  -- each stream was found in an input; and in the packets a demultiplexer finds the units that it finds on the stream's PID there, with the marks that
+  -- are asked for, later by a time of their clock there
   pub origins : length joined.origins ≡ length job.description.streams
   pub time : ℕ → ProgramClock → ℕ
   pub units : a.options.make_dts ≡ false → o.hex ≡ false → greatest_dts job.units ≤ 2 ^ 40 →

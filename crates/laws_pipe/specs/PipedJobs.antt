@@ -3,7 +3,7 @@ use Rattle.std.specs.Prelude.{◌≡◌, ◌≤◌, ◌<◌, ℕ, ◌/◌, ◌^�
 use Rattle.clap.specs.Words.{Text}
 use Rattle.pes_packet.specs.AccessUnits.{AccessUnit}
 use Rattle.description_parts.specs.Described.{DescribedStream}
-use Rattle.demux.specs.Views.{FindingView}
+use Rattle.pid_findings.specs.Views.{FindingView}
 use Rattle.packet_sync.specs.Slips.{carried}
 use Rattle.es_units.specs.CarriedUnits.{wire_units, apart_wire_units}
 use Rattle.job_programs.specs.Information.{information_of}
@@ -24,13 +24,13 @@ use Rattle.tsmux_cli.specs.declared.request.MuxOptions.{MuxOptions}
 use Rattle.tsmux_cli.specs.MuxJobs.{MuxJobView, greatest_dts, mux_job_of}
 use Rattle.tsmux_cli.specs.Multiplexing.{IsKept, Muxes, packets_of}
 
--- ---- what is read of what is written
+-- ---- the job that is read from the output
 
 -- the description, the plan and the units of a job that is written; there is no second plan
 abbrev pub as_mux_job : {w : JobOptionsView} {findings : List FindingView} {m : JobInputView} {output : List ℕ} → GivesJob w findings m output → MuxJobView
 as_mux_job job = record { description = job.description; plan = job.plan; second = None; units = job.units }
 
--- so a job is read, whatever words ask for it, where it says of the transport stream as a whole what is found of a transport_stream_id
+-- a job is read, whatever words ask for it, if its information about the whole transport stream comes from the findings, with a transport_stream_id
 abbrev pub WrittenIsRead : Type 0
 WrittenIsRead = (words : List Text) (a : JobArgumentsView) (id : ℕ) (findings : List FindingView) (m : JobInputView) (output : List ℕ) →
     arguments_in words ≡ Some a →
@@ -56,25 +56,25 @@ pub record MuxesAll (o : MuxOptions) (output : List ℕ) (job packets faults : D
   pub known : job.before.bytes ≡ Some output
   pub ends : Ends (Muxes o) job packets faults status
 
--- units are those before, all of them in order: their bytes are the same, and their stamps are later by a time, modulo 2^33
+-- units are the same units, all of them in order: their bytes are the same, and their stamps are later by a time, modulo 2^33
 abbrev pub AreLater : ℕ → List AccessUnit → List AccessUnit → Type 0
 AreLater time before after = after ≡ map (later_by time) before
 
--- what goes through both
+-- a stream goes through both programs
 pub record GoesThrough (a : JobArgumentsView) (o : MuxOptions) (bytes output : List ℕ) (packets faults : Device) (status : ℕ) : Type 0 where
-  -- what of the stream a job is made of, and the job that `tsjob` wrote
+  -- the input that a job takes from the stream, and the job that `tsjob` wrote
   pub input : JobInputView
   pub input_is : job_input a.options (length (carried bytes) / 188) (findings_for a.options bytes) ≡ Ok input
   pub job : GivesJob a.options (findings_for a.options bytes) input output
-  -- `mux` read that job, refused nothing and told nothing
+  -- `mux` read that job, refused nothing and reported nothing
   pub read : mux_job_of false output ≡ Ok (as_mux_job job)
   pub good : status ≡ 0
   pub silent : Reports faults []
   -- it wrote its packets, which keep every promise
   pub written : Takes packets (packets_of o (as_mux_job job))
   pub kept : IsKept o (as_mux_job job)
-  -- and in them a demultiplexer finds the units of each of its streams that it finds in the input, with the marks that are asked for, each of a data
-  -- stream with a DTS of its own, later by the time of the clock of its program there
+  -- in the packets a demultiplexer finds the units of each stream that it finds in the input, with the marks that are asked for, and in a data stream
+  -- with distinct DTS, later by the time of the clock of its program there
   pub time : ProgramClock → ℕ
   pub units : a.options.make_dts ≡ false → o.hex ≡ false → greatest_dts job.units ≤ 2 ^ 40 →
       (k : ℕ) (s : DescribedStream) → slice_get job.description.streams k ≡ Some s →

@@ -1,4 +1,4 @@
--- What `tsjob units --stream` writes of a stream while it comes, beside what `tsjob units` writes of the whole.
+-- The output of `tsjob units --stream` for a stream while it comes, compared with the output of `tsjob units` for the whole stream.
 use Rattle.std.specs.Prelude.{◌≡◌, ◌≤◌, ◌<◌, ℕ, ◌+◌, ◌/◌, true, false, List, [], length, map, slice_get, Some, Ok, All}
 use Rattle.clap.specs.Words.{Text}
 use Rattle.pes_packet.specs.AccessUnits.{AccessUnit}
@@ -41,16 +41,16 @@ pub record WritesUnits (words : List Text) (a : JobArgumentsView) (bytes output 
   pub output_is : records.after.bytes ≡ Some output
   pub some : 0 < length output
 
--- over these bytes it went by options and a description, to their end and with nothing to tell; its writer, which held nothing, has these records
+-- the program read these bytes to their end, by options and a description, and reported nothing; its writer, which held nothing, has these records
 pub record StreamsUnits (w : JobOptionsView) (d : Described) (bytes output : List ℕ) (stream records faults : Device) : Type 0 where
   pub known : stream.before.bytes ≡ Some bytes
   pub goes : GoesBy w d stream records faults 0
   pub empty : records.before.bytes ≡ Some []
   pub output_is : records.after.bytes ≡ Some output
 
--- ---- what they wrote
+-- ---- the outputs of both
 
--- of a PID both ask for the same marks: of the same stream_type, if access points are marked at all, and aligned or not
+-- for a PID both ask for the same marks: with the same stream_type, if access points are marked at all, and aligned or not
 pub record AreMarkedAlike (whole streamed : MarkingView) (pid : ℕ) : Type 0 where
   pub typed : type_of pid whole.access ≡ type_of pid streamed.access
   pub aligned : is_aligned whole.aligned (Some pid) ≡ is_aligned streamed.aligned (Some pid)
@@ -66,28 +66,28 @@ pub record AreAlike (a : JobArgumentsView) (w : JobOptionsView) (d : Described) 
   pub one_clock : All (λ t. clock_of input.programs t ≡ clock) input.streams
   -- each unit is one PES packet that nothing interrupts
   pub alone : All (λ t. one_by_one t.pid (findings_for a.options bytes) ≡ true) input.streams
-  -- none is teletext without stamps
+  -- no stream is teletext without stamps
   pub stamped : All (λ t. is_unstamped (seen_in (asked_findings a.options bytes)) t.pid ≡ false) input.streams
   -- the same marks are asked for
   pub marks : All (λ t. AreMarkedAlike (marking_of a.options (findings_of (carried bytes))) (marking_by w d) t.pid) input.streams
-  -- the first unit of a stream is due no later than three seconds after the first one of another
+  -- the first unit of a stream is due no later than three seconds after the first unit of another stream
   pub near : (j k : ℕ) (s t : TimedStreamView) (u v : AccessUnit) → slice_get input.streams j ≡ Some s → slice_get input.streams k ≡ Some t →
       slice_get s.units 0 ≡ Some u → slice_get t.units 0 ≡ Some v → u.dts ≤ v.dts + earliest
 
--- the units of each stream are the same, in the same order, and their stamps are apart by one time, that is one of all streams
+-- the units of each stream are the same, in the same order, and their stamps are apart by one time, the same for all streams
 pub record AreLaterByOne (count : ℕ) (fed : List Fed) (units : List (ℕ × AccessUnit)) : Type 0 where
   pub here : ℕ
   pub there : ℕ
   pub are : (k : ℕ) → k < count → map (after_time here) (units_fed k fed) ≡ map (after_time there) (units_of k units)
 
 pub record WriteTheSame (a : JobArgumentsView) (w : JobOptionsView) (d : Described) (bytes whole streamed : List ℕ) : Type 0 where
-  -- what of the stream a job is made of, and its units, whose records `tsjob units` wrote
+  -- the input that a job takes from the stream, and its units, whose records `tsjob units` wrote
   pub input : JobInputView
   pub input_is : job_input a.options (length (carried bytes) / 188) (findings_for a.options bytes) ≡ Ok input
   pub units : List (ℕ × AccessUnit)
   pub merged : AreMerged (map (λ t. t.units) input.streams) units
   pub whole_is : whole ≡ records_of units
-  -- what was fed, whose records `tsjob units --stream` wrote
+  -- the fed records that `tsjob units --stream` wrote
   pub fed : List Fed
   pub streamed_is : streamed ≡ fed_records fed
   pub same : AreAlike a w d bytes input → AreLaterByOne (length d.streams) fed units
@@ -97,7 +97,7 @@ TheSameUnits = (words : List Text) (a : JobArgumentsView) (w : JobOptionsView) (
     (status : ℕ) (other passed silent : Device) → IsInRange d →
     WritesUnits words a bytes whole one records told status → StreamsUnits w d bytes streamed other passed silent → WriteTheSame a w d bytes whole streamed
 
--- both ask for the same marks if neither asks for those of access points, and both for the same alignment or for none
+-- both ask for the same marks if neither asks for marks of access points, and both for the same alignment or for none
 abbrev pub AskAlike : Type 0
 AskAlike = (a : JobArgumentsView) (w : JobOptionsView) (d : Described) (bytes : List ℕ) (pid : ℕ) → a.options.mark_access ≡ false → w.mark_access ≡ false →
     a.options.aligned ≡ w.aligned → AreMarkedAlike (marking_of a.options (findings_of (carried bytes))) (marking_by w d) pid

@@ -12,16 +12,15 @@ pub fn written_is_read()
 
 /// States that, if `tsjob` ran to its end and wrote a job, and `mux`, asked for all its packets over one plan, ran to
 /// its end over these bytes, `mux` refused nothing and reported nothing: its status is 0, and it wrote the packets of
-/// that job's units, which keep every promise. Where the DTS are the stream's own, what a demultiplexer finds in these
-/// packets on the PID of each stream of the job are all units that it finds there in the input, and no other: in order,
-/// their bytes the same, with the marks that are asked for, their stamps later by a constant, modulo 2^33, which is one
-/// for all programs of a clock of the input. If units of a data stream in a row have one DTS, all but the last are
-/// decoded a little earlier. Teletext without stamps has in the input the moments at which it came; with `--joined`, the
-/// parts of a joined recording have there the stamps that they have one after another.
+/// that job's units, which keep every promise. If the DTS are the stream's own, a demultiplexer finds in these packets,
+/// on the PID of each stream of the job, all units that it finds there in the input, and no further unit: in order,
+/// their bytes the same, with the marks that the options ask for, their stamps later by a constant, modulo 2^33, which
+/// all programs of a clock of the input share. If units of a data stream in a row have one DTS, all but the last are
+/// decoded a little earlier. Teletext without stamps has in the input the moments at which it arrived; with `--joined`,
+/// the parts of a joined recording have there the stamps that they have one after another.
 ///
-/// A device that fails, or memory that runs out, ends either program earlier, with status 3. The writer held nothing
-/// before, and its bytes are known; what a demultiplexer finds is said of jobs whose units are due within 2^40 units of
-/// 90 kHz.
+/// If a device fails or memory runs out, either program ends earlier, with status 3. The writer held nothing before,
+/// and its bytes are known; the units found are described for jobs whose units are due within 2^40 units of 90 kHz.
 pub fn goes_through()
     ensures { ThePipe }
 {
@@ -37,17 +36,17 @@ pub fn joined_is_read()
 
 /// States that, if `tsjob -- FILE..` wrote a job of the streams in these files, and its status was not 3, and `mux`,
 /// asked for all its packets over one plan, ran to its end over these bytes, `mux` refused nothing and reported
-/// nothing: its status is 0, and it wrote the packets of that job's units, which keep every promise. Where the DTS are
-/// the streams' own, what a demultiplexer finds in these packets on the PID of each stream of the job are all units
-/// that it finds in the input where the stream was found, on the PID that it had there, and no other: in order, their
-/// bytes the same, with the marks that are asked for, their stamps later by a constant, modulo 2^33, which is one for
-/// all programs of a clock of that input. If units of a data stream in a row have one DTS, all but the last are decoded
-/// a little earlier. Teletext without stamps has in the input the moments at which it came; with `--joined`, the parts of
-/// a joined recording have there the stamps that they have one after another.
+/// nothing: its status is 0, and it wrote the packets of that job's units, which keep every promise. If the DTS are the
+/// streams' own, a demultiplexer finds in these packets, on the PID of each stream of the job, all units that it finds
+/// in the input where the stream was found, on the PID that it had there, and no further unit: in order, their bytes
+/// the same, with the marks that the options ask for, their stamps later by a constant, modulo 2^33, which all programs
+/// of a clock of that input share. If units of a data stream in a row have one DTS, all but the last are decoded a
+/// little earlier. Teletext without stamps has in the input the moments at which it arrived; with `--joined`, the parts
+/// of a joined recording have there the stamps that they have one after another.
 ///
-/// A device that fails, a file that can't be opened or read, or memory that runs out, ends `tsjob` with status 3. The
-/// writer held nothing before, and its bytes are known, the files' need not be; what a demultiplexer finds is said of
-/// jobs whose units are due within 2^40 units of 90 kHz.
+/// If a device fails, a file can't be opened or read, or memory runs out, `tsjob` ends with status 3. The writer held
+/// nothing before, and its bytes are known, the files' need not be; the units found are described for jobs whose units
+/// are due within 2^40 units of 90 kHz.
 pub fn joined_goes_through()
     ensures { TheFilePipe }
 {

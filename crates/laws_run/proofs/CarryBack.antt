@@ -23,7 +23,7 @@ use Rattle.ts_packet.specs.PidList.{Entry}
 use Rattle.slot_contents.specs.Contents.{Content, Payload, Piece, run_bytes, payloads_in, payload_entries}
 use Rattle.slot_contents.specs.RunLaws.{Fits}
 use Rattle.slot_contents.proofs.Counts.{run_payload_entries}
-use Rattle.demux.specs.Views.{FindingView}
+use Rattle.pid_findings.specs.Views.{FindingView}
 use Rattle.demux.specs.Laws.{with_pid_at, has_pid, found_of}
 use Rattle.unit_queue.specs.OwnedStreams.{has_access}
 use Rattle.unit_queue.specs.Payloads.{marked, piece_in}

@@ -17,7 +17,7 @@ use Rattle.description_parts.specs.Tables.{table_kinds, table_kind, table_count,
 use Rattle.description.specs.SectionBytes.{table_bytes}
 use Rattle.description_parts.specs.declared.table_kind.TableKind.{TableKind}
 use Rattle.description_parts.specs.declared.table_kind.TableKind.TheVariants.{Pat, Pmt, Nit, Sdt, Eit, Tdt, Private}
-use Rattle.demux.specs.Roles.{may_begin_pes}
+use Rattle.pid_findings.specs.Roles.{may_begin_pes}
 use Rattle.table_rounds.specs.Tables.{Table, moment_of}
 use Rattle.laws_pid.specs.Sections.{IsRecognized}
 use Rattle.laws_pid.specs.Rounds.{sections_from, round_sections}

@@ -10,9 +10,10 @@ use Rattle.slot_contents.specs.Contents.{run_bytes}
 use Rattle.description_parts.specs.Described.{DescribedStream}
 use Rattle.description_parts.specs.Ranges.{IsInRange}
 use Rattle.description_parts.specs.Tables.{table_count, table_pid}
-use Rattle.demux.specs.Views.{WhatView, IsDuplicate, BreaksCounter, IsScrambled, IsTruncated, IsSection, IsBadSection, IsPes, IsBadPes, IsBadPacket, IsErrored}
-use Rattle.demux.specs.Views.{IsStray}
-use Rattle.demux.specs.Views.{PidFinding, FindingView}
+use Rattle.pid_findings.specs.Views.{WhatView, IsDuplicate, BreaksCounter, IsScrambled, IsTruncated, IsSection, IsBadSection, IsPes, IsBadPes, IsBadPacket}
+use Rattle.pid_findings.specs.Views.{IsErrored}
+use Rattle.pid_findings.specs.Views.{IsStray}
+use Rattle.pid_findings.specs.Views.{PidFinding, FindingView}
 use Rattle.demux.specs.Laws.{with_pid_at}
 use Rattle.table_rounds.specs.Tables.{round_places}
 use Rattle.unit_queue.specs.OwnedStreams.{has_access}

@@ -23,7 +23,7 @@ use Rattle.description_parts.specs.Described.{Described, DescribedNetwork, Descr
 use Rattle.description_parts.specs.Ranges.{IsInRange, IsProgram}
 use Rattle.description_parts.specs.Tables.{table_count}
 use Rattle.description.specs.SectionBytes.{network_entries, pat_entry, pat_says, table_bytes}
-use Rattle.demux.specs.Views.{WhatView, IsSection, IsTruncated, PidFinding, FindingView}
+use Rattle.pid_findings.specs.Views.{WhatView, IsSection, IsTruncated, PidFinding, FindingView}
 use Rattle.demux.specs.Laws.{with_pid_at}
 use Rattle.table_rounds.specs.Tables.{round_places}
 use Rattle.table_rounds.specs.Payloads.{TableIsAlone}

@@ -11,7 +11,7 @@ use Rattle.ts_packet.specs.declared.start.Start.TheVariants.{Continues, Begins}
 use Rattle.ts_packet.specs.Beginnings.{is_start, start_in}
 use Rattle.ts_packet.specs.PidList.{Entry, is_of_pid, pid_list}
 use Rattle.slot_contents.specs.Contents.{Content, Payload, Piece, view_of, run_bytes, entry_at, entries_in, payload_at}
-use Rattle.demux.specs.Views.{PidFinding, FindingView}
+use Rattle.pid_findings.specs.Views.{PidFinding, FindingView}
 use Rattle.demux.specs.Laws.{with_pid_at}
 use Rattle.monitor.specs.Begins.{table_begin, table_begins}
 use Rattle.table_rounds.proofs.SectionStarts.{start_indicated}

@@ -13,10 +13,11 @@ use Rattle.slot_contents.specs.Contents.{Content, PayloadContent, PcrContent, Nu
 use Rattle.slot_contents.specs.RunLaws.{Fits}
 use Rattle.slot_contents.proofs.Runs.{content_again, run_length}
 use Rattle.ts_packet.proofs.Listing.{first_cut}
-use Rattle.demux.specs.Views.{WhatView, IsDuplicate, BreaksCounter, IsScrambled, IsTruncated, IsSection, IsBadSection, IsPes, IsBadPes, IsBadPacket, IsErrored}
-use Rattle.demux.specs.Views.{IsStray}
-use Rattle.demux.specs.Views.{PidFinding}
-use Rattle.demux.specs.Findings.{findings_to_end}
+use Rattle.pid_findings.specs.Views.{WhatView, IsDuplicate, BreaksCounter, IsScrambled, IsTruncated, IsSection, IsBadSection, IsPes, IsBadPes, IsBadPacket}
+use Rattle.pid_findings.specs.Views.{IsErrored}
+use Rattle.pid_findings.specs.Views.{IsStray}
+use Rattle.pid_findings.specs.Views.{PidFinding}
+use Rattle.pid_findings.specs.Findings.{findings_to_end}
 use Rattle.demux.specs.Laws.{with_pid_at}
 use Rattle.demux.proofs.WholeStream.{each_pid_alone}
 use Rattle.monitor.specs.declared.fault.StreamFault.{StreamFault}

@@ -16,7 +16,7 @@ use Rattle.description_parts.specs.Described.{DescribedStream}
 use Rattle.description_parts.specs.Ranges.{IsInRange}
 use Rattle.description_parts.specs.Tables.{table_pid}
 use Rattle.description.proofs.Pids.{stream_range}
-use Rattle.demux.specs.Findings.{findings_to_end}
+use Rattle.pid_findings.specs.Findings.{findings_to_end}
 use Rattle.slot_plan.specs.declared.slot.Item.TheVariants.{Stream as StreamItem}
 use Rattle.slot_plan.specs.Schedule.{owned}
 use Rattle.plan_timing.specs.Promised.{declaration, Promised}

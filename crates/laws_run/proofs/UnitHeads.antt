@@ -4,7 +4,7 @@ use Rattle.std.specs.List.{filter_map}
 use Rattle.std.proofs.lemmas.Bool.{cases_Bool}
 use Rattle.pes_packet.specs.AccessUnits.{AccessUnit}
 use Rattle.pes_packet.specs.Encoding.{pes_packet_bytes}
-use Rattle.demux.specs.Views.{PidFinding, FindingView}
+use Rattle.pid_findings.specs.Views.{PidFinding, FindingView}
 use Rattle.demux.specs.Laws.{with_pid_at}
 use Rattle.monitor.specs.Begins.{pts_begin, pts_begins}
 use Rattle.unit_queue.specs.OwnedStreams.{has_access}

@@ -1,4 +1,4 @@
--- What comes back of `carry`, whose output is the packets of one stream's units, one after the other.
+-- What a demultiplexer finds in the output of `carry`: the packets of one stream's units, one unit after another.
 use Rattle.std.specs.Prelude.{◌≡◌, ℕ, zero, suc, ◌+◌, ◌-◌, ◌^◌, ◌<◌, false, IsTrue, List, [], ◌∷◌, length, map, sum_by, Some, All}
 use Rattle.pes_packet.specs.AccessUnits.{AccessUnit}
 use Rattle.pes_packet.specs.StreamIds.{is_unit_id, fits_packet}
@@ -13,7 +13,7 @@ unfoldable pub packets_from : ℕ → ℕ → List ℕ
 packets_from i zero = []
 packets_from i (suc n) = i ∷ packets_from (suc i) n
 
--- each unit with its packets, of which the first is packet i and each follows the one before
+-- each unit with its packets, from packet i on without a gap
 unfoldable pub in_a_row : ℕ → ℕ → List AccessUnit → List (Sending AccessUnit)
 in_a_row id i [] = []
 in_a_row id i (u ∷ us) = record { item = u; packets = packets_from i (unit_packets id 0 u) } ∷ in_a_row id (i + unit_packets id 0 u) us
@@ -22,19 +22,19 @@ in_a_row id i (u ∷ us) = record { item = u; packets = packets_from i (unit_pac
 abbrev pub packet_count : ℕ → List AccessUnit → ℕ
 packet_count id us = sum_by (unit_packets id 0) us
 
--- what is found in the packets of units on a PID
+-- the findings in the packets of units on a PID
 pub record CarriedBack (pid id : ℕ) (us : List AccessUnit) (bytes : List ℕ) : Type 0 where
-  -- each unit, whole; the last one, if it has no PES_packet_length, as one that did not end
+  -- each unit, whole; the last unit, if it has no PES_packet_length, as a PES packet that did not end
   pub units : found_on pid bytes ≡ map (with_pid_at pid) (each_found (unit_found id 0) (packet_count id us) (in_a_row id 0 us))
-  -- and nothing else, in the order of the packets
+  -- nothing else, in the order of the packets
   pub nothing_else : All (λ f. f.pid ≡ Some pid) (all_found bytes)
   pub in_order : InOrder 0 (packet_count id us) (all_found bytes)
 
--- so of all units that may be PES packets, in fewer packets than a demultiplexer counts
+-- this holds for all units that fit PES packets, in fewer packets than a demultiplexer counts
 abbrev pub CarriedBackLaw : Type 0
 CarriedBackLaw = (pid id : ℕ) (us : List AccessUnit) → pid < 8191 → All (λ u. IsTrue (fits_packet id (length u.bytes))) us → packet_count id us < 2 ^ 64 - 1 →
     CarriedBack pid id us (carried false pid id us)
 
--- as are all that `carry` accepts, whatever its input
+-- all units that `carry` accepts fit, whatever its input
 abbrev pub AcceptedUnitsFit : Type 0
 AcceptedUnitsFit = (id : ℕ) (xs : List ℕ) → IsTrue (is_unit_id id) → All (λ u. IsTrue (fits_packet id (length u.bytes))) (run_of id xs).units

@@ -6,9 +6,10 @@ use Rattle.slot_contents.specs.Contents.{run_bytes}
 use Rattle.description_parts.specs.Described.{DescribedStream}
 use Rattle.description_parts.specs.Tables.{table_count, table_pid}
 use Rattle.description_parts.specs.Ranges.{IsInRange}
-use Rattle.demux.specs.Views.{WhatView, IsDuplicate, BreaksCounter, IsScrambled, IsTruncated, IsSection, IsBadSection, IsPes, IsBadPes, IsBadPacket, IsErrored}
-use Rattle.demux.specs.Views.{IsStray}
-use Rattle.demux.specs.Views.{FindingView}
+use Rattle.pid_findings.specs.Views.{WhatView, IsDuplicate, BreaksCounter, IsScrambled, IsTruncated, IsSection, IsBadSection, IsPes, IsBadPes, IsBadPacket}
+use Rattle.pid_findings.specs.Views.{IsErrored}
+use Rattle.pid_findings.specs.Views.{IsStray}
+use Rattle.pid_findings.specs.Views.{FindingView}
 use Rattle.laws_pid.specs.Laws.{all_found, found_on}
 use Rattle.mux_core.specs.Scheduled.{Scheduled}
 use Rattle.mux_core.specs.Histories.{History, empty_history, content_at, bytes_of}
@@ -45,7 +46,7 @@ fault_of (IsStray size) = None
 abbrev pub NoneIs : Fault → List FindingView → Type 0
 NoneIs fault found = All (λ f. fault_of f.what ≡ Some fault → ⊥) found
 
--- what is found in the bytes of a run, with their end
+-- the findings in the bytes of a run, with their end
 pub record IsClean (d : Scheduled) (bytes : List ℕ) : Type 0 where
   -- each packet can be read, and none has the transport_error_indicator
   pub packets : NoneIs RefusedPacket (all_found bytes)
@@ -56,21 +57,21 @@ pub record IsClean (d : Scheduled) (bytes : List ℕ) : Type 0 where
   pub clear : NoneIs ScrambledPacket (all_found bytes)
   -- no section is refused, whatever the ready-made ones begin with
   pub sections : NoneIs RefusedSection (all_found bytes)
-  -- and no PES packet, on a stream's PID or on a table's whose sections are distinguishable
+  -- no PES packet is refused, on a stream's PID or on the PID of a table whose sections are distinguishable
   pub stream_pes : (k : ℕ) (s : DescribedStream) → slice_get d.description.streams k ≡ Some s → NoneIs RefusedPes (found_on s.pid bytes)
   pub table_pes : (t : ℕ) → t < table_count d.description → IsDistinguishable d.description t → NoneIs RefusedPes (found_on (table_pid d.description t) bytes)
 
--- so of every run of fewer slots than a demultiplexer counts, over whatever schedule
+-- this holds for every run of fewer slots than a demultiplexer counts, over any schedule
 abbrev pub CleanLaw : Type 0
 CleanLaw = (d : Scheduled) (units : ℕ → List AccessUnit) (n : ℕ) → IsInRange d.description → UnitsKept d units → n < 2 ^ 64 - 1 →
     IsClean d (run_bytes (content_at d units) 0 n)
 
--- so of what a multiplexer stands for, in each number of its slots
+-- this holds for the history that a multiplexer has, in each number of its slots
 abbrev pub StandingCleanLaw : Type 0
 StandingCleanLaw = (h : History) (m : MuxState) (n : ℕ) → IsInRange m.schedule.description → Stands h m → n ≤ 2 ^ 40 →
     IsClean m.schedule (run_bytes (content_at m.schedule h.units) 0 n)
 
--- so of the history that any units and slots leave, in any order
+-- this holds for the history that any units and slots leave, in any order
 abbrev pub DrivenCleanLaw : Type 0
 DrivenCleanLaw = (d : Scheduled) (capacity : ℕ) (steps : List Step) → IsInRange d.description →
     IsClean d (bytes_of d (history_after d capacity empty_history steps))

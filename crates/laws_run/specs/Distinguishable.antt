@@ -6,12 +6,12 @@ use Rattle.description_parts.specs.Tables.{table_kind}
 use Rattle.description_parts.specs.declared.table_kind.TableKind.{TableKind}
 use Rattle.description_parts.specs.declared.table_kind.TableKind.TheVariants.{Pat, Pmt, Nit, Sdt, Eit, Tdt, Private}
 
--- a section that is taken for something else: its table_id is that of stuffing (ISO/IEC 13818-1, 2.4.4), or after pointer_field 0 it begins
--- as a PES packet does (2.4.3.6)
+-- whether a section is taken for something else: its table_id is 0xFF, stuffing (ISO/IEC 13818-1, 2.4.4), or after pointer_field 0 it begins
+-- like a PES packet (2.4.3.6)
 abbrev pub is_mistaken : List ℕ → Bool
 is_mistaken bytes = (slice_index bytes 0 == 0xFF) || ((slice_index bytes 0 == 0x00) && (slice_index bytes 1 == 0x01))
 
--- the ready-made sections of a table: none of one that is made from the description
+-- the ready-made sections of a table; a table that is made from the description has none
 abbrev pub private_sections : Option DescribedTable → List (List ℕ)
 private_sections None = []
 private_sections (Some table) = table.sections

@@ -5,7 +5,7 @@ use Rattle.slot_contents.specs.Contents.{run_bytes}
 use Rattle.description_parts.specs.Described.{Described, DescribedStream}
 use Rattle.description_parts.specs.Tables.{table_count, table_pid}
 use Rattle.description_parts.specs.Ranges.{IsInRange}
-use Rattle.demux.specs.Views.{FindingView}
+use Rattle.pid_findings.specs.Views.{FindingView}
 use Rattle.demux.specs.Laws.{with_pid_at}
 use Rattle.laws_pid.specs.Sent.{each_found}
 use Rattle.laws_pid.specs.Units.{unit_found}
@@ -19,15 +19,15 @@ use Rattle.mux_core.specs.Events.{Step, history_after}
 use Rattle.laws_run.specs.Placed.{sent_units, sent_sections}
 use Rattle.laws_run.specs.Distinguishable.{IsDistinguishable}
 
--- ---- what is expected
+-- ---- the expected findings
 
--- of a stream: one finding of each unit of which anything was sent, in order. A unit that was sent whole is there with its stream_id, its
--- stamps as on the wire and its data; the last one may be cut short
+-- for a stream: one finding for each unit with a sent packet, in order. A unit that was sent whole is found with its stream_id, its stamps
+-- as on the wire and its data; the last unit may be cut short
 abbrev pub stream_findings : Scheduled → (ℕ → List AccessUnit) → ℕ → ℕ → DescribedStream → List FindingView
 stream_findings d units n k s =
     map (with_pid_at s.pid) (each_found (unit_found s.stream_id d.description.base0) n (sent_units (owned_stream d k s) n (units k)))
 
--- of a table: one finding of each section of which anything was sent, in order
+-- for a table: one finding for each section with a sent packet, in order
 abbrev pub table_findings : Scheduled → ℕ → ℕ → List FindingView
 table_findings d n t = map (with_pid_at (table_pid d.description t)) (each_found section_found n (sent_sections (table_of d t) n))
 
@@ -40,29 +40,29 @@ IsSentOn d pid = ((k : ℕ) × (s : DescribedStream) × (slice_get d.streams k �
 abbrev pub IsOfSent : Described → FindingView → Type 0
 IsOfSent d f = (pid : ℕ) × (f.pid ≡ Some pid) × IsSentOn d pid
 
--- what is found in the bytes of the first n slots
+-- the findings in the bytes of the first n slots
 pub record GivenBack (d : Scheduled) (units : ℕ → List AccessUnit) (n : ℕ) (bytes : List ℕ) : Type 0 where
   -- on a stream's PID exactly its units
   pub streams : (k : ℕ) (s : DescribedStream) → slice_get d.description.streams k ≡ Some s → found_on s.pid bytes ≡ stream_findings d units n k s
   -- on a table's PID exactly its sections, if these are distinguishable
   pub tables : (t : ℕ) → t < table_count d.description → IsDistinguishable d.description t → found_on (table_pid d.description t) bytes ≡ table_findings d n t
-  -- and nothing else, on any PID or on none
+  -- nothing else, on any PID or on none
   pub nothing_else : All (IsOfSent d.description) (all_found bytes)
-  -- in the order of the packets; what the end decides comes last, with the number of packets
+  -- in the order of the packets; findings that the end decides come last, with the number of packets
   pub in_order : InOrder 0 n (all_found bytes)
 
--- so of every run of fewer slots than a demultiplexer counts, over whatever schedule
+-- this holds for every run of fewer slots than a demultiplexer counts, over any schedule
 abbrev pub GivenBackLaw : Type 0
 GivenBackLaw = (d : Scheduled) (units : ℕ → List AccessUnit) (n : ℕ) → IsInRange d.description → UnitsKept d units → n < 2 ^ 64 - 1 →
     GivenBack d units n (run_bytes (content_at d units) 0 n)
 
--- so of what a multiplexer stands for, in each number of its slots
+-- this holds for the history that a multiplexer has, in each number of its slots
 abbrev pub StandingLaw : Type 0
 StandingLaw = (h : History) (m : MuxState) (n : ℕ) → IsInRange m.schedule.description → Stands h m → n ≤ 2 ^ 40 →
     GivenBack m.schedule h.units n (run_bytes (content_at m.schedule h.units) 0 n)
 
--- so of the history that any units and slots leave, in any order, where `capacity` units of a stream may wait: units that are refused are no
--- part of it
+-- this holds for the history that any units and slots leave, in any order, if `capacity` units of a stream may wait; refused units are no part
+-- of it
 abbrev pub DrivenLaw : Type 0
 DrivenLaw = (d : Scheduled) (capacity : ℕ) (steps : List Step) → IsInRange d.description →
     GivenBack d (history_after d capacity empty_history steps).units (history_after d capacity empty_history steps).slots

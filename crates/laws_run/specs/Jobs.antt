@@ -8,12 +8,12 @@ use Rattle.mux_core.specs.WholeJobs.{first_refused, capacity_for, job_history, o
 use Rattle.laws_run.specs.GivenBack.{GivenBack}
 use Rattle.laws_run.specs.Clean.{IsClean}
 
--- the bytes of a job of which no unit is refused give its units back
+-- the bytes of a job in which every unit is accepted give its units back
 abbrev pub JobLaw : Type 0
 JobLaw = (d : Scheduled) (units : List (ℕ × AccessUnit)) (n : ℕ) → IsInRange d.description → first_refused d (capacity_for units) [] units ≡ None → n ≤ 2 ^ 40 →
     GivenBack d (λ k. units_of k units) n (output_of false d (job_history units n))
 
--- and nothing is wrong with them
+-- and they have no fault
 abbrev pub JobCleanLaw : Type 0
 JobCleanLaw = (d : Scheduled) (units : List (ℕ × AccessUnit)) (n : ℕ) → IsInRange d.description → first_refused d (capacity_for units) [] units ≡ None →
     n ≤ 2 ^ 40 →

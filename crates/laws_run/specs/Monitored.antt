@@ -25,17 +25,17 @@ pub record IsSound (bytes : List ℕ) : Type 0 where
   -- on each PID each continuity_counter follows, and no section is refused, for its check word or otherwise
   pub findings : (pid : ℕ) → finding_faults pid (found_on pid bytes) ≡ []
 
--- so of every run of fewer slots than a demultiplexer counts, over whatever schedule
+-- this holds for every run of fewer slots than a demultiplexer counts, over any schedule
 abbrev pub SoundLaw : Type 0
 SoundLaw = (d : Scheduled) (units : ℕ → List AccessUnit) (n : ℕ) → IsInRange d.description → UnitsKept d units → n < 2 ^ 64 - 1 →
     IsSound (run_bytes (content_at d units) 0 n)
 
--- so of what a multiplexer stands for
+-- this holds for the history that a multiplexer has
 abbrev pub StandingSoundLaw : Type 0
 StandingSoundLaw = (h : History) (m : MuxState) (n : ℕ) → IsInRange m.schedule.description → Stands h m → n ≤ 2 ^ 40 →
     IsSound (run_bytes (content_at m.schedule h.units) 0 n)
 
--- and of a whole job
+-- and for a whole job
 abbrev pub JobSoundLaw : Type 0
 JobSoundLaw = (d : Scheduled) (units : List (ℕ × AccessUnit)) (n : ℕ) → IsInRange d.description → first_refused d (capacity_for units) [] units ≡ None →
     n ≤ 2 ^ 40 →
@@ -52,29 +52,29 @@ pub record IsInTime (d : Scheduled) (limit : ℕ) (bytes : List ℕ) : Type 0 wh
   pub clocks : (pid : ℕ) → pcr_late d.description.rate limit bytes pid ≡ []
   -- sections of program association begin every 500 ms, from the start of the run to its end
   pub associations : pat_late d.description.rate bytes ≡ []
-  -- those of the program map on each PID that these name, from the packet in which they name it to the end
+  -- sections of the program map on each PID that a PAT names, from the packet in which the PAT names it to the end
   pub maps : (pid : ℕ) → map_late d.description.rate bytes pid ≡ []
-  -- those of the network information of the actual network, once they have begun, every 10 s
+  -- sections of the network information of the actual network, after the first, every 10 s
   pub network : table_late d.description.rate 10000 0x10 0x40 bytes ≡ []
-  -- those of the service description of the actual stream every 2 s
+  -- sections of the service description of the actual stream, every 2 s
   pub services : table_late d.description.rate 2000 0x11 0x42 bytes ≡ []
-  -- those of present and following events of the actual stream every 2 s
+  -- sections of present and following events of the actual stream, every 2 s
   pub events : table_late d.description.rate 2000 0x12 0x4E bytes ≡ []
-  -- those of time and date every 30 s
+  -- sections of time and date, every 30 s
   pub time : table_late d.description.rate 30000 0x14 0x70 bytes ≡ []
 
--- so of every run over a schedule that keeps its promises: one plan or two
+-- this holds for every run over a schedule that keeps its promises: one plan, or two in turn
 abbrev pub InTimeLaw : Type 0
 InTimeLaw = (d : Scheduled) (units : ℕ → List AccessUnit) (n limit : ℕ) → IsInRange d.description → Promised d.description d.schedule → UnitsKept d units →
     IsWide d.description limit → n < 2 ^ 64 - 1 → IsInTime d limit (run_bytes (content_at d units) 0 n)
 
--- so of what a multiplexer stands for
+-- this holds for the history that a multiplexer has
 abbrev pub StandingInTimeLaw : Type 0
 StandingInTimeLaw = (h : History) (m : MuxState) (n limit : ℕ) → IsInRange m.schedule.description → Promised m.schedule.description m.schedule.schedule →
     Stands h m →
     IsWide m.schedule.description limit → n ≤ 2 ^ 40 → IsInTime m.schedule limit (run_bytes (content_at m.schedule h.units) 0 n)
 
--- and of a whole job
+-- and for a whole job
 abbrev pub JobInTimeLaw : Type 0
 JobInTimeLaw = (d : Scheduled) (units : List (ℕ × AccessUnit)) (n limit : ℕ) → IsInRange d.description → Promised d.description d.schedule →
     first_refused d (capacity_for units) [] units ≡ None → IsWide d.description limit → n ≤ 2 ^ 40 → IsInTime d limit (output_of false d (job_history units n))

@@ -1,4 +1,4 @@
--- What a multiplexer sends, item by item, and in which slots: the units of a stream, and the sections of a table.
+-- What a multiplexer sends, item by item, and in which slots: the units of a stream and the sections of a table.
 use Rattle.std.specs.Prelude.{ℕ, List, [], ◌∷◌, take, drop, filter, is_some}
 use Rattle.own_slots.specs.Slots.{own_slots}
 use Rattle.pes_packet.specs.AccessUnits.{AccessUnit}
@@ -8,8 +8,8 @@ use Rattle.laws_pid.specs.Sent.{Sending, sendings}
 use Rattle.laws_pid.specs.Sections.{section_packets}
 use Rattle.laws_pid.specs.Rounds.{sections_of_rounds}
 
--- units in these own slots, of which the first `free` are taken: each has as many own slots as it has packets, from its first one on, until
--- there are no more slots
+-- units in these own slots, after the first `free` slots, which are taken: each unit has as many own slots as it has packets, until there are
+-- no more slots
 unfoldable pub units_placed : OwnedStream → ℕ → List AccessUnit → List ℕ → List (Sending AccessUnit)
 units_placed l free [] slots = []
 units_placed l free (u ∷ us) slots =
@@ -19,8 +19,7 @@ units_placed l free (u ∷ us) slots =
 abbrev pub sent_units : OwnedStream → ℕ → List AccessUnit → List (Sending AccessUnit)
 sent_units l n us = units_placed l 0 us (own_slots l.own 0 n)
 
--- of a table's own slots among the first n, those that carry a part of a section: where one is shorter than its places, the last of these are
--- empty
+-- a table's own slots among the first n that carry a part of a section: if a section is shorter than its places, the last places are empty
 abbrev pub section_slots : Table → ℕ → List ℕ
 section_slots table n = filter (λ s. is_some (part_at table s)) (own_slots table.own 0 n)
 

@@ -21,8 +21,8 @@ use Rattle.laws_run.specs.Monitored.{IsWide}
 abbrev pub greatest_gap : ℕ
 greatest_gap = 63000
 
--- the DTS of each unit is at most 700 ms less the lead after that of the one before: so it begins within 700 ms after that one, even where that
--- one is sent as early as it may be, and it itself as late
+-- the DTS of each unit is at most 700 ms, less the lead, after the DTS of the unit before it: so the unit begins within 700 ms after the unit
+-- before it, even if that unit is sent as early, and this unit as late, as it may be
 unfoldable pub FollowSoon : ℕ → ℕ → List AccessUnit → Type 0
 FollowSoon lead before [] = Unit {0}
 FollowSoon lead before (u ∷ us) = (u.dts + lead ≤ before + greatest_gap) × FollowSoon lead u.dts us
@@ -31,7 +31,7 @@ unfoldable pub ComeOften : ℕ → List AccessUnit → Type 0
 ComeOften lead [] = Unit {0}
 ComeOften lead (u ∷ us) = FollowSoon lead u.dts us
 
--- so of each stream, and no ready-made section is taken for a PES packet or for stuffing
+-- this holds for each stream, and no ready-made section is taken for a PES packet or for stuffing
 pub record HasPtsSpacing (d : Scheduled) (units : ℕ → List AccessUnit) : Type 0 where
   pub streams : (k : ℕ) (s : DescribedStream) → slice_get d.description.streams k ≡ Some s → ComeOften s.lead (units k)
   pub tables : (t : ℕ) → t < table_count d.description → IsDistinguishable d.description t
@@ -41,14 +41,14 @@ abbrev pub PtsSpacingLaw : Type 0
 PtsSpacingLaw = (d : Scheduled) (units : ℕ → List AccessUnit) (n limit : ℕ) → IsInRange d.description → Promised d.description d.schedule → UnitsKept d units →
     HasPtsSpacing d units → IsWide d.description limit → n < 2 ^ 64 - 1 → faults_of d.description.rate limit (run_bytes (content_at d units) 0 n) ≡ []
 
--- so of what a multiplexer stands for
+-- this holds for the history that a multiplexer has
 abbrev pub StandingPtsSpacingLaw : Type 0
 StandingPtsSpacingLaw = (h : History) (m : MuxState) (n limit : ℕ) → IsInRange m.schedule.description → Promised m.schedule.description m.schedule.schedule →
     Stands h m →
     HasPtsSpacing m.schedule h.units → IsWide m.schedule.description limit → n ≤ 2 ^ 40 →
     faults_of m.schedule.description.rate limit (run_bytes (content_at m.schedule h.units) 0 n) ≡ []
 
--- and of a whole job
+-- and for a whole job
 abbrev pub JobPtsSpacingLaw : Type 0
 JobPtsSpacingLaw = (d : Scheduled) (units : List (ℕ × AccessUnit)) (n limit : ℕ) → IsInRange d.description → Promised d.description d.schedule →
     first_refused d (capacity_for units) [] units ≡ None → HasPtsSpacing d (λ k. units_of k units) → IsWide d.description limit → n ≤ 2 ^ 40 →

@@ -1,4 +1,4 @@
--- All that a monitor reports of the finished bytes of a run, at the description's rate: by all its rules together, faults of one of them at most.
+-- All that a monitor reports on the finished bytes of a run, at the description's rate: over all its rules, faults by one rule at most.
 use Rattle.std.specs.Prelude.{◌≡◌, ℕ, ◌-◌, ◌^◌, ◌<◌, ◌≤◌, false, List, [], None}
 use Rattle.pes_packet.specs.AccessUnits.{AccessUnit}
 use Rattle.slot_contents.specs.Contents.{run_bytes}
@@ -22,18 +22,18 @@ faults_left rate bytes = on_each rules.Pts (pts_late rate bytes) (packet_pids by
 abbrev pub IsReported : Scheduled → ℕ → List ℕ → Type 0
 IsReported d limit bytes = faults_of d.description.rate limit bytes ≡ faults_left d.description.rate bytes
 
--- so of every run over a schedule that keeps its promises: one plan or two
+-- this holds for every run over a schedule that keeps its promises: one plan, or two in turn
 abbrev pub ReportedLaw : Type 0
 ReportedLaw = (d : Scheduled) (units : ℕ → List AccessUnit) (n limit : ℕ) → IsInRange d.description → Promised d.description d.schedule → UnitsKept d units →
     IsWide d.description limit → n < 2 ^ 64 - 1 → IsReported d limit (run_bytes (content_at d units) 0 n)
 
--- so of what a multiplexer stands for
+-- this holds for the history that a multiplexer has
 abbrev pub StandingReportedLaw : Type 0
 StandingReportedLaw = (h : History) (m : MuxState) (n limit : ℕ) → IsInRange m.schedule.description → Promised m.schedule.description m.schedule.schedule →
     Stands h m →
     IsWide m.schedule.description limit → n ≤ 2 ^ 40 → IsReported m.schedule limit (run_bytes (content_at m.schedule h.units) 0 n)
 
--- and of a whole job
+-- and for a whole job
 abbrev pub JobReportedLaw : Type 0
 JobReportedLaw = (d : Scheduled) (units : List (ℕ × AccessUnit)) (n limit : ℕ) → IsInRange d.description → Promised d.description d.schedule →
     first_refused d (capacity_for units) [] units ≡ None → IsWide d.description limit → n ≤ 2 ^ 40 →

@@ -16,7 +16,7 @@ use Rattle.laws_run.specs.FollowedTables.{IsFollowed}
 abbrev pub DueLate : List AccessUnit → Type 0
 DueLate units = All (λ u. 180000 ≤ u.dts) units
 
--- what stands before a packet of a stream tells a decoder that follows PAT and PMT of each program and its streams
+-- the bytes before a packet of a stream name each program and its streams to a decoder that follows PAT and PMT
 abbrev pub TablesFirstLaw : Type 0
 TablesFirstLaw = (d : Scheduled) (units : ℕ → List AccessUnit) (n k j : ℕ) (s : DescribedStream) (e : Entry) →
     IsInRange d.description → Promised d.description d.schedule → UnitsKept d units → slice_get d.description.streams k ≡ Some s → DueLate (units k) →

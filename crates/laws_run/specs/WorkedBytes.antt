@@ -1,4 +1,4 @@
--- The bytes of a small run, packet by packet: that of the worked service in its first six slots, with one unit.
+-- The bytes of a small run, packet by packet: the worked service in its first six slots, with one unit.
 use Rattle.std.specs.Prelude.{ℕ, ◌+◌, List, [], ◌∷◌, ◌++◌, replicate}
 use Rattle.pes_packet.specs.AccessUnits.{AccessUnit}
 use Rattle.pes_packet.specs.Marks.{no_marks}

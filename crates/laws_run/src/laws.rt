@@ -73,8 +73,8 @@ pub fn monitored_whole()
     ensures jobs { JobReportedLaw }
 {}
 
-/// States that there is no fault at all if each unit's DTS is at most 700 ms less the stream's lead after that
-/// of the one before, and no ready-made section is taken for a PES packet or for stuffing.
+/// States that there is no fault at all if each unit's DTS is at most 700 ms less the stream's lead after the DTS of
+/// the unit before, and no ready-made section is taken for a PES packet or for stuffing.
 pub fn monitored_pts_spacing()
     ensures whole { PtsSpacingLaw }
     ensures standing { StandingPtsSpacingLaw }

@@ -12,11 +12,11 @@ unfoldable pub ring_after : List TraceRow → Ring
 ring_after [] = no_rows
 ring_after (row ∷ before) = with_row (ring_after before) row
 
--- it has the last 64 of them, in order
+-- the ring has the last 64 of the rows, in order
 abbrev pub LastLaw : Type 0
 LastLaw = (rows : List TraceRow) → rows_of (ring_after rows) ≡ reverse (take 64 rows)
 
--- what is kept of a buffer of a size after these rows, where `most` is what a row says of it
+-- the trace of a buffer of a size after these rows; `most` gives the buffer's bytes by a row
 unfoldable pub kept_after : (TraceRow → ℕ) → ℕ → List TraceRow → Trace
 kept_after most size [] = no_trace
 kept_after most size (row ∷ before) = trace_after (kept_after most size before) (ring_after (row ∷ before)) size (most row)
@@ -48,7 +48,7 @@ unfoldable pub all_after : ℕ → ℕ → List TraceRow → Traces
 all_after transport main [] = no_traces
 all_after transport main (row ∷ before) = traces_after (all_after transport main before) row transport main
 
--- it has the ring, and what is kept of both
+-- the state has the ring, and the traces of both buffers
 abbrev pub StateLaw : Type 0
 StateLaw = (transport main : ℕ) (rows : List TraceRow) → all_after transport main rows ≡ record {
   ring = ring_after rows;

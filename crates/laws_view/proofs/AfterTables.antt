@@ -35,9 +35,9 @@ use Rattle.program_tables.specs.Association.{association, first_pat}
 use Rattle.ts_tables.specs.Laws.{bytes_of, first_streams, found_of, state_of}
 use Rattle.ts_tables.specs.NamedStreams.{NamedView, is_last, stream_by, stream_of, streams_at, streams_by, taken as named_with, taken_if as named_if}
 use Rattle.ts_tables.proofs.First.{first_law}
-use Rattle.es_view.specs.declared.view_options.ViewOptions.{ViewOptions}
+use Rattle.es_events.specs.declared.view_options.ViewOptions.{ViewOptions}
 use Rattle.ts_watch.specs.Choices.{RequestView, chosen}
-use Rattle.es_view.specs.Clocks.{ClockEntries}
+use Rattle.es_events.specs.Clocks.{ClockEntries}
 use Rattle.es_view.specs.Entries.{EntryState}
 use Rattle.ts_report.specs.StreamTables.{TableState, beginning, begun, begun_if, taken, taken_at, taken_if}
 use Rattle.ts_report.specs.Seen.{next_window}

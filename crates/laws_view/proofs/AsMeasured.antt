@@ -26,9 +26,9 @@ use Rattle.tstd_rows.specs.History.{main_fullness}
 use Rattle.tstd_rows.specs.declared.unit_seen.DueTime.{DueTime}
 use Rattle.tstd_rows.specs.Held.{Held, main_most}
 use Rattle.tstd_rows.specs.declared.arriving.Arriving.{Arriving}
-use Rattle.es_view.specs.declared.clocks.Beginning.TheVariants.{Stamped}
-use Rattle.es_view.specs.declared.view_options.ViewOptions.{ViewOptions}
-use Rattle.es_view.specs.Clocks.{beginning_of}
+use Rattle.es_events.specs.declared.clocks.Beginning.TheVariants.{Stamped}
+use Rattle.es_events.specs.declared.view_options.ViewOptions.{ViewOptions}
+use Rattle.es_events.specs.Clocks.{beginning_of}
 use Rattle.es_view.specs.Entries.{arriving, due_by, is_repeated, same_counter}
 use Rattle.laws_view.specs.StreamPackets.{Before, Followed, clock_with, clocks_seen, known_after, known_after_all, seen_among, seen_in, sound_packet}
 use Rattle.laws_view.specs.CarriedStreams.{CutUnit, cut_pieces, cut_senders, cut_units}

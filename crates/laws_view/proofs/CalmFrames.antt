@@ -14,11 +14,11 @@ use Rattle.tstd_rows.specs.declared.unit_seen.UnitSeen.{UnitSeen}
 use Rattle.tstd_rows.specs.Held.{Held, begun, main_most}
 use Rattle.tstd_rows.specs.Entering.{EnteredView, after_bytes, after_first, after_header, after_lead, after_part, after_unit, ended_first, ended_part}
 use Rattle.tstd_rows.specs.Entering.{entered_first, entered_part, lead_in, nothing, size_of, takes_in, takes_part, with_first}
-use Rattle.es_view.specs.declared.tally.Tally.{Tally}
-use Rattle.es_view.specs.declared.view_options.ViewOptions.{ViewOptions}
+use Rattle.es_events.specs.declared.tally.Tally.{Tally}
+use Rattle.es_events.specs.declared.view_options.ViewOptions.{ViewOptions}
 use Rattle.es_view.specs.EntryFrames.{Counted, FramedPayload, count_of, frame_after, frames_after, frames_among, front_after, part_of, place_of}
 use Rattle.es_view.specs.Entries.{Framed, beginning_in, framed_with, is_unread, payload_of}
-use Rattle.es_view.specs.Tallies.{in_window, more, tally_after, tally_with, with_unit_if}
+use Rattle.es_events.specs.Tallies.{in_window, more, tally_after, tally_with, with_unit_if}
 use Rattle.laws_view.proofs.EnteredBytes.{Alike, alike_trans, begin_arrives, payload_alike}
 use Rattle.laws_view.proofs.MainExcesses.{Quiet, begin_main, most_begin, most_begun, most_payload, quiet_payload, same_main}
 

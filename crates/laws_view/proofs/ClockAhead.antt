@@ -10,8 +10,8 @@ use Rattle.ts_packet.specs.Packets.{pcr_view}
 use Rattle.ts_packet.specs.PidList.{Entry}
 use Rattle.arrival.specs.declared.clock.PcrSample.{PcrSample}
 use Rattle.arrival.specs.declared.arrival.Arrival.TheVariants.{AtRate}
-use Rattle.es_view.specs.declared.view_options.ViewOptions.{ViewOptions}
-use Rattle.es_view.specs.Clocks.{base_byte, place_of, sample_at, sample_in}
+use Rattle.es_events.specs.declared.view_options.ViewOptions.{ViewOptions}
+use Rattle.es_events.specs.Clocks.{base_byte, place_of, sample_at, sample_in}
 use Rattle.laws_view.specs.StreamPackets.{Before, Followed, known_after, most_packets, reference_in, sound_packet}
 use Rattle.laws_view.proofs.DueByClock.{reference_at}
 

@@ -28,7 +28,7 @@ use Rattle.laws_run.proofs.MonitoredJobs.{job_kept}
 use Rattle.laws_run.proofs.TablesFirst.{late_slot}
 use Rattle.arrival.specs.declared.clock.PcrSample.{PcrSample}
 use Rattle.arrival.specs.declared.arrival.Arrival.TheVariants.{AtRate}
-use Rattle.es_view.specs.declared.view_options.ViewOptions.{ViewOptions}
+use Rattle.es_events.specs.declared.view_options.ViewOptions.{ViewOptions}
 use Rattle.ts_watch.specs.Choices.{RequestView}
 use Rattle.es_view.specs.Entries.{EntryState}
 use Rattle.laws_view.specs.AsMeasured.{AsMeasured, HasClock, IsClockOf, JobLateAsMeasuredLaw, RunLateAsMeasuredLaw}

@@ -21,7 +21,7 @@ use Rattle.laws_arrival.specs.TimedPackets as timed
 use Rattle.laws_arrival.proofs.Leads.{lead_law}
 use Rattle.laws_arrival.proofs.TimedPackets.{each_once, rises_law}
 use Rattle.laws_arrival.proofs.Waits.{Comes, Waits, alone_waits, comes_with, one_waits, waits_first}
-use Rattle.es_view.specs.declared.view_options.ViewOptions.{ViewOptions}
+use Rattle.es_events.specs.declared.view_options.ViewOptions.{ViewOptions}
 use Rattle.ts_report.specs.ClockedViews.{ClockedState, clock_for, held_after, last_view, queue_after, queue_of, view_after, view_with}
 use Rattle.ts_report.specs.ClockedViews as clocked
 use Rattle.ts_report.specs.StreamTables.{TableState}

@@ -7,7 +7,7 @@ use Rattle.clock27.specs.Units.{slot_units_at_1bps}
 use Rattle.pes_packet.specs.AccessUnits.{AccessUnit}
 use Rattle.pes_packet.specs.Encoding.{on_wire}
 use Rattle.arrival.specs.declared.clock.PcrSample.{PcrSample}
-use Rattle.es_view.specs.Clocks.{ahead_of, due_at, due_tick, tick_of}
+use Rattle.es_events.specs.Clocks.{ahead_of, due_at, due_tick, tick_of}
 use Rattle.tstd_rows.specs.ConstantRate.{due_time}
 use Rattle.laws_view.specs.CarriedStreams.{GoesBy}
 use Rattle.laws_view.specs.StreamPackets.{most_packets}

@@ -8,9 +8,9 @@ use Rattle.indexmap.specs.IndexMap.{insert_entry}
 use Rattle.ts_packet.specs.Views.{PacketView}
 use Rattle.stream_programs.specs.Streams.{FoundStreamView}
 use Rattle.ts_tables.specs.NamedStreams.{NamedView, clock_of as program_clock, stream_of}
-use Rattle.es_view.specs.declared.view_options.ViewOptions.{ViewOptions}
+use Rattle.es_events.specs.declared.view_options.ViewOptions.{ViewOptions}
 use Rattle.ts_watch.specs.Choices.{chosen}
-use Rattle.es_view.specs.Clocks.{ClockEntries}
+use Rattle.es_events.specs.Clocks.{ClockEntries}
 use Rattle.es_view.specs.Entries.{EntryState}
 use Rattle.ts_report.specs.StreamTables.{TableState, beginning, begun, begun_if, entry_taken, new_entry, stream_buffers, stream_frames, stream_limit}
 use Rattle.ts_report.specs.StreamTables.{stream_rates, taken, taken_at, taken_if, with_entry}

@@ -31,14 +31,14 @@ use Rattle.description_parts.specs.Tables.{section_lengths, table_count, table_k
 use Rattle.description_parts.specs.declared.table_kind.TableKind.TheVariants.{Pmt}
 use Rattle.description.proofs.Pids.{at_place}
 use Rattle.description.proofs.SectionCounts.{sections_law}
-use Rattle.demux.specs.Findings.{at_packet, end_of, ended, findings, open_after}
+use Rattle.pid_findings.specs.Findings.{at_packet, end_of, ended, findings, open_after}
 use Rattle.demux.specs.Laws.{found_of, with_pid_at}
-use Rattle.demux.specs.Marks.{marked}
-use Rattle.demux.specs.OpenUnits.{OpenUnit}
+use Rattle.pid_findings.specs.Marks.{marked}
+use Rattle.pid_findings.specs.OpenUnits.{OpenUnit}
 use Rattle.demux.specs.Stream.{pushed, start}
-use Rattle.demux.specs.Views.{FindingView, IsPes, IsSection, IsTruncated, PidFinding}
-use Rattle.demux.specs.declared.open_unit.UnitKind.{UnitKind}
-use Rattle.demux.specs.declared.open_unit.UnitKind.TheVariants as unit_kinds
+use Rattle.pid_findings.specs.Views.{FindingView, IsPes, IsSection, IsTruncated, PidFinding}
+use Rattle.pid_findings.specs.declared.open_unit.UnitKind.{UnitKind}
+use Rattle.pid_findings.specs.declared.open_unit.UnitKind.TheVariants as unit_kinds
 use Rattle.demux.proofs.WholeStream.{each_pid_alone}
 use Rattle.table_rounds.specs.Tables.{Table, round_places}
 use Rattle.slot_plan.specs.TableRounds.{section_starts}

@@ -18,16 +18,16 @@ use Rattle.tstd_rows.specs.Held.{Held, main_most, transport_most}
 use Rattle.tstd_rows.specs.Entering.{EnteredView, after, entered}
 use Rattle.tstd_rows.specs.declared.arriving.Arriving.{Arriving}
 use Rattle.laws_arrival.specs.TimedPackets.{Timed}
-use Rattle.es_view.specs.declared.tally.Tally.{Tally}
-use Rattle.es_view.specs.declared.view_options.ViewOptions.{ViewOptions}
+use Rattle.es_events.specs.declared.tally.Tally.{Tally}
+use Rattle.es_events.specs.declared.view_options.ViewOptions.{ViewOptions}
 use Rattle.ts_watch.specs.Choices.{RequestView}
-use Rattle.es_view.specs.Clocks.{ClockEntries, clock_of}
+use Rattle.es_events.specs.Clocks.{ClockEntries, clock_of}
 use Rattle.es_view.specs.HeldEvents.{main_held}
 use Rattle.es_view.specs.Entries.{EntryState, arriving, beginning_in, is_unread}
-use Rattle.es_view.specs.Tallies.{tally_after}
+use Rattle.es_events.specs.Tallies.{tally_after}
 use Rattle.ts_report.specs.Seen.{next_window}
 use Rattle.ts_report.specs.StreamTables.{TableState}
-use Rattle.es_view.specs.Tallies.{in_window, none_counted}
+use Rattle.es_events.specs.Tallies.{in_window, none_counted}
 use Rattle.ts_report.specs.Views.{ViewState, clocked, start, with_begun}
 use Rattle.laws_view.specs.FirstHighs.{FirstHighLaw}
 use Rattle.laws_view.specs.HeldWindows.{BeginIn, FirstWindowLaw, options_then}

@@ -15,10 +15,10 @@ use Rattle.arrival.specs.declared.arrival.Arrival.TheVariants.{AtRate}
 use Rattle.tstd_rows.specs.ConstantRate.{due_time}
 use Rattle.tstd_rows.specs.declared.unit_seen.DueTime.{DueTime}
 use Rattle.tstd_rows.specs.declared.arriving.Arriving.{Arriving}
-use Rattle.es_view.specs.declared.view_options.ViewOptions.{ViewOptions}
-use Rattle.es_view.specs.declared.clocks.Beginning.{Beginning}
-use Rattle.es_view.specs.declared.clocks.Beginning.TheVariants.{Nothing, Stamped}
-use Rattle.es_view.specs.Clocks.{beginning_of}
+use Rattle.es_events.specs.declared.view_options.ViewOptions.{ViewOptions}
+use Rattle.es_events.specs.declared.clocks.Beginning.{Beginning}
+use Rattle.es_events.specs.declared.clocks.Beginning.TheVariants.{Nothing, Stamped}
+use Rattle.es_events.specs.Clocks.{beginning_of}
 use Rattle.es_view.specs.Entries.{arriving, beginning_in, counter_after, due_by, is_repeated, same_counter}
 use Rattle.laws_view.specs.StreamPackets.{Before, Followed, clock_in, clock_with, clocks_seen, known_after, reference_in, seen_among, seen_in, sound_packet}
 use Rattle.laws_view.specs.CarriedStreams.{GoesBy}

@@ -17,7 +17,7 @@ use Rattle.tstd_rows.specs.declared.arriving.UnitPart.{UnitPart}
 use Rattle.tstd_rows.specs.declared.unit_seen.DueTime.{DueTime}
 use Rattle.tstd_rows.specs.Held.{Held, begun}
 use Rattle.tstd_rows.specs.Entering.{after_bytes, after_header, after_lead, after_part, after_unit, takes_part}
-use Rattle.es_view.specs.declared.view_options.ViewOptions.{ViewOptions}
+use Rattle.es_events.specs.declared.view_options.ViewOptions.{ViewOptions}
 use Rattle.es_view.specs.EntryFrames.{FramedPayload, frames_held, header_size, part_of, place_of}
 use Rattle.laws_view.proofs.EnteredBytes.{Arrives, arrives_trans, begin_arrives, bytes_arrive, no_times, payload_arrives}
 use Rattle.laws_view.proofs.FrameRows.{InTurn}

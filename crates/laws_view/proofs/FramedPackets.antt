@@ -12,7 +12,7 @@ use Rattle.tstd_rows.specs.History.{arrivals_of, payload_left}
 use Rattle.tstd_rows.specs.declared.arriving.Arriving.{Arriving}
 use Rattle.tstd_rows.specs.Held.{Held}
 use Rattle.tstd_rows.specs.Entering.{after, after_bytes, after_first, after_unit, size_of, takes_in, with_first, with_packet}
-use Rattle.es_view.specs.declared.view_options.ViewOptions.{ViewOptions}
+use Rattle.es_events.specs.declared.view_options.ViewOptions.{ViewOptions}
 use Rattle.es_view.specs.EntryFrames.{FramedPayload, frames_held, place_of}
 use Rattle.laws_view.specs.StreamPackets.{most_packets}
 use Rattle.laws_view.proofs.EnteredBytes.{Alike, arrives_trans, packet_arrives, taken_in}

@@ -12,7 +12,7 @@ use Rattle.arrival.specs.declared.clock.PcrSample.{PcrSample}
 use Rattle.tstd_rows.specs.declared.arriving.Arriving.{Arriving}
 use Rattle.tstd_rows.specs.Held.{Held}
 use Rattle.tstd_rows.specs.Entering.{after, after_first, size_of}
-use Rattle.es_view.specs.declared.view_options.ViewOptions.{ViewOptions}
+use Rattle.es_events.specs.declared.view_options.ViewOptions.{ViewOptions}
 use Rattle.es_view.specs.EntryFrames.{FramedPayload, count_of, frame_bytes, frames_among, frames_held, front_after, front_count, place_of}
 use Rattle.es_view.specs.EntryFrames.{unit_after, unit_in, walk_in}
 use Rattle.es_view.specs.Entries.{Framed, arriving, beginning_in, framed_with, is_repeated, is_unread, payload_of}

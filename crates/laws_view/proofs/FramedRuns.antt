@@ -13,10 +13,10 @@ use Rattle.arrival.specs.declared.clock.PcrSample.{PcrSample}
 use Rattle.tstd_rows.specs.History.{arrivals_of}
 use Rattle.tstd_rows.specs.Held.{Held, empty}
 use Rattle.tstd_rows.specs.Entering.{after}
-use Rattle.es_view.specs.declared.view_options.ViewOptions.{ViewOptions}
-use Rattle.es_view.specs.Clocks.{ClockEntries, clock_of}
+use Rattle.es_events.specs.declared.view_options.ViewOptions.{ViewOptions}
+use Rattle.es_events.specs.Clocks.{ClockEntries, clock_of}
 use Rattle.es_view.specs.Entries.{EntryState, Framed, arriving_at, framed_after, framed_with}
-use Rattle.es_view.specs.Tallies.{none_counted}
+use Rattle.es_events.specs.Tallies.{none_counted}
 use Rattle.ts_watch.specs.Choices.{RequestView}
 use Rattle.ts_report.specs.Seen.{next_window}
 use Rattle.ts_report.specs.StreamTables.{entry_taken, new_framed, stream_buffers, stream_frames}

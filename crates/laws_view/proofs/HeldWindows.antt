@@ -12,16 +12,16 @@ use Rattle.tstd_rows.specs.Held.{Held}
 use Rattle.tstd_rows.specs.Entering.{EnteredView, after, entered}
 use Rattle.tstd_rows.specs.declared.arriving.Arriving.{Arriving}
 use Rattle.tstd_rows.specs.declared.unit_seen.UnitSeen.{UnitSeen}
-use Rattle.es_view.specs.declared.tally.Tally.{Tally}
-use Rattle.es_view.specs.declared.view_options.ViewOptions.{ViewOptions}
+use Rattle.es_events.specs.declared.tally.Tally.{Tally}
+use Rattle.es_events.specs.declared.view_options.ViewOptions.{ViewOptions}
 use Rattle.ts_watch.specs.Choices.{RequestView}
-use Rattle.es_view.specs.Clocks.{clock_of}
+use Rattle.es_events.specs.Clocks.{clock_of}
 use Rattle.es_view.specs.Entries.{EntryState, arriving, beginning_in, is_unread}
 use Rattle.es_view.specs.HeldEvents.{main_held}
-use Rattle.es_view.specs.Tallies.{tally_after}
+use Rattle.es_events.specs.Tallies.{tally_after}
 use Rattle.fault_traces.specs.declared.traces.Traces.{Traces}
 use Rattle.ts_report.specs.Seen.{next_window}
-use Rattle.es_view.specs.Tallies.{in_window, with_excesses, with_packet as with_tallied, with_unit_if}
+use Rattle.es_events.specs.Tallies.{in_window, with_excesses, with_packet as with_tallied, with_unit_if}
 use Rattle.ts_report.specs.Views.{ViewState, clocked, start, with_begun}
 use Rattle.laws_view.specs.HeldWindows.{BeginIn, OfWindow, TimedWindowLaw, TimedWithoutLaw, options_then, window_entering}
 use Rattle.laws_view.specs.StreamPackets.{Before, Followed, after_each, clock_with, entered_each, known_after, seen_in, sound_packet}

@@ -19,13 +19,13 @@ use Rattle.description_parts.specs.declared.table_kind.TableKind.{TableKind}
 use Rattle.description_parts.specs.declared.table_kind.TableKind.TheVariants.{Eit, Nit, Pat, Sdt, Tdt}
 use Rattle.std.proofs.lemmas.Option.{slice_get_within}
 use Rattle.table_rounds.specs.Tables.{Table as Rounds, round_places}
-use Rattle.demux.specs.Views.{FindingView, PidFinding, WhatView}
+use Rattle.pid_findings.specs.Views.{FindingView, PidFinding, WhatView}
 use Rattle.demux.specs.Laws.{found_of, has_pid, with_pid_at}
 use Rattle.demux.specs.Stream.{StreamState, finished, found_in, taken}
 use Rattle.demux.specs.Stream as demux
 use Rattle.demux.specs.FoundSoFar.{found_in_all, taken_all}
-use Rattle.demux.specs.declared.finding.Kind.{Kind}
-use Rattle.demux.specs.declared.finding.Kind.TheVariants.{Pes, Table}
+use Rattle.pid_findings.specs.declared.finding.Kind.{Kind}
+use Rattle.pid_findings.specs.declared.finding.Kind.TheVariants.{Pes, Table}
 use Rattle.laws_pid.specs.Rounds.{sections_of_rounds}
 use Rattle.laws_pid.specs.Sections.{section_found, section_packets}
 use Rattle.laws_pid.specs.Sent.{Ending, Sending, each_found, if_sent, next_of, sendings}
@@ -59,7 +59,7 @@ use Rattle.tr101290.specs.declared.intervals.TableError.{TableError}
 use Rattle.events.specs.declared.event.Event.{Event}
 use Rattle.events.specs.declared.event.Event.TheVariants as found
 use Rattle.events.specs.declared.rule_event.RuleEvent.TheVariants as rules
-use Rattle.es_view.specs.declared.view_options.ViewOptions.{ViewOptions}
+use Rattle.es_events.specs.declared.view_options.ViewOptions.{ViewOptions}
 use Rattle.ts_watch.specs.Choices.{RequestView}
 use Rattle.ts_watch.specs.TableEvents.{TimesState, begin_events, check_word_event, check_word_events, distance_events, error_events, finding_events}
 use Rattle.ts_watch.specs.TableEvents.{findings_events}

@@ -10,10 +10,10 @@ use Rattle.std.proofs.lemmas.List.{append_assoc, map-append}
 use Rattle.std.proofs.lemmas.List.Elements.{filter-append}
 use Rattle.arrival.specs.declared.arrival.Arrival.{Arrival}
 use Rattle.arrival.specs.declared.arrival.Arrival.TheVariants.{AtRate, OnLines, Unknown}
-use Rattle.demux.specs.Views.{FindingView, WhatView}
+use Rattle.pid_findings.specs.Views.{FindingView, WhatView}
 use Rattle.demux.specs.Laws.{has_pid}
-use Rattle.demux.specs.declared.finding.Kind.{Kind}
-use Rattle.demux.specs.declared.finding.Kind.TheVariants.{Table, Pes}
+use Rattle.pid_findings.specs.declared.finding.Kind.{Kind}
+use Rattle.pid_findings.specs.declared.finding.Kind.TheVariants.{Table, Pes}
 use Rattle.tr101290.specs.Distances as distances
 use Rattle.tr101290.specs.Distances.{DistanceState}
 use Rattle.tr101290.specs.Homes.{belongs}
@@ -33,7 +33,7 @@ use Rattle.laws_monitor.proofs.PidEntries.{kept, same_number}
 use Rattle.events.specs.declared.event.Event.{Event}
 use Rattle.events.specs.declared.event.Event.TheVariants as found
 use Rattle.events.specs.declared.rule_event.RuleEvent.TheVariants as rules
-use Rattle.es_view.specs.declared.view_options.ViewOptions.{ViewOptions}
+use Rattle.es_events.specs.declared.view_options.ViewOptions.{ViewOptions}
 use Rattle.ts_watch.specs.TableEvents.{TimesState, begin_events, check_word_event, check_word_events, distance_events, error_event, error_events}
 use Rattle.ts_watch.specs.TableEvents.{finding_events}
 use Rattle.ts_watch.specs.TableEvents.{findings_events, is_wrong, other_events, placed, section_in, soon_events, whole_in, with_begin, with_check_word}

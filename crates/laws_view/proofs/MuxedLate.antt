@@ -39,7 +39,7 @@ use Rattle.arrival.specs.declared.arrival.Arrival.TheVariants.{AtRate}
 use Rattle.tstd_rows.specs.History.{arrivals_of, unit_of, until_of}
 use Rattle.tstd_rows.specs.declared.arriving.Arriving.{Arriving}
 use Rattle.tstd_rows.specs.Held.{Held, empty}
-use Rattle.es_view.specs.Tallies.{is_late}
+use Rattle.es_events.specs.Tallies.{is_late}
 use Rattle.laws_view.specs.StreamPackets.{after_each}
 use Rattle.laws_view.specs.CarriedStreams.{CutUnit, IsCut, cut_pieces, cut_senders, cut_units}
 use Rattle.laws_view.specs.StreamUnits.{all_units, units_ended}

@@ -11,17 +11,17 @@ use Rattle.slot_contents.proofs.Runs.{run_length}
 use Rattle.pes_packet.specs.Units.{units_of}
 use Rattle.arrival.specs.declared.arrival.Arrival.{Arrival}
 use Rattle.arrival.specs.declared.arrival.Arrival.TheVariants.{AtRate}
-use Rattle.demux.specs.Views.{FindingView, PidFinding, WhatView}
+use Rattle.pid_findings.specs.Views.{FindingView, PidFinding, WhatView}
 use Rattle.demux.specs.Laws.{found_of, has_pid, with_pid_at}
-use Rattle.demux.specs.Findings.{findings}
+use Rattle.pid_findings.specs.Findings.{findings}
 use Rattle.demux.specs.Stream.{StreamState, finished}
 use Rattle.demux.specs.Stream as demux
 use Rattle.demux.specs.FoundSoFar.{FoundSoFar, found_in_all, taken_all}
 use Rattle.demux.proofs.FoundSoFar.{all_are_found, nothing_at_first, packets_add}
 use Rattle.demux.proofs.PushedBytes.{pushed_less}
 use Rattle.demux.proofs.WholeStream.{each_pid_alone}
-use Rattle.demux.specs.declared.finding.Kind.{Kind}
-use Rattle.demux.specs.declared.finding.Kind.TheVariants.{Table, Pes}
+use Rattle.pid_findings.specs.declared.finding.Kind.{Kind}
+use Rattle.pid_findings.specs.declared.finding.Kind.TheVariants.{Table, Pes}
 use Rattle.monitor.specs.Begins.{found_on}
 use Rattle.monitor.proofs.FoundWhole.{found_whole, kept_held, of_each, sizes, take_rest}
 use Rattle.tr101290.specs.Intervals.{IntervalState, error_at, no_section, taken}

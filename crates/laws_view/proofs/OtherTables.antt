@@ -21,8 +21,8 @@ use Rattle.description_parts.specs.declared.table_kind.TableKind.TheVariants.{Ei
 use Rattle.plan_timing.specs.Promised.{Promised}
 use Rattle.table_rounds.specs.Tables.{Table, round_places}
 use Rattle.unit_queue.specs.OwnedStreams.{has_access}
-use Rattle.demux.specs.Views.{FindingView, PidFinding}
-use Rattle.demux.specs.Findings.{findings_to_end}
+use Rattle.pid_findings.specs.Views.{FindingView, PidFinding}
+use Rattle.pid_findings.specs.Findings.{findings_to_end}
 use Rattle.demux.specs.Laws.{with_pid_at}
 use Rattle.laws_pid.specs.Rounds.{sections_of_rounds}
 use Rattle.laws_pid.specs.Sections.{section_found, section_packets}

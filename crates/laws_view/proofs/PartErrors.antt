@@ -9,7 +9,7 @@ use Rattle.std.specs.Option.{option_to_list}
 use Rattle.std.proofs.lemmas.Bool.{leb-false}
 use Rattle.std.proofs.lemmas.List.Elements.{All-head, All-tail}
 use Rattle.pes_packet.specs.Payloads.{piece_count}
-use Rattle.demux.specs.Views.{IsSection, IsTruncated, PidFinding}
+use Rattle.pid_findings.specs.Views.{IsSection, IsTruncated, PidFinding}
 use Rattle.demux.specs.Laws.{with_pid_at}
 use Rattle.laws_pid.specs.Sent.{Ending, each_found, if_sent, next_of, sendings}
 use Rattle.laws_pid.specs.Sections.{section_found, section_packets}

@@ -29,7 +29,7 @@ use Rattle.slot_plan.specs.TableRounds.{section_starts}
 use Rattle.plan_timing.specs.Promised.{Promised}
 use Rattle.table_rounds.specs.Tables.{Table, moment_before, round_places}
 use Rattle.table_rounds.specs.Payloads.{Begins, TableIsAlone}
-use Rattle.demux.specs.Views.{PidFinding}
+use Rattle.pid_findings.specs.Views.{PidFinding}
 use Rattle.demux.specs.Laws.{with_pid_at}
 use Rattle.laws_pid.specs.Laws.{packets_on}
 use Rattle.laws_pid.specs.Rounds.{sections_of_rounds}

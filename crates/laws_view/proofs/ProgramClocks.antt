@@ -21,8 +21,8 @@ use Rattle.mux_core.specs.Headline.{Headline, ProgramKept, UnitsKept}
 use Rattle.mux_core.specs.Histories.{content_at}
 use Rattle.mux_core.proofs.Whole.{contents_fit, headline}
 use Rattle.laws_run.proofs.ClocksRecur.{NoClock, all_none, find_program, none_here}
-use Rattle.es_view.specs.declared.view_options.ViewOptions.{ViewOptions}
-use Rattle.es_view.specs.Clocks.{place_of, sample_in}
+use Rattle.es_events.specs.declared.view_options.ViewOptions.{ViewOptions}
+use Rattle.es_events.specs.Clocks.{place_of, sample_in}
 use Rattle.laws_view.proofs.ClockAhead.{AreClocks, ClockIs, IsReference, NoClocks, entries_from, places}
 use Rattle.laws_view.proofs.PidEntries.{pid_entries}
 

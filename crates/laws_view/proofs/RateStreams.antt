@@ -22,7 +22,7 @@ use Rattle.tstd_rows.specs.declared.arriving.Arriving.{Arriving}
 use Rattle.tstd_rows.specs.Entering.{EnteredView, after, entered}
 use Rattle.tstd_rows.specs.Held.{Held, empty}
 use Rattle.ts_tables.specs.NamedStreams.{NamedView, clock_of as program_clock}
-use Rattle.es_view.specs.declared.view_options.ViewOptions.{ViewOptions}
+use Rattle.es_events.specs.declared.view_options.ViewOptions.{ViewOptions}
 use Rattle.ts_watch.specs.Choices.{RequestView}
 use Rattle.es_view.specs.Entries.{EntryState}
 use Rattle.ts_report.specs.Seen.{origin_after, with_arrival}

@@ -10,7 +10,7 @@ use Rattle.ts_packet.specs.PidList.{Entry}
 use Rattle.pes_packet.specs.AccessUnits.{AccessUnit}
 use Rattle.arrival.specs.declared.clock.PcrSample.{PcrSample}
 use Rattle.arrival.specs.declared.arrival.Arrival.TheVariants.{AtRate}
-use Rattle.es_view.specs.declared.view_options.ViewOptions.{ViewOptions}
+use Rattle.es_events.specs.declared.view_options.ViewOptions.{ViewOptions}
 use Rattle.laws_view.specs.StreamPackets.{Before, Followed, clock_in, clock_with, clocks_seen, known_after, most_packets, sound_packet}
 use Rattle.laws_view.specs.CarriedStreams.{GoesBy}
 use Rattle.laws_view.proofs.Lists.{some_is}

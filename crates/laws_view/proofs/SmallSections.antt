@@ -20,21 +20,23 @@ use Rattle.psi_tables.specs.declared.error.SectionError.{SectionError}
 use Rattle.psi_tables.specs.declared.error.SectionError.TheVariants as refusals
 use Rattle.psi_tables.specs.Reading.{section_at}
 use Rattle.psi_tables.specs.Views.{SectionView}
-use Rattle.demux.specs.Findings.{by_break, by_role, cut_short, decided_by, decided_within, end_of, ended, found_appended, found_at, found_if, found_or_cut}
-use Rattle.demux.specs.Findings.{found_within}
-use Rattle.demux.specs.Findings.{last_bytes, last_bytes_by, undecided, unless_decided}
+use Rattle.pid_findings.specs.Findings.{by_break, by_role, cut_short, decided_by, decided_within, end_of, ended, found_appended, found_at, found_if}
+use Rattle.pid_findings.specs.Findings.{found_or_cut}
+use Rattle.pid_findings.specs.Findings.{found_within}
+use Rattle.pid_findings.specs.Findings.{last_bytes, last_bytes_by, past_end, stray_bytes, undecided, unless_decided}
 use Rattle.demux.specs.FoundSoFar.{found_in_all}
-use Rattle.demux.specs.Machine.{PidState, found_by, next_open, step, step_marked, unbroken}
-use Rattle.demux.specs.Marks.{LastView, Marked, is_repeat, mark}
-use Rattle.demux.specs.OpenUnits.{OpenUnit, about, about_within, appended, begun_kind, decided, last_in, of_section, section, sections_in, taken_by}
-use Rattle.demux.specs.Roles.{Continuation, NoPayload, PesStart, PointerPastEnd, Role, ScrambledPayload, SectionStart, may_begin_pes, role, role_by}
-use Rattle.demux.specs.Roles.{role_by_pointer, role_of}
-use Rattle.demux.specs.Roles.{role_of_start}
-use Rattle.demux.specs.Shown.{with_pid}
+use Rattle.pid_findings.specs.Machine.{PidState, found_by, next_open, step, step_marked, unbroken}
+use Rattle.pid_findings.specs.Marks.{LastView, Marked, is_repeat, mark}
+use Rattle.pid_findings.specs.OpenUnits.{OpenUnit, about, about_within, appended, begun_kind, decided, last_in, of_section, section, sections_in, taken_by}
+use Rattle.pid_findings.specs.Roles.{Continuation, NoPayload, PesStart, PointerPastEnd, Role, ScrambledPayload, SectionStart, may_begin_pes, role, role_by}
+use Rattle.pid_findings.specs.Roles.{role_by_pointer, role_of}
+use Rattle.pid_findings.specs.Roles.{role_of_start}
+use Rattle.pid_findings.specs.Shown.{with_pid}
 use Rattle.demux.specs.Stream.{States, StreamState, entry_of, findings_by, found_in, start, state_of, states_by, taken, with_state}
-use Rattle.demux.specs.Views.{BreaksCounter, FindingView, Found, IsBadSection, IsDuplicate, IsErrored, IsScrambled, IsSection, IsStray, IsTruncated, WhatView}
-use Rattle.demux.specs.declared.open_unit.UnitKind.{UnitKind}
-use Rattle.demux.specs.declared.open_unit.UnitKind.TheVariants as unit_kinds
+use Rattle.pid_findings.specs.Views.{BreaksCounter, FindingView, Found, IsBadSection, IsDuplicate, IsErrored, IsScrambled, IsSection, IsStray, IsTruncated}
+use Rattle.pid_findings.specs.Views.{WhatView}
+use Rattle.pid_findings.specs.declared.open_unit.UnitKind.{UnitKind}
+use Rattle.pid_findings.specs.declared.open_unit.UnitKind.TheVariants as unit_kinds
 use Rattle.tr101290.specs.Parts.{has_parts, is_map, part_of}
 use Rattle.tr101290.specs.Sections.{begin_of, section_begin, section_by}
 use Rattle.laws_view.proofs.LateEvents.{AllSmall, IsSmall, IsSmallPart}
@@ -111,6 +113,18 @@ by_kind pid packet unit_kinds.Pes access bytes what h calm = tt
 about_small : (unit : OpenUnit) (what : WhatView) → Bytes unit.bytes → (unit.kind ≡ unit_kinds.Section → IsCalm what) → IsSmallFound (about unit what)
 about_small unit what h calm pid = by_kind pid unit.packet unit.kind unit.access unit.bytes what h calm
 
+plain_small : (what : WhatView) → IsSmallFound (record { begun = None; what = what; within = false })
+unfolding section_by IsSmall
+plain_small what pid = tt
+
+stray_small : (n : ℕ) (t : Bool) → AllFound (cond t [] ((record { begun = None; what = IsStray n; within = false }) ∷ []))
+stray_small n true = tt
+stray_small n false = (plain_small (IsStray n), tt)
+
+-- the bytes past the end of a unit
+past_small : (unit : OpenUnit) (what : WhatView) → AllFound (stray_bytes (past_end (length unit.bytes) what))
+past_small unit what = let n = past_end (length unit.bytes) what in stray_small n (n == 0)
+
 found_if_small : (unit : OpenUnit) (kind : UnitKind) → unit.kind ≡ kind → (bytes : List ℕ) → Bytes unit.bytes → Bytes bytes →
     AllFound (found_if unit (decided kind bytes))
 unfolding found_if IsCalmIf
@@ -118,12 +132,15 @@ found_if_small unit unit_kinds.Section e bytes h k = by (decided unit_kinds.Sect
   where
     by : (o : Option WhatView) → IsCalmIf o → AllFound (found_if unit o)
     by None calm = tt
-    by (Some what) calm = (about_small unit what h (λ s. calm), tt)
+    by (Some what) calm = (about_small unit what h (λ s. calm), past_small unit what)
 found_if_small unit unit_kinds.Pes e bytes h k = by (decided unit_kinds.Pes bytes)
   where
     by : (o : Option WhatView) → AllFound (found_if unit o)
     by None = tt
-    by (Some what) = (about_small unit what h (λ s. let no : unit_kinds.Pes ≡ unit_kinds.Section = sym e ∙ s in absurd (let none : ⊥ = cc in none)), tt)
+    by (Some what) = (
+      about_small unit what h (λ s. let no : unit_kinds.Pes ≡ unit_kinds.Section = sym e ∙ s in absurd (let none : ⊥ = cc in none)),
+      past_small unit what,
+    )
 
 within_small : (unit : OpenUnit) (kind : UnitKind) → unit.kind ≡ kind → Bytes unit.bytes → AllFound (found_within unit (decided kind unit.bytes))
 unfolding found_within IsCalmIf
@@ -131,7 +148,7 @@ within_small unit unit_kinds.Section e h = by (decided unit_kinds.Section unit.b
   where
     by : (o : Option WhatView) → IsCalmIf o → AllFound (found_within unit o)
     by None calm = tt
-    by (Some what) calm = (λ pid. by_kind pid unit.packet unit.kind unit.access unit.bytes what h (λ s. calm), tt)
+    by (Some what) calm = (λ pid. by_kind pid unit.packet unit.kind unit.access unit.bytes what h (λ s. calm), past_small unit what)
 within_small unit unit_kinds.Pes e h = by (decided unit_kinds.Pes unit.bytes)
   where
     by : (o : Option WhatView) → AllFound (found_within unit o)
@@ -139,7 +156,7 @@ within_small unit unit_kinds.Pes e h = by (decided unit_kinds.Pes unit.bytes)
     by (Some what) = (
       λ pid. by_kind pid unit.packet unit.kind unit.access unit.bytes what h
           (λ s. let no : unit_kinds.Pes ≡ unit_kinds.Section = sym e ∙ s in absurd (let none : ⊥ = cc in none)),
-      tt,
+      past_small unit what,
     )
 
 -- a unit that may be open
@@ -252,10 +269,6 @@ unbroken_bytes (Some b) o h = tt
 
 -- 4. What is found at a packet
 
-plain_small : (what : WhatView) → IsSmallFound (record { begun = None; what = what; within = false })
-unfolding section_by IsSmall
-plain_small what pid = tt
-
 role_small : (packet : ℕ) (r : Role) (o : Option OpenUnit) → IsByteRole r → IsByteUnit o → AllFound (by_role packet r o)
 unfolding by_role found_appended IsByteRole IsByteUnit
 role_small packet NoPayload o h k = tt
@@ -266,11 +279,7 @@ role_small packet (PesStart access payload) o h k =
 role_small packet (SectionStart before bytes) o h k =
     both (last_bytes before o) (sections_in packet 0 bytes) (last_small before o h.0 k) (sections_small packet 0 bytes h.1)
 role_small packet PointerPastEnd o h k = (plain_small (IsBadSection refusals.Body), cut_small o k)
-role_small packet (Continuation payload) None h k = by (length payload == 0)
-  where
-    by : (t : Bool) → AllFound (cond t [] ((record { begun = None; what = IsStray (length payload); within = false }) ∷ []))
-    by true = tt
-    by false = (plain_small (IsStray (length payload)), tt)
+role_small packet (Continuation payload) None h k = stray_small (length payload) (length payload == 0)
 role_small packet (Continuation payload) (Some unit) h k =
     let more : Bytes (unit.bytes ++ payload) = All-append Byte unit.bytes payload k h in
     found_if_small (appended unit payload) unit.kind refl (unit.bytes ++ payload) more more

@@ -13,15 +13,15 @@ use Rattle.arrival.specs.declared.clock.PcrSample.{PcrSample}
 use Rattle.tstd_rows.specs.declared.unit_seen.UnitSeen.{UnitSeen}
 use Rattle.tstd_rows.specs.Entering.{EnteredView, after, entered}
 use Rattle.tstd_rows.specs.declared.arriving.Arriving.{Arriving}
-use Rattle.es_view.specs.declared.tally.Tally.{Tally}
-use Rattle.es_view.specs.declared.view_options.ViewOptions.{ViewOptions}
-use Rattle.es_view.specs.Clocks.{ClockEntries, clock_of, clocks_after, with_sample}
+use Rattle.es_events.specs.declared.tally.Tally.{Tally}
+use Rattle.es_events.specs.declared.view_options.ViewOptions.{ViewOptions}
+use Rattle.es_events.specs.Clocks.{ClockEntries, clock_of, clocks_after, with_sample}
 use Rattle.pid_windows.specs.Windows.{one_more}
 use Rattle.es_view.specs.Entries.{EntryState, arriving, beginning_in, is_unread}
-use Rattle.es_view.specs.Tallies.{tally_after}
+use Rattle.es_events.specs.Tallies.{tally_after}
 use Rattle.ts_report.specs.Seen.{SeenState, next_window, with_counter_read}
 use Rattle.ts_report.specs.StreamTables.{entry_taken}
-use Rattle.es_view.specs.Tallies.{in_window, is_late, more, with_excesses, with_packet as with_tallied, with_unit_if}
+use Rattle.es_events.specs.Tallies.{in_window, is_late, more, with_excesses, with_packet as with_tallied, with_unit_if}
 use Rattle.ts_report.specs.Views.{ViewState, after_packet, after_read, clocked, with_begun, with_named, with_packet, with_sections, with_tables, without}
 use Rattle.laws_view.specs.StreamPackets.{Before, Followed, after_each, clock_with, entered_each, known_after, reference_in, seen_in, sound_packet}
 use Rattle.laws_view.proofs.EnteredBytes.{Alike, after_alike}

@@ -9,7 +9,7 @@ use Rattle.tstd_rows.specs.Held.{Held}
 use Rattle.tstd_rows.specs.Entering.{after, entered}
 use Rattle.tstd_rows.specs.declared.arriving.Arriving.{Arriving}
 use Rattle.es_view.specs.Entries.{EntryState}
-use Rattle.es_view.specs.Tallies.{more}
+use Rattle.es_events.specs.Tallies.{more}
 use Rattle.ts_report.specs.Views.{ViewState}
 use Rattle.ts_report.specs.Views as views
 use Rattle.laws_view.specs.StreamPackets.{Before, Followed, after_each, entered_each, known_after, seen_in, sound_packet}

@@ -23,13 +23,13 @@ use Rattle.tstd_rows.proofs.AllMoments.{figures_law}
 use Rattle.tstd_rows.specs.Limits.{tb_size}
 use Rattle.tstd_rows.specs.Entering.{EnteredView}
 use Rattle.tstd_rows.specs.Held.{Held, empty, main_most, transport_most, transport_under_way, unit_before}
-use Rattle.es_view.specs.declared.view_options.ViewOptions.{ViewOptions}
+use Rattle.es_events.specs.declared.view_options.ViewOptions.{ViewOptions}
 use Rattle.ts_watch.specs.Choices.{RequestView}
-use Rattle.es_view.specs.Clocks.{clock_of}
+use Rattle.es_events.specs.Clocks.{clock_of}
 use Rattle.es_view.specs.Entries.{EntryState, closed}
 use Rattle.ts_report.specs.Seen.{with_arrival}
 use Rattle.ts_report.specs.StreamTables.{stream_buffers}
-use Rattle.es_view.specs.Tallies.{is_late}
+use Rattle.es_events.specs.Tallies.{is_late}
 use Rattle.ts_report.specs.Views.{ViewState, start}
 use Rattle.laws_view.specs.StreamPackets.{Before, Followed, known_after, most_packets, sound_packet}
 use Rattle.laws_view.specs.StreamUnits.{all_units, units_ended}

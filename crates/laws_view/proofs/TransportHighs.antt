@@ -17,9 +17,9 @@ use Rattle.tstd_rows.specs.Held.{Held, carried, passed, transport_found, transpo
 use Rattle.tstd_rows.specs.Entering.{EnteredView, after, after_begin, after_header, after_lead, after_payload, after_unit, ended_with, entered, lead_in}
 use Rattle.tstd_rows.specs.Entering.{nothing, payload_transport_most, size_of, takes_in, with_packet}
 use Rattle.tstd_rows.specs.declared.arriving.Arriving.{Arriving}
-use Rattle.es_view.specs.Tallies.{tally_after}
-use Rattle.es_view.specs.Tallies.{in_window, with_excesses, with_packet as with_tallied, with_unit_if}
-use Rattle.es_view.specs.declared.tally.Tally.{Tally}
+use Rattle.es_events.specs.Tallies.{tally_after}
+use Rattle.es_events.specs.Tallies.{in_window, with_excesses, with_packet as with_tallied, with_unit_if}
+use Rattle.es_events.specs.declared.tally.Tally.{Tally}
 use Rattle.laws_view.specs.HeldWindows.{window_entering}
 use Rattle.laws_view.specs.TimedStreams.{Entering, after_entering, entered_by}
 use Rattle.laws_view.specs.TransportHighs.{IsFull, IsFullWith, TimedTransportLaw, TransportHighLaw, TransportWithoutLaw, WindowTransportLaw, transport_after}

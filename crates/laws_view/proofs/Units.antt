@@ -15,7 +15,7 @@ use Rattle.tstd_rows.specs.declared.arriving.Arriving.{Arriving}
 use Rattle.tstd_rows.specs.Held.{Held, carried, passed}
 use Rattle.tstd_rows.specs.Entering.{EnteredView, after, after_begin, after_header, after_lead, after_payload, after_unit, ended_with, entered, lead_in}
 use Rattle.tstd_rows.specs.Entering.{nothing, size_of, takes_in, unit_ended, with_packet}
-use Rattle.es_view.specs.Tallies.{is_late, more}
+use Rattle.es_events.specs.Tallies.{is_late, more}
 use Rattle.laws_view.specs.StreamUnits.{units_ended}
 use Rattle.laws_view.proofs.EnteredBytes.{Alike, payload_alike}
 

@@ -26,7 +26,7 @@ use Rattle.tstd_rows.specs.declared.arriving.Arriving.{Arriving}
 use Rattle.tstd_rows.specs.Held.{Held, unit_before}
 use Rattle.tstd_rows.specs.Entering.{after, after_begin, after_header, after_lead, after_payload, after_unit, entered, size_of, takes_in, unit_ended}
 use Rattle.tstd_rows.specs.Entering.{with_packet}
-use Rattle.es_view.specs.Tallies.{is_late}
+use Rattle.es_events.specs.Tallies.{is_late}
 use Rattle.laws_view.specs.StreamPackets.{after_each}
 use Rattle.laws_view.specs.StreamUnits.{all_units, units_ended}
 use Rattle.laws_view.proofs.EnteredBytes.{ComeFrom, packet_arrives, payload_alike, taken_in}

@@ -10,7 +10,7 @@ use Rattle.ts_packet.specs.PidList.{Entry, cut_packets, entry_of}
 use Rattle.slot_contents.specs.Contents.{run_bytes}
 use Rattle.slot_contents.proofs.Runs.{run_length}
 use Rattle.pes_packet.specs.Units.{units_of}
-use Rattle.demux.specs.Views.{PidFinding}
+use Rattle.pid_findings.specs.Views.{PidFinding}
 use Rattle.monitor.specs.declared.fault.StreamFault.{StreamFault}
 use Rattle.monitor.specs.Begins.{found_on}
 use Rattle.monitor.specs.Faults.{finding_faults, packet_pids}

@@ -10,18 +10,19 @@ use Rattle.ts_packet.specs.Views.{PacketView}
 use Rattle.ts_packet.specs.Reading.{packet_at}
 use Rattle.ts_packet.specs.PidList.{Entry}
 use Rattle.ts_packet.proofs.PlainWritten.{null_again}
-use Rattle.demux.specs.Views.{FindingView, Found, IsErrored}
-use Rattle.demux.specs.Machine.{PidState, found_by, step}
-use Rattle.demux.specs.Shown.{with_pid}
-use Rattle.demux.specs.Bodies.{all_without_body, found_without_body, headers_pushed, headers_taken, state_without_body, states_without_bodies}
+use Rattle.pid_findings.specs.Views.{FindingView, Found, IsErrored}
+use Rattle.pid_findings.specs.Machine.{PidState, found_by, step}
+use Rattle.pid_findings.specs.Shown.{with_pid}
+use Rattle.pid_findings.specs.Bodies.{all_without_body, found_without_body, state_without_body}
+use Rattle.demux.specs.StreamBodies.{headers_pushed, headers_taken, states_without_bodies}
 use Rattle.demux.specs.Stream.{States, StreamState, entry_of, findings_by, found_in, next_packet, pushed, state_of, states_by, taken, with_state}
 use Rattle.demux.specs.FoundSoFar.{with_found}
-use Rattle.demux.proofs.Bodies.{bodies_decide_nothing, state_again}
+use Rattle.pid_findings.proofs.Bodies.{bodies_decide_nothing, state_again}
 use Rattle.laws_monitor.proofs.PidEntries.{kept, same_number, turned_test}
 use Rattle.stream_programs.specs.Streams.{FoundStreamView}
-use Rattle.es_view.specs.declared.view_options.ViewOptions.{ViewOptions}
+use Rattle.es_events.specs.declared.view_options.ViewOptions.{ViewOptions}
 use Rattle.es_view.specs.Entries.{EntryState}
-use Rattle.es_view.specs.Clocks.{ClockEntries}
+use Rattle.es_events.specs.Clocks.{ClockEntries}
 use Rattle.ts_watch.specs.TableEvents.{TablesState, TakesPackets}
 use Rattle.ts_watch.proofs.TablePackets.{null_found, pushed_forgotten, pushed_found, taken_takes}
 use Rattle.ts_report.specs.Seen.{SeenState, with_counter_read}

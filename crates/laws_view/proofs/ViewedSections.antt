@@ -10,12 +10,12 @@ use Rattle.ts_packet.specs.PidList.{cut_packets}
 use Rattle.slot_contents.specs.Contents.{run_bytes}
 use Rattle.slot_contents.proofs.Runs.{run_length}
 use Rattle.pes_packet.specs.Units.{units_of}
-use Rattle.demux.specs.Views.{FindingView, WhatView, IsDuplicate, BreaksCounter, IsScrambled, IsTruncated, IsSection, IsBadSection, IsPes, IsBadPes}
-use Rattle.demux.specs.Views.{Found, IsBadPacket, IsErrored, IsStray}
+use Rattle.pid_findings.specs.Views.{FindingView, WhatView, IsDuplicate, BreaksCounter, IsScrambled, IsTruncated, IsSection, IsBadSection, IsPes, IsBadPes}
+use Rattle.pid_findings.specs.Views.{Found, IsBadPacket, IsErrored, IsStray}
 use Rattle.psi_tables.specs.declared.error.SectionError.{SectionError}
 use Rattle.psi_tables.specs.declared.error.SectionError.TheVariants as refusals
-use Rattle.demux.specs.Machine.{found_by}
-use Rattle.demux.specs.Shown.{with_pid}
+use Rattle.pid_findings.specs.Machine.{found_by}
+use Rattle.pid_findings.specs.Shown.{with_pid}
 use Rattle.demux.specs.Stream.{StreamState, entry_of, findings_by, finished, found_in, state_of, taken}
 use Rattle.demux.specs.Stream as demux
 use Rattle.demux.specs.FoundSoFar.{found_in_all, taken_all}
@@ -39,7 +39,7 @@ use Rattle.mux_core.proofs.Whole.{contents_fit}
 use Rattle.events.specs.declared.event.Event.{Event}
 use Rattle.events.specs.declared.event.Event.TheVariants as found
 use Rattle.events.specs.declared.rule_event.RuleEvent.TheVariants as rules
-use Rattle.es_view.specs.declared.view_options.ViewOptions.{ViewOptions}
+use Rattle.es_events.specs.declared.view_options.ViewOptions.{ViewOptions}
 use Rattle.ts_watch.specs.Choices.{RequestView}
 use Rattle.ts_watch.specs.TableEvents.{TimesState, begin_events, check_word_event, check_word_events, distance_events, error_events, finding_events}
 use Rattle.ts_watch.specs.TableEvents.{findings_events}

@@ -7,9 +7,9 @@ use Rattle.std.proofs.lemmas.List.Elements.{All-head, All-tail, filter-append, f
 use Rattle.ts_packet.specs.declared.packet.PacketError.{PacketError}
 use Rattle.ts_packet.specs.Views.{PacketView}
 use Rattle.ts_packet.specs.Reading.{packet_at}
-use Rattle.demux.specs.Views.{FindingView, Found, IsErrored}
-use Rattle.demux.specs.Machine.{found_by}
-use Rattle.demux.specs.Shown.{with_pid}
+use Rattle.pid_findings.specs.Views.{FindingView, Found, IsErrored}
+use Rattle.pid_findings.specs.Machine.{found_by}
+use Rattle.pid_findings.specs.Shown.{with_pid}
 use Rattle.demux.specs.Stream.{States, StreamState, entry_of, findings_by, found_in, state_of, taken}
 use Rattle.demux.specs.FoundSoFar.{found_in_all}
 use Rattle.arrival.specs.declared.arrival.Arrival.TheVariants.{AtRate}
@@ -18,7 +18,7 @@ use Rattle.tr101290.specs.declared.intervals.SectionBegin.{SectionBegin}
 use Rattle.laws_monitor.specs.Tables.{errors_from}
 use Rattle.laws_monitor.proofs.PidEntries.{turned_test}
 use Rattle.events.specs.declared.event.Event.{Event}
-use Rattle.es_view.specs.declared.view_options.ViewOptions.{ViewOptions}
+use Rattle.es_events.specs.declared.view_options.ViewOptions.{ViewOptions}
 use Rattle.ts_watch.specs.TableEvents.{TablesState, TimesState, error_event, findings_events, with_findings}
 use Rattle.ts_watch.proofs.HeaderTables.{events_alike, times_alike}
 use Rattle.ts_report.specs.StreamTables.{TableState, has_stream}

@@ -8,10 +8,10 @@ use Rattle.ts_packet.specs.Reading.{packet_at}
 use Rattle.tstd_rows.specs.declared.excess.Excess.{Excess}
 use Rattle.tstd_rows.specs.Entering.{EnteredView}
 use Rattle.ts_watch.specs.Choices.{RequestView}
-use Rattle.es_view.specs.EntryEvents.{with_one}
-use Rattle.es_view.specs.Clocks.{clock_of}
+use Rattle.es_events.specs.EntryEvents.{with_one}
+use Rattle.es_events.specs.Clocks.{clock_of}
 use Rattle.es_view.specs.Entries.{EntryState}
-use Rattle.es_view.specs.Tallies.{more}
+use Rattle.es_events.specs.Tallies.{more}
 use Rattle.ts_report.specs.Views.{ViewState, after_all, start}
 use Rattle.laws_view.specs.StreamPackets.{Before, Followed, known_after, known_after_all, sound_packet}
 use Rattle.laws_view.proofs.Entries.{Agree}

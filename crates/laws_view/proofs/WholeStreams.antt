@@ -2,12 +2,12 @@
 use Rattle.std.proofs.Common.{◌≡◌, ◌∙◌, sym, ap, refl, ℕ, List, ◌++◌, ◌∷◌, [], None}
 use Rattle.std.proofs.lemmas.List.{append_assoc}
 use Rattle.events.specs.declared.event.Event.{Event}
-use Rattle.es_view.specs.EntryEvents.{main_event, main_figures, transport_total, under_way_events}
+use Rattle.es_events.specs.EntryEvents.{main_event, main_figures, transport_total, under_way_events}
 use Rattle.es_view.specs.Entries.{EntryState, closed, closed_seen, place_at, seen_held, stays_closing}
 use Rattle.es_view.specs.HeldEvents.{tally_events}
-use Rattle.es_view.specs.MarkTallies.{mark_events}
-use Rattle.es_view.specs.VideoEvents.{video_closing_events}
-use Rattle.es_view.specs.VideoFigures.{figures_of}
+use Rattle.es_events.specs.MarkTallies.{mark_events}
+use Rattle.es_events.specs.VideoEvents.{video_closing_events}
+use Rattle.es_events.specs.VideoFigures.{figures_of}
 use Rattle.laws_view.specs.WholeStreams.{LastEventsLaw}
 
 by_packets : (window : ℕ) (e : EntryState) → e.framed ≡ None → (seen_held e ≡ e.held) × (closed_seen window e ≡ closed window e)

@@ -14,9 +14,9 @@ use Rattle.tstd_rows.specs.History.{Part, left_after, main_fullness, row_least, 
 use Rattle.tstd_rows.specs.History.Part.{Passes, Carries, Begins}
 use Rattle.tstd_rows.specs.Lows.{least_of, least_of_both}
 use Rattle.tstd_rows.specs.declared.unit_seen.UnitSeen.{UnitSeen}
-use Rattle.es_view.specs.Tallies.{tally_after}
-use Rattle.es_view.specs.Tallies.{in_window, with_excesses, with_packet as with_tallied, with_unit_if}
-use Rattle.es_view.specs.declared.tally.Tally.{Tally}
+use Rattle.es_events.specs.Tallies.{tally_after}
+use Rattle.es_events.specs.Tallies.{in_window, with_excesses, with_packet as with_tallied, with_unit_if}
+use Rattle.es_events.specs.declared.tally.Tally.{Tally}
 use Rattle.laws_view.specs.TimedStreams.{Entering, entered_by}
 use Rattle.laws_view.specs.WindowLows.{HasPayload, counted_each, least_after}
 use Rattle.laws_view.specs.WindowHighs.{HighWithoutLaw, IsHighWith, WholeHighLaw, WindowHighLaw, WindowMostLaw, most_after}

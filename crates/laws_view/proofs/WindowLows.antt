@@ -22,9 +22,9 @@ use Rattle.tstd_rows.specs.declared.unit_seen.DueTime.{DueTime}
 use Rattle.tstd_rows.specs.declared.unit_seen.UnitSeen.{UnitSeen}
 use Rattle.tstd_rows.proofs.Lows.{lows_law}
 use Rattle.es_view.specs.HeldEvents.{main_held, main_now}
-use Rattle.es_view.specs.Tallies.{tally_after}
-use Rattle.es_view.specs.Tallies.{in_window, with_excesses, with_packet as with_tallied, with_unit_if}
-use Rattle.es_view.specs.declared.tally.Tally.{Tally}
+use Rattle.es_events.specs.Tallies.{tally_after}
+use Rattle.es_events.specs.Tallies.{in_window, with_excesses, with_packet as with_tallied, with_unit_if}
+use Rattle.es_events.specs.declared.tally.Tally.{Tally}
 use Rattle.laws_view.specs.StreamPackets.{most_packets}
 use Rattle.laws_view.specs.TimedStreams.{Entering, after_entering, entered_by}
 use Rattle.laws_view.specs.WindowHighs.{most_after}

@@ -1,5 +1,5 @@
--- Of a stream that carries units at a constant rate, as of what a multiplexer wrote, the figures of a view are those that `tstd::measure` finds
--- of the same bytes.
+-- At a constant rate the figures in a view of a stream that carries units, such as a multiplexer's output, equal the figures that `tstd::measure`
+-- finds in the same bytes.
 use Rattle.std.specs.Prelude.{◌≡◌, ℕ, ◌≤◌, false, is_some, true, List, [], ◌∷◌, ◌++◌, length, slice_get, Some, None}
 use Rattle.ts_packet.specs.PidList.{cut_packets, pid_list}
 use Rattle.slot_contents.specs.Contents.{run_bytes}
@@ -65,11 +65,11 @@ JobAsMeasuredLaw = (d : Scheduled) (units : List (ℕ × AccessUnit)) (slots : �
     IsStreamFullness d.description.rate d.description.base0 viewed.stream (units_of k units)
     (packets_on viewed.stream.pid (output_of false d (job_history units slots))) f → AsMeasured e f
 
--- clock references are looked for on the PID of one of the description's programs
+-- the stream's clock references are those on the PCR_PID of a program of the description
 abbrev pub IsClockOf : Scheduled → EntryState → Type 0
 IsClockOf d e = (i : ℕ) × (p : DescribedProgram) × (slice_get d.description.programs i ≡ Some p) × (e.clock_pid ≡ p.pcr_pid)
 
--- so where no unit of it is due before 2 seconds after the run's begin: tables and clock references come before its packets
+-- it holds for a stream without a unit that is due in the first 2 seconds of the run: tables and clock references come before its packets
 abbrev pub RunLateAsMeasuredLaw : Type 0
 RunLateAsMeasuredLaw = (d : Scheduled) (units : ℕ → List AccessUnit) (slots : ℕ) (request : RequestView) (e : EntryState) (k : ℕ) → IsInRange d.description →
     Promised d.description d.schedule →

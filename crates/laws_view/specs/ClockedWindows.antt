@@ -33,7 +33,7 @@ unfoldable pub tables_in : ViewState → Option QueueState → List ℕ → List
 tables_in v None bytes = (after_packet v bytes).table ∷ []
 tables_in v (Some q) bytes = tables_released v (stepped q bytes) (released q bytes)
 
--- those that wait at the end arrive then
+-- the packets that still wait at the end of the stream arrive then
 unfoldable pub last_tables : ViewState → Option QueueState → List TableState
 last_tables v None = []
 last_tables v (Some q) = tables_with v q (last_arrival q)
@@ -42,11 +42,11 @@ unfoldable pub tables_all : ClockedState → List (List ℕ) → List TableState
 tables_all s [] = last_tables s.view s.queue
 tables_all s (bytes ∷ packets) = tables_in s.view s.queue bytes ++ tables_all (clocked.after_packet s bytes) packets
 
--- those of a report, to its end: the one at an index is that once so many packets have been viewed
+-- the tables of streams in a report, to its end: the element at index i is the table after i packets have been viewed
 abbrev pub report_tables : RequestView → List (List ℕ) → List TableState
 report_tables request packets = (start request).table ∷ tables_all (clocked.start request) packets
 
--- 2. They are those of its packets one by one, each as it arrives
+-- 2. These are the tables after its packets one by one, each as it arrives
 
 abbrev pub timed_in : RequestView → List (List ℕ) → List Timed
 timed_in request packets = timed_packets (clock_for request.choice.programs) packets
@@ -57,8 +57,8 @@ ClockedTablesLaw = (request : RequestView) (packets : List (List ℕ)) (before l
 
 -- 3. A stream in a window of it
 
--- one whose buffers have begun before the window, and whose last packet then lies in another: e once all packets before the window have been
--- viewed, e' once those `now` have too
+-- a stream whose buffers have begun before the window, and whose last packet before it lies in an earlier window: e is its state after all
+-- packets before the window, e' its state after the packets `now` as well
 pub record OfClockedWindow (request : RequestView) (packets : List (List ℕ)) (before now later : List Timed) (window place : ℕ) (e e' : EntryState) : Type 0
   where
     pub unknown : request.options.arrival ≡ Unknown

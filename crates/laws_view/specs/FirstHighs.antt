@@ -1,5 +1,5 @@
--- The greatest that a line `held` says of a stream's buffers in the window in which they begin: of all its packets so far, as the lines `transport`
--- and `main` say it, since all of them lie in that window.
+-- The greatest fullness in the line `held` for the window where a stream's buffers begin: the greatest over all its packets so far, as in the
+-- lines `transport` and `main`, since all these packets lie in that window.
 use Rattle.std.specs.Prelude.{◌≡◌, ℕ, ◌+◌, ◌^◌, ◌<◌, List, ◌++◌, length, slice_get, Some, None}
 use Rattle.arrival.specs.declared.arrival.Arrival.TheVariants.{Unknown}
 use Rattle.tstd_rows.specs.Held.{main_most, transport_most}

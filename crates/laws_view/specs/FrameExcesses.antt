@@ -49,7 +49,7 @@ unfoldable pub gone_cut : ℕ → ℕ → ℕ → List FramedPacket → List ℕ
 gone_cut rate rx apart [] = []
 gone_cut rate rx apart (p ∷ packets) = gone_units rate rx apart p.packet.dts p.access_units ++ gone_cut rate rx apart packets
 
--- each of these bytes is gone no later than that of the other list
+-- each byte of the first list is gone no later than the byte at the same place of the second
 unfoldable pub GoneBy : List ℕ → List ℕ → Type 0
 GoneBy [] us = Unit {0}
 GoneBy (t ∷ ts) [] = ⊥
@@ -61,15 +61,15 @@ pub record SeenAs (rate : ℕ) (s : DescribedStream) (framing : Framing) (packet
   pub whole : All (λ p. sum p.access_units ≡ p.packet.size) packets
   pub gone : GoneBy (gone_seen f.held.parts) (drop (length (payloads_from s.pid before)) (gone_cut rate s.rx framing.frame packets))
 
--- ---- so no excess of its main buffer is told
+-- ---- a view has no excess of its main buffer
 
--- the line `main` says no more than its size, and counts no excess: none has ended, and none is under way at the end
+-- the line `main` has at most its size and no excess: no excess has ended, and none is open at the end
 pub record NoFrameExcess (f : Framed) : Type 0 where
   pub most : main_most f.held ≤ f.held.main.size
   pub none_ended : f.tally.main_excesses ≡ 0
   pub none_under_way : f.held.main.under_way ≡ None
 
--- so of each stream whose access units the description declares, and that is viewed by access units, wherever its buffers begin
+-- this holds for each stream whose access units the description declares, if it is viewed by access units, wherever its buffers begin
 abbrev pub RunFramesLaw : Type 0
 RunFramesLaw = (d : Scheduled) (units : ℕ → List AccessUnit) (slots : ℕ) (request : RequestView) (place : ℕ) (e : EntryState) (k : ℕ) (framing : Framing)
     (packets : List FramedPacket) (f : Framed) → IsInRange d.description → Promised d.description d.schedule → UnitsKept d units → slots ≤ most_packets →
@@ -78,7 +78,7 @@ RunFramesLaw = (d : Scheduled) (units : ℕ → List AccessUnit) (slots : ℕ) (
     viewed.stream.framing ≡ Some framing → CutsUnits d viewed.stream framing (units k) packets → e.framed ≡ Some f →
     SeenAs d.description.rate viewed.stream framing packets whole.begun.before f → NoFrameExcess f
 
--- so of a whole job of which no unit is refused, over a plan that keeps its conditions or two in turn
+-- the same for a whole job in which every unit is accepted, over one plan that keeps its conditions, or over two plans in turn
 abbrev pub JobFramesLaw : Type 0
 JobFramesLaw = (d : Scheduled) (units : List (ℕ × AccessUnit)) (slots : ℕ) (request : RequestView) (place : ℕ) (e : EntryState) (k : ℕ) (framing : Framing)
     (packets : List FramedPacket) (f : Framed) → IsInRange d.description → Promised d.description d.schedule →

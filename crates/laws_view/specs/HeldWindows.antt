@@ -3,9 +3,9 @@ use Rattle.std.specs.Prelude.{◌≡◌, ℕ, ◌+◌, ◌^◌, ◌<◌, ◌≤�
 use Rattle.arrival.specs.declared.arrival.Arrival.TheVariants.{AtRate}
 use Rattle.tstd_rows.specs.declared.arriving.Arriving.{Arriving}
 use Rattle.laws_arrival.specs.TimedPackets.{Timed}
-use Rattle.es_view.specs.declared.view_options.ViewOptions.{ViewOptions}
+use Rattle.es_events.specs.declared.view_options.ViewOptions.{ViewOptions}
 use Rattle.ts_watch.specs.Choices.{RequestView}
-use Rattle.es_view.specs.Clocks.{clock_of}
+use Rattle.es_events.specs.Clocks.{clock_of}
 use Rattle.es_view.specs.Entries.{EntryState}
 use Rattle.es_view.specs.HeldEvents.{main_held}
 use Rattle.ts_report.specs.Seen.{with_arrival}
@@ -22,7 +22,7 @@ known_then s e = record { index = s.seen.packets; clock = clock_of s.seen.clocks
 
 -- 1. Packets that arrive in any way
 
--- those of the stream among them, as its buffers see them
+-- the stream's packets among these, as its buffers see them
 abbrev pub window_entering : RequestView → List Timed → EntryState → List Timed → List Entering
 window_entering request before e packets = entering_among (followed_by (followed request e) before) (known_then (view_by (start request) before) e) packets
 
@@ -32,12 +32,12 @@ BeginIn options window index [] = Unit {0}
 BeginIn options window index (p ∷ packets) =
     (window_of (with_arrival options p.arrival) index ≡ window) × BeginIn (with_arrival options p.arrival) window (index + 1) packets
 
--- how a stream is viewed once these have come
+-- how a stream is viewed after these packets
 abbrev pub options_then : RequestView → EntryState → List Timed → ViewOptions
 options_then request e before = (followed_by (followed request e) before).options
 
--- of a stream whose buffers have begun before a window's first packet, and whose last packet then lies in another window: e once all packets
--- before the window have come, e' once these of the window have too
+-- a stream whose buffers have begun before a window's first packet, and whose last packet before it lies in an earlier window: e is its state
+-- after all packets before the window, e' its state after the window's packets `packets` as well
 pub record OfWindow (request : RequestView) (before packets : List Timed) (window place : ℕ) (e e' : EntryState) : Type 0 where
   pub few : length before + length packets < 2 ^ 64
   pub begun : slice_get (view_by (start request) before).table.entries place ≡ Some e
@@ -45,23 +45,24 @@ pub record OfWindow (request : RequestView) (before packets : List Timed) (windo
   pub other : (e.tally.window == window) ≡ false
   pub all : BeginIn (options_then request e before) window (length before) packets
 
--- where one of these packets that is of the stream carries payload, its line `held` has the main buffer's least fullness while they come
+-- if one of the stream's packets among these carries payload, the line `held` has the least fullness of the main buffer while these packets come
 abbrev pub TimedWindowLaw : Type 0
 TimedWindowLaw = (request : RequestView) (before packets : List Timed) (window place : ℕ) (e e' : EntryState) →
     OfWindow request before packets window place e e' → 0 < e.held.rate → HasPayload e.held (window_entering request before e packets) →
     SaysLow e'.tally e.held (window_entering request before e packets)
 
--- as the most and as the least, it has what the buffer holds of the earlier bytes once the last of these packets has left the transport buffer
+-- the line has as its most and as its least the earlier bytes that the main buffer still holds when the last of these packets has left the
+-- transport buffer
 abbrev pub HasHeld : EntryState → EntryState → List Entering → Type 0
 HasHeld e e' xs = main_held e'.tally.window_main e'.held e'.tally.window_least ≡ (still_held e.held xs, still_held e.held xs)
 
--- if none of them does
+-- this holds if none of the stream's packets carries payload
 abbrev pub TimedWithoutLaw : Type 0
 TimedWithoutLaw = (request : RequestView) (before packets : List Timed) (window place : ℕ) (e e' : EntryState) →
     OfWindow request before packets window place e e' → (e'.tally.window == window) ≡ true →
     (HasPayload e.held (window_entering request before e packets) → ⊥) → HasHeld e e' (window_entering request before e packets)
 
--- in the window in which a stream's buffers begin its line says 0: nothing is in them before their first payload byte
+-- the line for the window where a stream's buffers begin says 0: the buffers are empty before their first payload byte
 abbrev pub FirstWindowLaw : Type 0
 FirstWindowLaw = (request : RequestView) (before packets : List Timed) (window place : ℕ) (e : EntryState) → length before + length packets < 2 ^ 64 →
     slice_get (view_by (start request) before).table.entries place ≡ None →

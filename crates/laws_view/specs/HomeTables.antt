@@ -21,12 +21,12 @@ unfoldable pub is_other_table : Event → Bool
 is_other_table (found.Rule (rules.OtherTable fault)) = true
 is_other_table _ = false
 
--- of a run there are none, whatever is viewed and however packets arrive
+-- a run has no such event, whatever is viewed and however packets arrive
 abbrev pub RunHomesLaw : Type 0
 RunHomesLaw = (d : Scheduled) (units : ℕ → List AccessUnit) (slots : ℕ) (request : RequestView) → IsInRange d.description → UnitsKept d units →
     slots < 2 ^ 64 - 1 → filter is_other_table (sections_in (start request) (cut_packets (run_bytes (content_at d units) 0 slots))) ≡ []
 
--- nor of a whole job of which no unit is refused
+-- nor has a whole job in which every unit is accepted
 abbrev pub JobHomesLaw : Type 0
 JobHomesLaw = (d : Scheduled) (units : List (ℕ × AccessUnit)) (slots : ℕ) (request : RequestView) → IsInRange d.description →
     first_refused d (capacity_for units) [] units ≡ None → slots ≤ 2 ^ 40 →

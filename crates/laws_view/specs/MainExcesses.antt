@@ -1,4 +1,4 @@
--- Excesses of a main buffer: none is told where the line `main` says no more than its size.
+-- Excesses of a main buffer: a view has none if the line `main` has at most the buffer's size.
 use Rattle.std.specs.Prelude.{◌≡◌, ℕ, ◌≤◌, List, [], ◌∷◌, flat_map, None}
 use Rattle.arrival.specs.declared.arrival.Arrival.TheVariants.{AtRate}
 use Rattle.tstd_rows.specs.Held.{empty, main_most}
@@ -9,7 +9,7 @@ use Rattle.laws_view.specs.StreamPackets.{entered_each}
 use Rattle.laws_view.specs.TimedStreams.{IsWholeBy, entered_by, stream_entering}
 use Rattle.laws_view.specs.WholeStreams.{IsWhole, stream_packets}
 
--- whichever way packets arrive: with none of the stream's packets has one ended, and none is under way at the end
+-- however packets arrive, no excess has ended with any of the stream's packets, and none is open at the end
 abbrev pub TimedNoExcessLaw : Type 0
 TimedNoExcessLaw = (request : RequestView) (step : ℕ) (packets : List Timed) (e : EntryState) (whole : IsWholeBy request step packets e) →
     main_most e.held ≤ e.held.main.size →

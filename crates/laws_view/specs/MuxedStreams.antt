@@ -1,4 +1,4 @@
--- Of what a multiplexer wrote, viewed at its rate, no line `excess` is told: no transport buffer ever holds more than 512 bytes.
+-- A view of a multiplexer's output at its rate has no line `excess`: no transport buffer ever holds more than 512 bytes.
 use Rattle.std.specs.Prelude.{◌≡◌, ℕ, ◌≤◌, false, List, [], ◌∷◌, flat_map, slice_get, Some, None}
 use Rattle.ts_packet.specs.PidList.{cut_packets}
 use Rattle.pes_packet.specs.AccessUnits.{AccessUnit}
@@ -12,14 +12,14 @@ use Rattle.arrival.specs.declared.arrival.Arrival.TheVariants.{AtRate}
 use Rattle.tstd_rows.specs.Limits.{tb_size}
 use Rattle.tstd_rows.specs.Held.{empty, transport_most, transport_under_way}
 use Rattle.ts_watch.specs.Choices.{RequestView}
-use Rattle.es_view.specs.EntryEvents.{with_one}
+use Rattle.es_events.specs.EntryEvents.{with_one}
 use Rattle.es_view.specs.Entries.{EntryState, closed}
 use Rattle.ts_report.specs.Views.{after_all, start}
 use Rattle.laws_view.specs.StreamPackets.{entered_each, most_packets}
 use Rattle.laws_view.specs.WholeStreams.{IsWhole, stream_packets}
 
--- no excess of a stream's transport buffer is told: with none of its packets has one ended, at the end none is under way, and the line
--- `transport` says no more than 512 bytes and no excess
+-- a stream's transport buffer has no excess: none has ended with any of the stream's packets, none is open at the end, and the line
+-- `transport` has at most 512 bytes and no excess
 pub record NoExcess (request : RequestView) (rate : ℕ) (packets : List (List ℕ)) (e : EntryState) : Type 0 where
   pub whole : IsWhole request rate packets e
   pub most : transport_most e.held ≤ tb_size
@@ -29,8 +29,8 @@ pub record NoExcess (request : RequestView) (rate : ℕ) (packets : List (List �
   pub none_under_way : transport_under_way e.held ≡ None
   pub number : (window : ℕ) → with_one (closed window e).excesses (transport_under_way e.held) ≡ 0
 
--- of bytes that keep what a multiplexer promises, each stream of the description that is viewed with the rate out of its transport buffer
--- that the description gives
+-- in bytes that keep what a multiplexer promises, each stream of the description has no excess, if it is viewed with the rate out of its
+-- transport buffer that the description gives
 abbrev pub MuxedStreamLaw : Type 0
 MuxedStreamLaw = (d : Scheduled) (units : ℕ → List AccessUnit) (slots : ℕ) (bytes : List ℕ) (request : RequestView) (place : ℕ) (e : EntryState) (k : ℕ)
     (s : DescribedStream) →
@@ -39,7 +39,7 @@ MuxedStreamLaw = (d : Scheduled) (units : ℕ → List AccessUnit) (slots : ℕ)
     e.held.rx ≡ s.rx →
     NoExcess request d.description.rate (cut_packets bytes) e
 
--- so of a whole job of which no unit is refused, over a plan that keeps its conditions or two in turn
+-- the same for a whole job in which every unit is accepted, over one plan that keeps its conditions, or over two plans in turn
 abbrev pub JobNoExcessLaw : Type 0
 JobNoExcessLaw = (d : Scheduled) (units : List (ℕ × AccessUnit)) (n : ℕ) (request : RequestView) (place : ℕ) (e : EntryState) (k : ℕ) (s : DescribedStream) →
     IsInRange d.description → Promised d.description d.schedule → first_refused d (capacity_for units) [] units ≡ None → n ≤ most_packets →

@@ -20,7 +20,7 @@ use Rattle.laws_monitor.specs.Tables.{errors_from, sections_of}
 abbrev pub table_errors : ℕ → ℕ → ℕ → List ℕ → List TableError
 table_errors rate pid table_id bytes = errors_from (no_section (ConstantRate rate)) (sections_of pid table_id (found_on pid bytes))
 
--- the tables that have a limit, but those that are ready-made
+-- the tables that have a limit, except ready-made tables
 pub record NoneIsLate (d : Described) (bytes : List ℕ) : Type 0 where
   -- 1.3.a: program association, every 500 ms
   pub associations : table_errors d.rate 0x00 0x00 bytes ≡ []
@@ -35,12 +35,12 @@ pub record NoneIsLate (d : Described) (bytes : List ℕ) : Type 0 where
   -- 3.8: time and date, every 30 s
   pub time : table_errors d.rate 0x14 0x70 bytes ≡ []
 
--- so of every run over a plan that keeps its conditions or two in turn
+-- no table is late in any run over a plan that keeps its conditions, or over two such plans in turn
 abbrev pub RunTablesLaw : Type 0
 RunTablesLaw = (d : Scheduled) (units : ℕ → List AccessUnit) (slots : ℕ) → IsInRange d.description → Promised d.description d.schedule → UnitsKept d units →
     slots < 2 ^ 64 - 1 → NoneIsLate d.description (run_bytes (content_at d units) 0 slots)
 
--- and of a whole job of which no unit is refused
+-- nor in a whole job in which every unit is accepted
 abbrev pub JobTablesLaw : Type 0
 JobTablesLaw = (d : Scheduled) (units : List (ℕ × AccessUnit)) (slots : ℕ) → IsInRange d.description → Promised d.description d.schedule →
     first_refused d (capacity_for units) [] units ≡ None → slots ≤ 2 ^ 40 → NoneIsLate d.description (output_of false d (job_history units slots))

@@ -1,5 +1,5 @@
--- All packets of a stream, from one of them on, as its buffers see them (ISO/IEC 13818-1, 2.4.2.3): of each its index, the size of its
--- payload, when the unit is due that begins with it, and whether its payload goes on to the main buffer.
+-- All packets of a stream, from a first packet on, as its buffers see them (ISO/IEC 13818-1, 2.4.2.3): for each packet its index, the size of
+-- its payload, the DTS of the unit that begins with it, and whether its payload enters the main buffer.
 use Rattle.std.specs.Prelude.{ℕ, ◌+◌, nat_eq, if◌then◌else◌, List, [], ◌∷◌, ◌++◌, Option, Some, None, Result, Ok, Err}
 use Rattle.std.specs.Option.{option_or}
 use Rattle.ts_packet.specs.declared.packet.PacketError.{PacketError}
@@ -10,29 +10,28 @@ use Rattle.arrival.specs.declared.arrival.Arrival.{Arrival}
 use Rattle.tstd_rows.specs.Held.{Held}
 use Rattle.tstd_rows.specs.Entering.{EnteredView, after, entered}
 use Rattle.tstd_rows.specs.declared.arriving.Arriving.{Arriving}
-use Rattle.es_view.specs.declared.view_options.ViewOptions.{ViewOptions}
-use Rattle.es_view.specs.Clocks.{place_of, sample_in}
+use Rattle.es_events.specs.declared.view_options.ViewOptions.{ViewOptions}
+use Rattle.es_events.specs.Clocks.{place_of, sample_in}
 use Rattle.es_view.specs.Entries.{arriving, counter_after}
 
--- packets from this one on enter no buffer: those before are all in the first 2^40 bytes
+-- packets from this index on enter no buffer: all packets before it lie in the first 2^40 bytes
 abbrev pub most_packets : ℕ
 most_packets = 5_848_000_000
 
--- what stays the same along a stream: how it is viewed, its PID, that of its program's clock references, and the rate out of its transport
--- buffer
+-- the constants of a stream: how it is viewed, its PID, the PID of its program's clock references, and the rate out of its transport buffer
 pub record Followed : Type 0 where
   pub options : ViewOptions
   pub pid : ℕ
   pub clock_pid : ℕ
   pub rx : ℕ
 
--- what is known before a packet: its index, the program's last clock reference, and the counter of the stream's last packet with a payload
+-- the state before a packet: its index, the program's last clock reference, and the counter of the stream's last packet with a payload
 pub record Before : Type 0 where
   pub index : ℕ
   pub clock : Option PcrSample
   pub counter : Option ℕ
 
--- a packet that can be read and is not marked as wrong; no other counts
+-- a packet that can be read and has no transport_error_indicator; any other packet counts as none
 unfoldable pub sound_packet : Result PacketView PacketError → Option PacketView
 sound_packet (Err error) = None
 sound_packet (Ok packet) = if packet.header.transport_error_indicator then None else Some packet
@@ -44,7 +43,7 @@ reference_in options index packet = sample_in (place_of options.arrival index) p
 abbrev pub clock_with : ViewOptions → ℕ → ℕ → PacketView → Option PcrSample → Option PcrSample
 clock_with options clock_pid index packet clock = if nat_eq clock_pid packet.header.pid then option_or (reference_in options index packet) clock else clock
 
--- what is known after a packet
+-- the state after a packet
 unfoldable pub known_after : Followed → Before → Option PacketView → Before
 known_after s b None = record { index = b.index + 1; clock = b.clock; counter = b.counter }
 known_after s b (Some packet) = record {
@@ -53,7 +52,7 @@ known_after s b (Some packet) = record {
   counter = if nat_eq s.pid packet.header.pid then counter_after b.counter packet else b.counter;
 }
 
--- what it is to the stream's buffers, if it is one of the stream; a clock reference in it counts
+-- the packet as the stream's buffers see it, if it is on the stream's PID; a clock reference in it is used for it
 unfoldable pub seen_in : Followed → Before → Option PacketView → List Arriving
 seen_in s b None = []
 seen_in s b (Some packet) =
@@ -67,7 +66,7 @@ seen_among s b [] = []
 seen_among s b (bytes ∷ packets) =
     seen_in s b (sound_packet (packet_at bytes)) ++ seen_among s (known_after s b (sound_packet (packet_at bytes))) packets
 
--- and the program's last clock reference with each of them, one in it too
+-- for each packet of the stream the program's last clock reference, its own included
 unfoldable pub clock_in : Followed → Before → Option PacketView → List (Option PcrSample)
 clock_in s b None = []
 clock_in s b (Some packet) = if nat_eq s.pid packet.header.pid then clock_with s.options s.clock_pid b.index packet b.clock ∷ [] else []
@@ -77,12 +76,12 @@ clocks_seen s b [] = []
 clocks_seen s b (bytes ∷ packets) =
     clock_in s b (sound_packet (packet_at bytes)) ++ clocks_seen s (known_after s b (sound_packet (packet_at bytes))) packets
 
--- what is known after these
+-- the state after these packets
 unfoldable pub known_after_all : Followed → Before → List (List ℕ) → Before
 known_after_all s b [] = b
 known_after_all s b (bytes ∷ packets) = known_after_all s (known_after s b (sound_packet (packet_at bytes))) packets
 
--- they enter buffers one after another: what these hold then, and what has ended with each
+-- packets enter buffers one after another: what the buffers hold then, and what has ended with each packet
 unfoldable pub after_each : Held → Arrival → List Arriving → Held
 after_each h arrival [] = h
 after_each h arrival (p ∷ ps) = after_each (after h arrival p) arrival ps

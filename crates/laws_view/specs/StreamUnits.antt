@@ -1,4 +1,4 @@
--- All units of a stream: each ends where the next one begins, and the last one with the stream.
+-- All units of a stream: each unit ends where the next begins, the last unit with the stream.
 --
 -- Lists of parts have the last one first.
 use Rattle.std.specs.Prelude.{ℕ, List, [], ◌∷◌, ◌++◌}
@@ -7,7 +7,7 @@ use Rattle.tstd_rows.specs.History.{Part, unit_of}
 use Rattle.tstd_rows.specs.History.Part.{Passes, Carries, Begins}
 use Rattle.tstd_rows.specs.declared.unit_seen.UnitSeen.{UnitSeen}
 
--- those that have ended with these parts, in the order of the stream
+-- the units that have ended with these parts, in the order of the stream
 unfoldable pub units_ended : ℕ → List Part → List UnitSeen
 units_ended step [] = []
 units_ended step (Passes times ∷ before) = units_ended step before

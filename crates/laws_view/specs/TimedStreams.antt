@@ -28,16 +28,16 @@ use Rattle.laws_view.specs.WholeStreams.{Begun, SaysAll, followed, nothing_known
 
 -- 1. Packets of a stream, one by one
 
--- a view after packets, each of which arrives in its own way
+-- a view after packets that arrive each by its own arrival
 unfoldable pub view_by : ViewState → List Timed → ViewState
 view_by s [] = s
 view_by s (p ∷ packets) = view_by (after_packet (arriving s p.arrival 1) p.bytes) packets
 
--- a stream as it is followed while packets arrive so
+-- a stream as it is followed while packets arrive by `arrival`
 abbrev pub followed_so : Followed → Arrival → Followed
 followed_so f arrival = record f { options = with_arrival f.options arrival }
 
--- what is known after these packets, and how the stream is followed then
+-- the state after these packets, and how the stream is followed then
 unfoldable pub followed_by : Followed → List Timed → Followed
 followed_by f [] = f
 followed_by f (p ∷ packets) = followed_by (followed_so f p.arrival) packets
@@ -61,7 +61,7 @@ entering_among f b (p ∷ packets) =
     entering p.arrival (seen_in (followed_so f p.arrival) b (sound_packet (packet_at p.bytes)))
     ++ entering_among (followed_so f p.arrival) (known_after (followed_so f p.arrival) b (sound_packet (packet_at p.bytes))) packets
 
--- they enter one after another: what the buffers hold then, and what has ended with each
+-- packets enter one after another: what the buffers hold then, and what has ended with each packet
 unfoldable pub after_entering : Held → List Entering → Held
 after_entering h [] = h
 after_entering h (x ∷ xs) = after_entering (after h x.arrival x.packet) xs
@@ -70,7 +70,7 @@ unfoldable pub entered_by : Held → List Entering → List EnteredView
 entered_by h [] = []
 entered_by h (x ∷ xs) = entered h x.arrival x.packet ∷ entered_by (after h x.arrival x.packet) xs
 
--- those of a stream from the packet with which its buffers begin, before which no counter is known
+-- the packets of a stream from the packet where its buffers begin; before that packet no counter is known
 abbrev pub known_at_first : Followed → List Timed → Before
 known_at_first f before = record (known_by f nothing_known before) { counter = None }
 

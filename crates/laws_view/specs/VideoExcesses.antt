@@ -22,18 +22,18 @@ use Rattle.tstd_rows.specs.EnteringVideo.{video_of}
 use Rattle.tstd_rows.specs.declared.arriving.Arriving.{Arriving}
 use Rattle.ts_watch.specs.Choices.{RequestView}
 use Rattle.es_view.specs.Entries.{EntryState}
-use Rattle.es_view.specs.VideoFigures.{figures_with}
+use Rattle.es_events.specs.VideoFigures.{figures_with}
 use Rattle.laws_view.specs.StreamPackets.{most_packets}
 use Rattle.laws_view.specs.ViewedRuns.{IsViewedAs}
 use Rattle.laws_view.specs.WholeStreams.{IsWhole, stream_packets}
 
--- packets enter buffers one after another: what has ended with each in the two buffers of video
+-- packets enter buffers one after another: what has ended with each packet in the two buffers of video
 unfoldable pub video_each : Option VideoSizes → Held → Arrival → List Arriving → List VideoEnteredView
 video_each sizes h arrival [] = []
 video_each sizes h arrival (p ∷ ps) = video_of sizes h arrival p ∷ video_each sizes (after h arrival p) arrival ps
 
--- the elementary stream buffer of such a stream has no excess: the line `elementary` says no more than its size, with none of the stream's
--- packets has an excess ended, and none is under way at the end
+-- the elementary stream buffer of such a stream has no excess: the line `elementary` has at most its size, no excess has ended with any of the
+-- stream's packets, and none is open at the end
 pub record NoElementaryExcess (request : RequestView) (rate : ℕ) (packets : List (List ℕ)) (e : EntryState) (sizes : VideoSizes)
     (whole : IsWhole request rate packets e) : Type 0 where
   pub most : (figures_with sizes e.held).elementary_most ≤ sizes.elementary
@@ -42,7 +42,7 @@ pub record NoElementaryExcess (request : RequestView) (rate : ℕ) (packets : Li
       (stream_packets request e whole.begun.before (whole.begun.first ∷ whole.begun.later))) ≡ []
   pub none_under_way : (figures_with sizes e.held).elementary ≡ None
 
--- so of each stream of the description that is viewed with an elementary stream buffer of the size of the description, however its
+-- this holds for each stream of the description that is viewed with an elementary stream buffer of the description's size, however its
 -- multiplexing buffer leaks and wherever the buffers begin
 abbrev pub RunElementaryLaw : Type 0
 RunElementaryLaw = (d : Scheduled) (units : ℕ → List AccessUnit) (slots : ℕ) (request : RequestView) (e : EntryState) (k : ℕ) (sizes : VideoSizes) →
@@ -51,7 +51,7 @@ RunElementaryLaw = (d : Scheduled) (units : ℕ → List AccessUnit) (slots : �
     e.video ≡ Some sizes → sizes.elementary ≡ viewed.stream.main →
     NoElementaryExcess request d.description.rate (cut_packets (run_bytes (content_at d units) 0 slots)) e sizes whole
 
--- so of a whole job of which no unit is refused, over a plan that keeps its conditions or two in turn
+-- the same for a whole job in which every unit is accepted, over one plan that keeps its conditions, or over two plans in turn
 abbrev pub JobElementaryLaw : Type 0
 JobElementaryLaw = (d : Scheduled) (units : List (ℕ × AccessUnit)) (slots : ℕ) (request : RequestView) (e : EntryState) (k : ℕ) (sizes : VideoSizes) →
     IsInRange d.description → Promised d.description d.schedule → first_refused d (capacity_for units) [] units ≡ None → slots ≤ most_packets →
@@ -59,8 +59,8 @@ JobElementaryLaw = (d : Scheduled) (units : List (ℕ × AccessUnit)) (slots : �
     e.video ≡ Some sizes → sizes.elementary ≡ viewed.stream.main →
     NoElementaryExcess request d.description.rate (cut_packets (output_of false d (job_history units slots))) e sizes whole
 
--- the multiplexing buffer of such a stream has no excess: the line `multiplexing` says no more than its size, with none of the stream's packets
--- has an excess ended, and none is under way at the end
+-- the multiplexing buffer of such a stream has no excess: the line `multiplexing` has at most its size, no excess has ended with any of the
+-- stream's packets, and none is open at the end
 pub record NoMultiplexingExcess (request : RequestView) (rate : ℕ) (packets : List (List ℕ)) (e : EntryState) (sizes : VideoSizes)
     (whole : IsWhole request rate packets e) : Type 0 where
   pub most : (figures_with sizes e.held).multiplexing_most ≤ sizes.multiplexing

@@ -18,7 +18,7 @@ use Rattle.events.specs.declared.event.Event.TheVariants as found
 use Rattle.ts_watch.specs.Choices.{RequestView}
 use Rattle.ts_report.specs.Views.{ViewState, after_packet, after_read, counter_events_at, start}
 
--- the events that these packets settle by their continuity_counter: the last of those at each packet
+-- the events of continuity_counters that these packets settle: the last events at each packet
 unfoldable pub counters_in : ViewState → List (List ℕ) → List Event
 counters_in s [] = []
 counters_in s (bytes ∷ packets) = counter_events_at (after_read s (packet_at bytes)) bytes ++ counters_in (after_packet s bytes) packets
@@ -27,17 +27,17 @@ counters_in s (bytes ∷ packets) = counter_events_at (after_read s (packet_at b
 abbrev pub counter_event : ContinuityError → Event
 counter_event e = found.Continuity (record { pid = e.pid; packet = e.packet; expected = e.expected; found = e.found })
 
--- so of any stream these are the errors of its packets, whatever else is viewed
+-- for any stream these events are the errors of its packets, whatever else is viewed
 abbrev pub ViewedCountersLaw : Type 0
 ViewedCountersLaw = (request : RequestView) (bytes : List ℕ) → length bytes / 188 < 2 ^ 64 - 1 →
     counters_in (start request) (cut_packets bytes) ≡ map counter_event (errors_from [] (sound_packets bytes))
 
--- and of the bytes of a run there are none
+-- the bytes of a run have no such event
 abbrev pub RunCountersLaw : Type 0
 RunCountersLaw = (d : Scheduled) (units : ℕ → List AccessUnit) (slots : ℕ) (request : RequestView) → IsInRange d.description → UnitsKept d units →
     slots < 2 ^ 64 - 1 → counters_in (start request) (cut_packets (run_bytes (content_at d units) 0 slots)) ≡ []
 
--- nor of a whole job of which no unit is refused
+-- nor has a whole job in which every unit is accepted
 abbrev pub JobCountersLaw : Type 0
 JobCountersLaw = (d : Scheduled) (units : List (ℕ × AccessUnit)) (slots : ℕ) (request : RequestView) → IsInRange d.description →
     first_refused d (capacity_for units) [] units ≡ None → slots ≤ 2 ^ 40 →

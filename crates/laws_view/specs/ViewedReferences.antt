@@ -31,14 +31,14 @@ IsSoon ticks = ticks ≤ greatest_interval
 abbrev pub IsNear : Inaccuracy → Type 0
 IsNear off = off.nanoseconds ≤ 38
 
--- what a view finds of a clock reference: its bytes and its value come at most 100 ms after those of the one before on its PID, and its value is
--- within a tick of its place at the rate
+-- the report on a clock reference: its byte and its value come at most 100 ms after the byte and the value of the reference before it on its
+-- PID, and its value is within a tick of its place at the rate
 pub record IsWithin (report : PcrReport) : Type 0 where
   pub interval : IfSome report.interval IsSoon
   pub difference : IfSome (difference_in report.step) IsSoon
   pub inaccuracy : IfSome report.inaccuracy IsNear
 
--- so of the reference of a packet that comes next, if it has one; and it has none of the events of these errors
+-- the next packet has such a report if it has a reference, and it has no event of these errors
 pub record IsFine (s : SeenState) (packet : PacketView) : Type 0 where
   pub report : IfSome (report_on s packet) IsWithin
   pub events : reference_errors s packet ≡ []
@@ -48,14 +48,14 @@ pub record IsFineClock (entry : ℕ × PcrState) : Type 0 where
   pub interval : IsSoon entry.1.counts.interval
   pub inaccuracy : entry.1.counts.inaccuracy ≤ 38
 
--- so of each packet that is read, after those before it; at the end the lines `clock` say so, and no error of accuracy is left
+-- this holds for each packet that is read, after the packets before it; at the end the lines `clock` say so, and no error of accuracy is held
 pub record NoReferenceError (request : RequestView) (packets : List (List ℕ)) : Type 0 where
   pub each : (before later : List (List ℕ)) (bytes : List ℕ) (packet : PacketView) → packets ≡ before ++ bytes ∷ later →
       sound_packet (packet_at bytes) ≡ Some packet → IsFine (after_all (start request) before).seen packet
   pub clocks : All IsFineClock (after_all (start request) packets).seen.watches.watches
   pub none_left : last_errors (after_all (start request) packets).seen.rules.judge ≡ []
 
--- so of a run over a plan that keeps its conditions, or over two in turn, whatever streams are viewed
+-- this holds for a run over a plan that keeps its conditions, or over two plans in turn, whatever streams are viewed
 abbrev pub RunReferencesLaw : Type 0
 RunReferencesLaw = (d : Scheduled) (units : ℕ → List AccessUnit) (slots : ℕ) (request : RequestView) → IsInRange d.description →
     Promised d.description d.schedule → UnitsKept d units → slots ≤ most_packets → request.options.arrival ≡ AtRate d.description.rate →

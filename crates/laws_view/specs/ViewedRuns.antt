@@ -20,12 +20,12 @@ use Rattle.arrival.specs.declared.arrival.Arrival.TheVariants.{AtRate}
 use Rattle.tstd_rows.specs.Held.{empty, main_most}
 use Rattle.ts_watch.specs.Choices.{RequestView}
 use Rattle.es_view.specs.Entries.{EntryState, closed}
-use Rattle.es_view.specs.Tallies.{is_late}
+use Rattle.es_events.specs.Tallies.{is_late}
 use Rattle.laws_view.specs.StreamPackets.{entered_each, most_packets}
 use Rattle.laws_view.specs.StreamUnits.{all_units}
 use Rattle.laws_view.specs.WholeStreams.{IsWhole, stream_packets}
 
--- a stream of the description that is viewed with the buffers that the description gives; whatever PID its clock references are looked for on
+-- a stream of the description that is viewed with the description's buffers, on whatever PID the view looks for its clock references
 pub record IsViewedAs (d : Scheduled) (request : RequestView) (k : ℕ) (e : EntryState) : Type 0 where
   pub arrival : request.options.arrival ≡ AtRate d.description.rate
   pub stream : DescribedStream
@@ -38,15 +38,15 @@ pub record IsViewedAs (d : Scheduled) (request : RequestView) (k : ℕ) (e : Ent
 abbrev pub FromTheFirst : ℕ → List (List ℕ) → Type 0
 FromTheFirst pid before = packets_from pid 0 before ≡ []
 
--- the line `main` says no more than what measuring these bytes finds
+-- the line `main` has at most the fullness that measuring these bytes finds
 abbrev pub NoMoreThanMeasured : Scheduled → List AccessUnit → List ℕ → DescribedStream → EntryState → Type 0
 NoMoreThanMeasured d units bytes s e = (f : StreamFullness) → IsStreamFullness d.description.rate d.description.base0 s units (packets_on s.pid bytes) f →
     main_most e.held ≤ f.main
 
--- no excess of the main buffer is told of such a stream, of which these units were accepted: the line `main` says no more than its size, with
--- none of the stream's packets has an excess ended, and none is under way at the end. It is no more than what measuring these bytes finds where
--- the buffers begin with the first packet of its PID: else the bytes before are in no transport buffer of the view, so later ones leave it
--- earlier than a decoder's
+-- the main buffer of such a stream, with these accepted units, has no excess: the line `main` has at most its size, no excess has ended with
+-- any of the stream's packets, and none is open at the end. If the buffers begin with the first packet of the PID, the line has at most the
+-- fullness that measuring these bytes finds; otherwise the bytes before enter no transport buffer of the view, and later bytes leave it earlier
+-- than a decoder's
 pub record NoMainExcess (d : Scheduled) (request : RequestView) (units : List AccessUnit) (bytes : List ℕ) (s : DescribedStream) (e : EntryState)
     (whole : IsWhole request d.description.rate (cut_packets bytes) e) : Type 0 where
   pub most : main_most e.held ≤ e.held.main.size
@@ -56,7 +56,7 @@ pub record NoMainExcess (d : Scheduled) (request : RequestView) (units : List Ac
   pub none_under_way : e.held.main.under_way ≡ None
   pub measured : FromTheFirst e.pid whole.begun.before → NoMoreThanMeasured d units bytes s e
 
--- so of each such stream, wherever its buffers begin
+-- this holds for each such stream, wherever its buffers begin
 abbrev pub RunMainLaw : Type 0
 RunMainLaw = (d : Scheduled) (units : ℕ → List AccessUnit) (slots : ℕ) (request : RequestView) (e : EntryState) (k : ℕ) → IsInRange d.description →
     Promised d.description d.schedule →
@@ -64,7 +64,7 @@ RunMainLaw = (d : Scheduled) (units : ℕ → List AccessUnit) (slots : ℕ) (re
     (whole : IsWhole request d.description.rate (cut_packets (run_bytes (content_at d units) 0 slots)) e) →
     NoMainExcess d request (units k) (run_bytes (content_at d units) 0 slots) viewed.stream e whole
 
--- so of a whole job of which no unit is refused, over a plan that keeps its conditions or two in turn
+-- the same for a whole job in which every unit is accepted, over one plan that keeps its conditions, or over two plans in turn
 abbrev pub JobMainLaw : Type 0
 JobMainLaw = (d : Scheduled) (units : List (ℕ × AccessUnit)) (slots : ℕ) (request : RequestView) (e : EntryState) (k : ℕ) → IsInRange d.description →
     Promised d.description d.schedule →
@@ -72,7 +72,7 @@ JobMainLaw = (d : Scheduled) (units : List (ℕ × AccessUnit)) (slots : ℕ) (r
     (whole : IsWhole request d.description.rate (cut_packets (output_of false d (job_history units slots))) e) →
     NoMainExcess d request (units_of k units) (output_of false d (job_history units slots)) viewed.stream e whole
 
--- buffers begin with the first packet where PAT and PMT have come before: no unit of the stream is due before 2 seconds after the run's begin
+-- buffers begin with the first packet if PAT and PMT come before it: no unit of the stream is due in the first 2 seconds of the run
 abbrev pub RunFirstLaw : Type 0
 RunFirstLaw = (d : Scheduled) (units : ℕ → List AccessUnit) (slots : ℕ) (request : RequestView) (e : EntryState) (k : ℕ) → IsInRange d.description →
     Promised d.description d.schedule →
@@ -87,7 +87,7 @@ JobFirstLaw = (d : Scheduled) (units : List (ℕ × AccessUnit)) (slots : ℕ) (
     (whole : IsWhole request d.description.rate (cut_packets (output_of false d (job_history units slots))) e) → DueLate (units_of k units) →
     FromTheFirst e.pid whole.begun.before
 
--- so of these streams the line `main` says no more than what is measured
+-- for these streams the line `main` has at most the measured fullness
 abbrev pub RunLateUnitsLaw : Type 0
 RunLateUnitsLaw = (d : Scheduled) (units : ℕ → List AccessUnit) (slots : ℕ) (request : RequestView) (e : EntryState) (k : ℕ) → IsInRange d.description →
     Promised d.description d.schedule →
@@ -102,12 +102,12 @@ JobLateUnitsLaw = (d : Scheduled) (units : List (ℕ × AccessUnit)) (slots : �
     IsWhole request d.description.rate (cut_packets (output_of false d (job_history units slots))) e →
     DueLate (units_of k units) → NoMoreThanMeasured d (units_of k units) (output_of false d (job_history units slots)) viewed.stream e
 
--- no unit of a stream is late: of all of them, those that end with its packets and the last one, none, and so the line `main` says
+-- no unit of a stream is late, neither a unit that ends with one of its packets nor the last unit, and the line `main` says so
 pub record NoLateUnit (rate : ℕ) (e : EntryState) : Type 0 where
   pub none : count_by is_late (all_units rate e.held.parts) ≡ 0
   pub number : (window : ℕ) → (closed window e).late ≡ 0
 
--- so wherever its buffers begin
+-- this holds wherever its buffers begin
 abbrev pub RunLateLaw : Type 0
 RunLateLaw = (d : Scheduled) (units : ℕ → List AccessUnit) (slots : ℕ) (request : RequestView) (e : EntryState) (k : ℕ) → IsInRange d.description →
     Promised d.description d.schedule →

@@ -1,4 +1,4 @@
--- The events that a view has of sections, and that of what a multiplexer wrote none of them is of a wrong check word (ETSI TR 101 290, 5.2.2, 2.2).
+-- The events of sections in a view; a view of a multiplexer's output has none of a wrong CRC_32 (ETSI TR 101 290, 5.2.2, 2.2).
 use Rattle.std.specs.Prelude.{◌≡◌, ℕ, ◌-◌, ◌^◌, ◌<◌, ◌≤◌, Bool, true, false, List, [], ◌∷◌, ◌++◌, filter, None}
 use Rattle.ts_packet.specs.Reading.{packet_at}
 use Rattle.ts_packet.specs.PidList.{cut_packets}
@@ -19,17 +19,17 @@ unfoldable pub sections_in : ViewState → List (List ℕ) → List Event
 sections_in s [] = []
 sections_in s (bytes ∷ packets) = table_events_at (after_read s (packet_at bytes)) bytes ++ sections_in (after_packet s bytes) packets
 
--- of a section with a wrong check word
+-- whether an event is of a section with a wrong CRC_32
 unfoldable pub is_check_word : Event → Bool
 is_check_word (found.CheckWord fault) = true
 is_check_word _ = false
 
--- of a run there are none, whatever is viewed
+-- a run has no such event, whatever is viewed
 abbrev pub RunCheckWordsLaw : Type 0
 RunCheckWordsLaw = (d : Scheduled) (units : ℕ → List AccessUnit) (slots : ℕ) (request : RequestView) → IsInRange d.description → UnitsKept d units →
     slots < 2 ^ 64 - 1 → filter is_check_word (sections_in (start request) (cut_packets (run_bytes (content_at d units) 0 slots))) ≡ []
 
--- nor of a whole job of which no unit is refused
+-- nor has a whole job in which every unit is accepted
 abbrev pub JobCheckWordsLaw : Type 0
 JobCheckWordsLaw = (d : Scheduled) (units : List (ℕ × AccessUnit)) (slots : ℕ) (request : RequestView) → IsInRange d.description →
     first_refused d (capacity_for units) [] units ≡ None → slots ≤ 2 ^ 40 →

@@ -1,5 +1,5 @@
 -- The events `table_repetition` of a view are the late sections of tables in the bytes (ETSI TR 101 290, 5.2.1, 1.3.a and 1.5.a; 5.2.3, 3.1, 3.5,
--- 3.6 and 3.8), and of what a multiplexer wrote a view has none.
+-- 3.6 and 3.8); a view of a multiplexer's output has none.
 use Rattle.std.specs.Prelude.{◌≡◌, ℕ, ◌-◌, ◌/◌, ◌^◌, ◌<◌, ◌≤◌, ◌==◌, ◌&&◌, Bool, false, List, [], filter, length, map, Option, Some, None, All}
 use Rattle.ts_packet.specs.PidList.{cut_packets, pid_list}
 use Rattle.slot_contents.specs.Contents.{run_bytes}
@@ -13,7 +13,7 @@ use Rattle.mux_core.specs.Scheduled.{Scheduled}
 use Rattle.mux_core.specs.Headline.{UnitsKept}
 use Rattle.mux_core.specs.Histories.{content_at}
 use Rattle.mux_core.specs.WholeJobs.{capacity_for, first_refused, job_history, output_of}
-use Rattle.demux.specs.Findings.{findings}
+use Rattle.pid_findings.specs.Findings.{findings}
 use Rattle.tr101290.specs.Intervals.{no_section}
 use Rattle.tr101290.specs.declared.intervals.TableError.{TableError}
 use Rattle.tr101290.specs.declared.intervals.TableTiming.TheVariants.{ConstantRate}
@@ -28,12 +28,12 @@ use Rattle.ts_report.specs.StreamTables.{has_stream}
 use Rattle.ts_report.specs.Views.{after_all, start}
 use Rattle.laws_view.specs.ViewedSections.{sections_in}
 
--- of a section that begins too late
+-- the fault of an event about a section that begins too late
 unfoldable pub late_of : Event → Option TableFault
 late_of (found.TableRepetition fault) = Some fault
 late_of _ = None
 
--- on a PID, of any table or of one
+-- whether a fault is on a PID, of any table or of one table
 abbrev pub is_on : ℕ → Option TableFault → Bool
 is_on pid None = false
 is_on pid (Some fault) = fault.pid == pid
@@ -48,7 +48,7 @@ is_late_on pid e = is_on pid (late_of e)
 abbrev pub is_late : ℕ → ℕ → Event → Bool
 is_late pid table_id e = is_of pid table_id (late_of e)
 
--- each is a byte
+-- each number is a byte
 abbrev pub AreBytes : List ℕ → Type 0
 AreBytes bytes = All (λ b. b < 256) bytes
 
@@ -56,7 +56,7 @@ AreBytes bytes = All (λ b. b < 256) bytes
 abbrev pub errors_before_end : ℕ → ℕ → ℕ → List ℕ → List TableError
 errors_before_end rate pid table_id bytes = errors_from (no_section (ConstantRate rate)) (sections_of pid table_id (findings (pid_list pid bytes)))
 
--- so of any stream at a rate, these events are the errors of its sections, if the PID has no stream whose buffers are viewed
+-- for any stream at a rate, these events are the errors of its sections, if the PID has no stream whose buffers are viewed
 abbrev pub ViewedTablesLaw : Type 0
 ViewedTablesLaw = (rate pid table_id : ℕ) (request : RequestView) (bytes : List ℕ) → request.options.arrival ≡ AtRate rate →
     length bytes / 188 < 2 ^ 64 - 1 → AreBytes bytes → (pid == 8191) ≡ false → has_stream (after_all (start request) (cut_packets bytes)).table pid ≡ false →
@@ -66,17 +66,18 @@ ViewedTablesLaw = (rate pid table_id : ℕ) (request : RequestView) (bytes : Lis
 abbrev pub IsNotReadyMade : Described → ℕ → Type 0
 IsNotReadyMade d pid = (t i : ℕ) → table_kind d t ≡ Some (Private i) → table_pid d t ≡ pid → ⊥
 
--- on each such PID a view has none of these events, of any table, whatever streams are viewed
+-- on each such PID a view has none of these events, whatever streams are viewed
 abbrev pub NoLateEvents : Described → RequestView → List ℕ → Type 0
 NoLateEvents d request bytes = (pid : ℕ) → IsNotReadyMade d pid → filter (is_late_on pid) (sections_in (start request) (cut_packets bytes)) ≡ []
 
--- so of every run over a plan that keeps its conditions, or over two in turn, viewed at its rate; in a law a byte of a unit is any number
+-- this holds for every run over a plan that keeps its conditions, or over two plans in turn, viewed at its rate; as a byte of a unit may be any
+-- number in a law, bytes are a premise
 abbrev pub RunTableEventsLaw : Type 0
 RunTableEventsLaw = (d : Scheduled) (units : ℕ → List AccessUnit) (slots : ℕ) (request : RequestView) → IsInRange d.description →
     Promised d.description d.schedule → UnitsKept d units → slots < 2 ^ 64 - 1 → request.options.arrival ≡ AtRate d.description.rate →
     AreBytes (run_bytes (content_at d units) 0 slots) → NoLateEvents d.description request (run_bytes (content_at d units) 0 slots)
 
--- and of a whole job, if no unit of it is refused
+-- and for a whole job, if every unit is accepted
 abbrev pub JobTableEventsLaw : Type 0
 JobTableEventsLaw = (d : Scheduled) (units : List (ℕ × AccessUnit)) (slots : ℕ) (request : RequestView) → IsInRange d.description →
     Promised d.description d.schedule → first_refused d (capacity_for units) [] units ≡ None → slots ≤ 2 ^ 40 →

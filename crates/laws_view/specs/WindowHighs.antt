@@ -7,8 +7,8 @@ use Rattle.tstd_rows.specs.History.{Part, main_fullness, payload_left}
 use Rattle.laws_arrival.specs.TimedPackets.{Timed}
 use Rattle.ts_watch.specs.Choices.{RequestView}
 use Rattle.es_view.specs.Entries.{EntryState}
-use Rattle.es_view.specs.Tallies.{in_window}
-use Rattle.es_view.specs.declared.tally.Tally.{Tally}
+use Rattle.es_events.specs.Tallies.{in_window}
+use Rattle.es_events.specs.declared.tally.Tally.{Tally}
 use Rattle.laws_view.specs.ClockedWindows.{OfClockedWindow}
 use Rattle.laws_view.specs.HeldWindows.{OfRateWindow, OfWindow, window_entering, window_packets}
 use Rattle.laws_view.specs.TimedStreams.{Entering, after_entering, entered_by, entering}
@@ -16,17 +16,17 @@ use Rattle.laws_view.specs.WindowLows.{HasPayload, SaysHeld, counted_each}
 
 -- 1. Packets of a window
 
--- the most that was in the main buffer when a byte of these packets entered it, and that so far
+-- the greatest fullness of the main buffer at the entry of any byte of these packets, or `most` if that is greater
 unfoldable pub most_after : ℕ → List EnteredView → ℕ
 most_after most [] = most
 most_after most (v ∷ vs) = most_after (max most v.main_most) vs
 
--- the most of a window is that of its packets, from the first on: before that one has entered none has been found in it
+-- the greatest fullness of a window is the greatest over its packets, from the first packet on: before it, the window has none
 abbrev pub WindowMostLaw : Type 0
 WindowMostLaw = (t : Tally) (window : ℕ) (v : Bool × EnteredView) (vs : List (Bool × EnteredView)) → (in_window t window).window_main ≡ 0 →
     (counted_each t window (v ∷ vs)).window_main ≡ most_after 0 (map (λ w. w.1) (v ∷ vs))
 
--- n is the greatest f from the first of these moments on: from then on none is greater, and it is reached at one of them
+-- n is the greatest value of f from the first of these moments on: no later value is greater, and f is n at one of the moments
 pub record IsGreatestFrom (f : ℕ → ℕ) (moments : List ℕ) (n : ℕ) : Type 0 where
   pub never_more : (x : ℕ) → (All (λ t. x < t) moments → ⊥) → f x ≤ n
   pub first : List ℕ
@@ -35,31 +35,32 @@ pub record IsGreatestFrom (f : ℕ → ℕ) (moments : List ℕ) (n : ℕ) : Typ
   pub among : moments ≡ first ++ moment ∷ others
   pub reached : f moment ≡ n
 
--- n is the greatest in the buffer, of all bytes, from when the first payload byte of the parts `recent` enters, that come after those `before`
+-- n is the greatest fullness of the buffer, over all bytes, from the entry of the first payload byte of the parts `recent`, which come after the
+-- parts `before`
 pub record IsHigh (step : ℕ) (recent before : List Part) (n : ℕ) : Type 0 where
-  -- when their own enter: all others have before
+  -- the entries of the payload bytes of `recent`: all other bytes have entered before
   pub entries : List ℕ
   pub follow : payload_left step (recent ++ before) ≡ payload_left step before ++ entries
   pub later : All (λ e. All (λ d. d < e) (payload_left step before)) entries
   pub greatest : IsGreatestFrom (main_fullness step (recent ++ before)) entries n
 
--- parts come with packets, and n is the greatest fullness of the main buffer from their first payload byte on
+-- packets bring the parts `recent`, and n is the greatest fullness of the main buffer from the first payload byte of these parts on
 pub record IsHighWith (h : Held) (xs : List Entering) (n : ℕ) : Type 0 where
   pub recent : List Part
   pub come : (after_entering h xs).parts ≡ recent ++ h.parts
   pub high : IsHigh h.rate recent h.parts n
 
--- whichever way each of them arrives, where one has a payload byte that goes on to the main buffer
+-- however packets arrive, if one of them has a payload byte that enters the main buffer
 abbrev pub WindowHighLaw : Type 0
 WindowHighLaw = (h : Held) (xs : List Entering) → 0 < h.rate → HasPayload h xs → IsHighWith h xs (most_after 0 (entered_by h xs))
 
--- so a line says of all packets of a window, where nothing of it was counted before them and one carries payload
+-- a line says so for all packets of a window, if nothing of the window was counted before them and one of them carries payload
 abbrev pub WholeHighLaw : Type 0
 WholeHighLaw = (t : Tally) (window : ℕ) (h : Held) (xs : List Entering) (vs : List (Bool × EnteredView)) → 0 < h.rate →
     (in_window t window).window_main ≡ 0 → map (λ w. w.1) vs ≡ entered_by h xs → HasPayload h xs →
     IsHighWith h xs (counted_each t window vs).window_main
 
--- and if no byte of them enters the main buffer none is found: the line says what is still in it of what had come before them
+-- if no byte of these packets enters the main buffer, the window has no greatest fullness, and the line has the earlier bytes still in the buffer
 abbrev pub HighWithoutLaw : Type 0
 HighWithoutLaw = (t : Tally) (window : ℕ) (h : Held) (xs : List Entering) (v : Bool × EnteredView) (vs : List (Bool × EnteredView)) →
     (in_window t window).window_main ≡ 0 → (in_window t window).window_least ≡ None → map (λ w. w.1) (v ∷ vs) ≡ entered_by h xs →

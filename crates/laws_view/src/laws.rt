@@ -47,10 +47,10 @@ pub fn main_excesses()
     ensures rate { NoMainExcessLaw }
 {}
 
-/// States that the least that a line `held` says of a main buffer is the least that the bytes of its window's packets
-/// find in it, which is the least fullness of the buffer meanwhile, whichever way they arrive. A report counts it so
-/// for a stream whose buffers began before the window, if a packet of the window carries payload; otherwise the line
-/// says what the buffer still holds of earlier bytes, once the last of the packets has left the transport buffer.
+/// States that the least fullness in a line `held` of a main buffer is the least that the bytes of its window's packets
+/// find in the buffer, which is its least fullness meanwhile, whichever way they arrive. A report counts it so for a
+/// stream whose buffers began before the window, if a packet of the window carries payload; otherwise the line says how
+/// many earlier bytes the buffer still holds, once the last of the packets has left the transport buffer.
 pub fn window_lows()
     ensures counted { WindowLeastLaw }
     ensures low { WindowLowLaw }
@@ -139,8 +139,8 @@ pub fn muxed_references()
 {}
 
 /// States that there is no excess of the elementary stream buffer of video there either (ISO/IEC 13818-1, 2.4.2.3),
-/// wherever the stream's buffers begin: its line says no more than its size, if that is the size of the description.
-/// Nor is there one of its multiplexing buffer, although the view rounds up the time that a byte takes to leave it.
+/// wherever the stream's buffers begin: its line reports no more than its size, if that is the size of the description.
+/// Its multiplexing buffer has no excess either, although the view rounds up the time that a byte takes to leave it.
 pub fn muxed_video_buffers()
     ensures run { RunElementaryLaw }
     ensures jobs { JobElementaryLaw }

@@ -4,16 +4,16 @@ use Rattle.std.proofs.Common.{arith}
 use Rattle.std.specs.Prelude.{option_map}
 use Rattle.ts_packet.specs.declared.packet.PacketError.{PacketError}
 use Rattle.ts_packet.specs.Views.{PacketView}
-use Rattle.demux.specs.Views.{WhatView, IsDuplicate, IsErrored, IsStray, Found}
-use Rattle.demux.specs.Marks.{Marked, mark}
-use Rattle.demux.specs.Roles.{Role, NoPayload, ScrambledPayload, PesStart, SectionStart, PointerPastEnd, Continuation, role}
-use Rattle.demux.specs.declared.open_unit.UnitKind.{UnitKind}
-use Rattle.demux.specs.declared.open_unit.UnitKind.TheVariants as unit_kinds
-use Rattle.demux.specs.OpenUnits.{OpenUnit, about_within, decided, appended, last_in, plain, section, sections_in, taken_by}
-use Rattle.demux.specs.Findings.{by_break, by_role, cut_short, decided_within, ended, found_at, found_if, found_or_cut, found_within, found_appended}
-use Rattle.demux.specs.Findings.{last_bytes, last_bytes_by, undecided, unless_decided}
-use Rattle.demux.specs.Machine.{PidState, found_by, next_open, step, step_marked, unbroken}
-use Rattle.demux.specs.Shown.{with_pid}
+use Rattle.pid_findings.specs.Views.{WhatView, IsDuplicate, IsErrored, IsStray, Found}
+use Rattle.pid_findings.specs.Marks.{Marked, mark}
+use Rattle.pid_findings.specs.Roles.{Role, NoPayload, ScrambledPayload, PesStart, SectionStart, PointerPastEnd, Continuation, role}
+use Rattle.pid_findings.specs.declared.open_unit.UnitKind.{UnitKind}
+use Rattle.pid_findings.specs.declared.open_unit.UnitKind.TheVariants as unit_kinds
+use Rattle.pid_findings.specs.OpenUnits.{OpenUnit, about_within, decided, appended, last_in, plain, section, sections_in, taken_by}
+use Rattle.pid_findings.specs.Findings.{by_break, by_role, cut_short, decided_within, ended, found_at, found_if, found_or_cut, found_within, found_appended}
+use Rattle.pid_findings.specs.Findings.{last_bytes, last_bytes_by, past_end, undecided, unless_decided}
+use Rattle.pid_findings.specs.Machine.{PidState, found_by, next_open, step, step_marked, unbroken}
+use Rattle.pid_findings.specs.Shown.{with_pid}
 use Rattle.demux.specs.Stream.{States, entry_of, findings_by, state_of, states_by, without_pid, with_state}
 use Rattle.monitor.proofs.MapSteps.{all_begun_by_then, begun_by_then}
 
@@ -40,15 +40,19 @@ unfolding ended
 ended_by index unended None h = tt
 ended_by index unended (Some part) h = (h, tt)
 
+stray_by : (index n : ℕ) (none : Bool) → founds_by index (cond none [] (plain (IsStray n) ∷ []))
+stray_by index n true = tt
+stray_by index n false = (tt, tt)
+
 if_by : (index : ℕ) (part : OpenUnit) (what : Option WhatView) → part.packet ≤ index → founds_by index (found_if part what)
 unfolding found_if
 if_by index part None h = tt
-if_by index part (Some what) h = (h, tt)
+if_by index part (Some what) h = let n = past_end (length part.bytes) what in (h, stray_by index n (n == 0))
 
 within_by : (index : ℕ) (part : OpenUnit) (what : Option WhatView) → part.packet ≤ index → founds_by index (found_within part what)
 unfolding found_within
 within_by index part None h = tt
-within_by index part (Some what) h = (h, tt)
+within_by index part (Some what) h = let n = past_end (length part.bytes) what in (h, stray_by index n (n == 0))
 
 or_cut_by : (index : ℕ) (part : OpenUnit) (what : Option WhatView) → part.packet ≤ index → founds_by index (found_or_cut part what)
 unfolding found_or_cut
@@ -63,10 +67,6 @@ last_by index bytes (Some part) h = by part.kind
     by : (kind : UnitKind) → founds_by index (last_bytes_by bytes part kind)
     by unit_kinds.Pes = ended_by index false (Some part) h
     by unit_kinds.Section = or_cut_by index (appended part bytes) (decided unit_kinds.Section (part.bytes ++ bytes)) h
-
-stray_by : (index n : ℕ) (none : Bool) → founds_by index (cond none [] (plain (IsStray n) ∷ []))
-stray_by index n true = tt
-stray_by index n false = (tt, tt)
 
 goes_by : (index : ℕ) (payload : List ℕ) (held : Option OpenUnit) → part_by index held → founds_by index (found_appended payload held)
 unfolding found_appended

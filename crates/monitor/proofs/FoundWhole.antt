@@ -10,10 +10,10 @@ use Rattle.ts_packet.specs.declared.packet.PacketError.{PacketError}
 use Rattle.ts_packet.specs.Views.{PacketView}
 use Rattle.ts_packet.specs.Reading.{packet_at}
 use Rattle.ts_packet.specs.PidList.{cut_packets, pid_list}
-use Rattle.demux.specs.Views.{Found, FindingView, IsErrored}
-use Rattle.demux.specs.Findings.{ended, findings_to_end}
-use Rattle.demux.specs.Machine.{PidState, found_by, step}
-use Rattle.demux.specs.Shown.{with_pid}
+use Rattle.pid_findings.specs.Views.{Found, FindingView, IsErrored}
+use Rattle.pid_findings.specs.Findings.{ended, findings_to_end}
+use Rattle.pid_findings.specs.Machine.{PidState, found_by, step}
+use Rattle.pid_findings.specs.Shown.{with_pid}
 use Rattle.demux.specs.Laws.{found_of, with_pid_at}
 use Rattle.demux.specs.Stream.{States, StreamState, ended_found, entry_of, findings_by, finished, found_in, held_found, next_packet, pushed, start, state_of}
 use Rattle.demux.specs.Stream.{states_by, taken, with_state}

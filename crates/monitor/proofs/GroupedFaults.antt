@@ -6,8 +6,8 @@ use Rattle.std.specs.List.{enumerate_from, filter_map, flat_map}
 use Rattle.std.proofs.lemmas.List.{map-append}
 use Rattle.std.proofs.lemmas.Bool.Decides.{nat_tests}
 use Rattle.ts_packet.specs.PidList.{Entry, cut_packets, entries_of, is_of_pid, pid_list}
-use Rattle.demux.specs.Views.{PidFinding, FindingView}
-use Rattle.demux.specs.Findings.{ended, findings_after, findings_to_end, open_after, stretch, divider}
+use Rattle.pid_findings.specs.Views.{PidFinding, FindingView}
+use Rattle.pid_findings.specs.Findings.{ended, findings_after, findings_to_end, open_after, stretch, divider}
 use Rattle.monitor.specs.declared.fault.StreamFault.{StreamFault}
 use Rattle.monitor.specs.declared.fault.Rule.{Rule}
 use Rattle.monitor.specs.declared.fault.Rule.TheVariants as rules

@@ -3,14 +3,16 @@ use Rattle.std.proofs.Common.{◌≡◌, ◌∙◌, ℕ, suc, ◌<◌, ◌≤◌
 use Rattle.std.proofs.Common.{arith}
 use Rattle.std.proofs.lemmas.List.{drop_all}
 use Rattle.std.proofs.lemmas.Option.{slice_get_cases}
-use Rattle.demux.specs.Views.{WhatView, IsDuplicate, BreaksCounter, IsScrambled, IsTruncated, IsSection, IsBadSection, IsPes, IsBadPes, IsBadPacket, IsErrored}
-use Rattle.demux.specs.Views.{IsStray}
-use Rattle.demux.specs.Views.{FindingView}
-use Rattle.demux.specs.Machine.{PidState}
-use Rattle.demux.specs.Findings.{ended}
-use Rattle.demux.specs.Shown.{with_pid}
+use Rattle.pid_findings.specs.Views.{WhatView, IsDuplicate, BreaksCounter, IsScrambled, IsTruncated, IsSection, IsBadSection, IsPes, IsBadPes, IsBadPacket}
+use Rattle.pid_findings.specs.Views.{IsErrored}
+use Rattle.pid_findings.specs.Views.{IsStray}
+use Rattle.pid_findings.specs.Views.{FindingView}
+use Rattle.pid_findings.specs.Machine.{PidState}
+use Rattle.pid_findings.specs.Findings.{ended}
+use Rattle.pid_findings.specs.Shown.{with_pid}
 use Rattle.demux.specs.Stream.{States, ended_found}
-use Rattle.demux.specs.Bodies.{AddsHeaders, all_without_body, finding_without_body, without_body}
+use Rattle.pid_findings.specs.Bodies.{all_without_body, finding_without_body, without_body}
+use Rattle.demux.specs.StreamBodies.{AddsHeaders}
 use Rattle.demux.proofs.StreamEnd.{ended_next}
 use Rattle.monitor.specs.FindingStates.{FindingState, all_noted, begun_by, finding_noted, noted_from, what_noted}
 

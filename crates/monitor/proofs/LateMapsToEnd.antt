@@ -4,7 +4,7 @@ use Rattle.std.proofs.Common.{ap, ap₂, subst, ◌∙◌}
 use Rattle.std.specs.List.{flat_map, filter_map, cons_option}
 use Rattle.std.specs.Map.{lookup}
 use Rattle.std.proofs.lemmas.List.{append-nil, map-append}
-use Rattle.demux.specs.Views.{PidFinding, FindingView}
+use Rattle.pid_findings.specs.Views.{PidFinding, FindingView}
 use Rattle.demux.specs.Laws.{found_of, has_pid, with_pid_at}
 use Rattle.monitor.specs.declared.fault.StreamFault.{StreamFault}
 use Rattle.monitor.specs.declared.fault.Rule.TheVariants as rules

@@ -7,11 +7,12 @@ use Rattle.std.proofs.lemmas.List.{append-nil}
 use Rattle.indexmap.specs.IndexMap.{insert_entry}
 use Rattle.std.proofs.lemmas.Bool.Decides.{nat_tests}
 use Rattle.psi_tables.specs.Reading.{section_at}
-use Rattle.demux.specs.declared.finding.Kind.{Kind}
-use Rattle.demux.specs.declared.finding.Kind.TheVariants.{Table, Pes}
-use Rattle.demux.specs.Views.{WhatView, IsDuplicate, BreaksCounter, IsScrambled, IsTruncated, IsSection, IsBadSection, IsPes, IsBadPes, IsBadPacket, IsErrored}
-use Rattle.demux.specs.Views.{IsStray}
-use Rattle.demux.specs.Views.{FindingView}
+use Rattle.pid_findings.specs.declared.finding.Kind.{Kind}
+use Rattle.pid_findings.specs.declared.finding.Kind.TheVariants.{Table, Pes}
+use Rattle.pid_findings.specs.Views.{WhatView, IsDuplicate, BreaksCounter, IsScrambled, IsTruncated, IsSection, IsBadSection, IsPes, IsBadPes, IsBadPacket}
+use Rattle.pid_findings.specs.Views.{IsErrored}
+use Rattle.pid_findings.specs.Views.{IsStray}
+use Rattle.pid_findings.specs.Views.{FindingView}
 use Rattle.monitor.specs.declared.program_maps.NamedMap.{NamedMap}
 use Rattle.monitor.specs.Gaps.{is_long}
 use Rattle.monitor.specs.Laws.{late_of}

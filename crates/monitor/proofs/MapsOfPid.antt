@@ -6,9 +6,9 @@ use Rattle.std.specs.List.{filter_map, cons_option}
 use Rattle.std.specs.Map.{lookup}
 use Rattle.std.proofs.lemmas.List.{append-nil}
 use Rattle.std.proofs.lemmas.Bool.Decides.{nat_tests}
-use Rattle.demux.specs.declared.finding.Kind.{Kind}
-use Rattle.demux.specs.declared.finding.Kind.TheVariants.{Table, Pes}
-use Rattle.demux.specs.Views.{FindingView}
+use Rattle.pid_findings.specs.declared.finding.Kind.{Kind}
+use Rattle.pid_findings.specs.declared.finding.Kind.TheVariants.{Table, Pes}
+use Rattle.pid_findings.specs.Views.{FindingView}
 use Rattle.monitor.specs.declared.program_maps.NamedMap.{NamedMap}
 use Rattle.monitor.specs.Begins.{table_begin}
 use Rattle.monitor.specs.Faults.{map_late_since}

@@ -11,9 +11,9 @@ use Rattle.ts_packet.specs.PcrBytes.{has_pcr}
 use Rattle.ts_packet.specs.PidList.{Entry, entry_of, is_of_pid}
 use Rattle.demux.specs.Stream as stream
 use Rattle.demux.specs.Stream.{StreamState}
-use Rattle.demux.specs.Bodies.{headers_taken, without_bodies}
+use Rattle.demux.specs.StreamBodies.{headers_taken, without_bodies}
 use Rattle.demux.proofs.StreamBodies.{found_in_same, taken_same}
-use Rattle.demux.specs.Views.{FindingView}
+use Rattle.pid_findings.specs.Views.{FindingView}
 use Rattle.demux.specs.FoundSoFar.{found_in_all, taken_all}
 use Rattle.monitor.specs.declared.fault.StreamFault.{StreamFault}
 use Rattle.monitor.specs.Laws.{places_of}

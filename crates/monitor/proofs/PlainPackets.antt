@@ -1,9 +1,9 @@
 -- Packets in which nothing is found, that have a payload alone.
 use Rattle.std.proofs.Common.{◌≡◌, ℕ, false, List, [], Ok, refl}
 use Rattle.ts_packet.specs.Reading.{packet_at}
-use Rattle.demux.specs.GoingOn.{pid_in, plain_view}
+use Rattle.pid_findings.specs.GoingOn.{pid_in, plain_view}
 use Rattle.demux.specs.Stream as stream
-use Rattle.demux.specs.Bodies.{headers_taken}
+use Rattle.demux.specs.StreamBodies.{headers_taken}
 use Rattle.monitor.specs.Counts.{packet_counted}
 use Rattle.monitor.specs.FindingStates.{all_noted}
 use Rattle.monitor.specs.MonitorStates.{MonitorState, packet_taken}

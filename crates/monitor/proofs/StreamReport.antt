@@ -7,7 +7,7 @@ use Rattle.std.specs.Map.{lookup}
 use Rattle.std.proofs.lemmas.List.{append-nil}
 use Rattle.ts_packet.specs.PidList.{cut_packets}
 use Rattle.demux.specs.Stream.{StreamState, ended_found, finished, start}
-use Rattle.demux.specs.Bodies.{states_without_bodies}
+use Rattle.demux.specs.StreamBodies.{states_without_bodies}
 use Rattle.demux.proofs.StreamBodies.{flat_same}
 use Rattle.demux.specs.FoundSoFar.{found_in_all, taken_all}
 use Rattle.monitor.specs.declared.fault.StreamFault.{StreamFault}

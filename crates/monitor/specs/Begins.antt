@@ -1,14 +1,14 @@
--- Where what is to come again comes: the packets at which sections, PES packets with a PTS and clock references begin.
+-- The packets at which recurring things begin: sections, PES packets with a PTS, and clock references.
 use Rattle.std.specs.Prelude.{ℕ, ◌/◌, ◌==◌, true, false, if◌then◌else◌, List, [], length, map, filter, Option, Some, None}
 use Rattle.std.specs.List.{filter_map}
 use Rattle.ts_packet.specs.PcrBytes.{has_pcr}
 use Rattle.ts_packet.specs.PidList.{Entry, pid_list}
-use Rattle.demux.specs.declared.finding.Kind.{Kind}
-use Rattle.demux.specs.declared.finding.Kind.TheVariants.{Table, Pes}
-use Rattle.demux.specs.Views.{PidFinding}
-use Rattle.demux.specs.Findings.{findings_to_end}
+use Rattle.pid_findings.specs.declared.finding.Kind.{Kind}
+use Rattle.pid_findings.specs.declared.finding.Kind.TheVariants.{Table, Pes}
+use Rattle.pid_findings.specs.Views.{PidFinding}
+use Rattle.pid_findings.specs.Findings.{findings_to_end}
 
--- what is found of a PID in a stream, to its end; null packets have no findings
+-- the findings of a PID in a stream, to its end; null packets have no findings
 abbrev pub found_on : ℕ → List ℕ → List PidFinding
 found_on pid bytes = if pid == 8191 then [] else findings_to_end (length bytes / 188) (pid_list pid bytes)
 

@@ -1,7 +1,7 @@
--- What is counted of each PID.
+-- The counts of each PID.
 use Rattle.std.specs.Prelude.{ℕ, ◌-◌, ◌^◌, ◌==◌, not, min, Bool, true, false, List, [], ◌∷◌, length, map, filter}
 use Rattle.ts_packet.specs.PidList.{pid_list}
-use Rattle.demux.specs.Views.{WhatView, IsDuplicate, IsScrambled}
+use Rattle.pid_findings.specs.Views.{WhatView, IsDuplicate, IsScrambled}
 use Rattle.monitor.specs.declared.reports.PidCounts.{PidCounts}
 use Rattle.monitor.specs.Begins.{found_on}
 use Rattle.monitor.specs.Faults.{packet_pids}
@@ -23,7 +23,7 @@ unfoldable pub is_scrambled : WhatView → Bool
 is_scrambled IsScrambled = true
 is_scrambled what = false
 
--- the packets of a PID, those that begin a payload unit, and those found to be duplicates or scrambled
+-- how many packets a PID has, how many begin a payload unit, and how many are duplicates or scrambled
 unfoldable pub counts_of : List ℕ → ℕ → PidCounts
 counts_of bytes pid = record {
   pid = pid;
@@ -33,6 +33,6 @@ counts_of bytes pid = record {
   scrambled = counted (length (filter (λ at. is_scrambled at.found.what) (found_on pid bytes)));
 }
 
--- of each PID, in the order in which these are first seen
+-- the counts of all PIDs, in the order of their first packets
 abbrev pub counts_of_all : List ℕ → List PidCounts
 counts_of_all bytes = map (counts_of bytes) (first_seen (packet_pids bytes))

@@ -3,7 +3,7 @@ use Rattle.std.specs.Prelude.{ℕ, ◌/◌, ◌%◌, ◌==◌, nat_lt, not, if�
 use Rattle.std.specs.List.{enumerate_from, flat_map}
 use Rattle.ts_packet.specs.Reading.{packet_at}
 use Rattle.ts_packet.specs.PidList.{cut_packets, entries_of, pid_list}
-use Rattle.demux.specs.Views.{PidFinding}
+use Rattle.pid_findings.specs.Views.{PidFinding}
 use Rattle.monitor.specs.declared.fault.StreamFault.{StreamFault}
 use Rattle.monitor.specs.declared.fault.Rule.{Rule}
 use Rattle.monitor.specs.declared.fault.Rule.TheVariants as rules
@@ -16,7 +16,7 @@ use Rattle.monitor.specs.NamedPids.{named_since, namings}
 abbrev pub packet_pids : List ℕ → List ℕ
 packet_pids bytes = map (λ entry. entry.packet.header.pid) (filter (λ entry. not entry.packet.header.transport_error_indicator) (entries_of bytes))
 
--- of each of these PIDs, the packets at which a rule fails
+-- for each of these PIDs, the packets at which a rule fails
 abbrev pub on_each : Rule → (ℕ → List ℕ) → List ℕ → List StreamFault
 on_each rule places pids = flat_map (λ pid. map (fault rule (Some pid)) (places pid)) pids
 
@@ -32,7 +32,7 @@ finding_faults pid found = flat_map (λ at. failing (Some pid) at.packet (findin
 abbrev pub pat_late : ℕ → List ℕ → List ℕ
 pat_late rate bytes = late rate 500 (0 ∷ table_begins 0x00 (found_on 0 bytes) ++ (length bytes / 188) ∷ [])
 
--- 8: from the packet on in which it is named, and to the end, sections of the program map begin on a PID every 500 ms
+-- 8: on a PID that a PAT names, from that packet to the end, sections of the program map begin every 500 ms
 unfoldable pub map_late_since : ℕ → ℕ → List ℕ → Option ℕ → List ℕ
 map_late_since rate count begins None = []
 map_late_since rate count begins (Some since) = late rate 500 (since ∷ filter (λ packet. nat_lt since packet) begins ++ count ∷ [])

@@ -2,7 +2,7 @@
 use Rattle.std.specs.Prelude.{ℕ, ◌*◌, Bool, if◌then◌else◌, List, [], ◌∷◌}
 use Rattle.demux.specs.Stream as stream
 use Rattle.demux.specs.Stream.{StreamState}
-use Rattle.demux.specs.Bodies.{headers_taken}
+use Rattle.demux.specs.StreamBodies.{headers_taken}
 use Rattle.monitor.specs.PacketStates.{PacketState, no_packets, packet_failed, packet_watched}
 use Rattle.monitor.specs.TableStates.{table_marked}
 use Rattle.monitor.specs.declared.fault.Rule.TheVariants as rules

@@ -4,11 +4,11 @@ use Rattle.std.specs.List.{flat_map}
 use Rattle.std.specs.Map.{lookup}
 use Rattle.psi_tables.specs.Reading.{section_at}
 use Rattle.psi_tables.specs.declared.pat.programs.Program.{Program}
-use Rattle.demux.specs.Views.{WhatView, IsSection, PidFinding}
+use Rattle.pid_findings.specs.Views.{WhatView, IsSection, PidFinding}
 use Rattle.monitor.specs.Begins.{found_on}
 use Rattle.monitor.specs.ProgramMaps.{programs_in_section}
 
--- the PIDs that a section names: those of its programs but of program 0, whose PID is that of the network
+-- the PIDs that a section names: the PIDs of its programs, except program 0, whose PID is the network's
 abbrev pub program_pids : List Program → List ℕ
 program_pids programs = map (λ program. program.pid) (filter (λ program. not (program.program_number == 0)) programs)
 
@@ -16,10 +16,10 @@ unfoldable pub pids_named_in : WhatView → List ℕ
 pids_named_in (IsSection bytes) = program_pids (programs_in_section (section_at bytes))
 pids_named_in what = []
 
--- each PID that a section on PID 0 names, with the packet in which that section ends
+-- each PID that a section on PID 0 names, with the packet where that section ends
 abbrev pub namings : List PidFinding → List (ℕ × ℕ)
 namings found = flat_map (λ at. map (λ pid. (pid, at.packet)) (pids_named_in at.found.what)) found
 
--- the packet from which on a PID is named
+-- the packet from which a PID is named
 abbrev pub named_since : ℕ → List ℕ → Option ℕ
 named_since pid bytes = lookup (nat_eq pid) (namings (found_on 0 bytes))

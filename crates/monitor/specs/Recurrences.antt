@@ -1,4 +1,4 @@
--- The same place by place: what is kept is the last place of each PID, and the places that came late.
+-- The same place by place: the state has the last place of each PID, and the places that came late.
 use Rattle.std.specs.Prelude.{ℕ, ◌-◌, if◌then◌else◌, List, [], ◌∷◌, ◌++◌, nat_eq, Option, Some, None}
 use Rattle.std.specs.Map.{lookup}
 use Rattle.indexmap.specs.IndexMap.{insert_entry}

@@ -54,7 +54,7 @@ pid_counts finding_counts entry = let n = finding_counts_of entry.0 finding_coun
 unfoldable pub all_counts : MonitorState → List PidCounts
 all_counts s = map (pid_counts s.found.finding_counts) s.seen.packet_counts
 
--- the report of what is known of a stream
+-- the report from the state of a stream
 unfoldable pub report_of : MonitorState → ReportView
 report_of s = record { packets = s.packets; pids = all_counts s; faults = in_order (all_faults s) }
 
@@ -62,10 +62,10 @@ report_of s = record { packets = s.packets; pids = all_counts s; faults = in_ord
 abbrev pub is_cut : List ℕ → Bool
 is_cut bytes = not (length bytes % 188 == 0)
 
--- what is known after these bytes, with which the stream ends
+-- the state after these bytes, which end the stream
 unfoldable pub ended_after : MonitorState → List ℕ → MonitorState
 ended_after s bytes = stream_ended (packets_taken s (cut_packets bytes)) (is_cut bytes)
 
--- what is known of a whole stream after its end
+-- the state of a whole stream after its end
 unfoldable pub watched : ℕ → ℕ → List ℕ → MonitorState
 watched rate pcr_limit bytes = ended_after (none_taken rate pcr_limit) bytes

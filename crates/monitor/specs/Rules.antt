@@ -4,7 +4,7 @@ use Rattle.psi_tables.specs.declared.error.SectionError.TheVariants as section_e
 use Rattle.ts_packet.specs.declared.packet.PacketError.{PacketError}
 use Rattle.ts_packet.specs.declared.packet.PacketError.TheVariants as refusals
 use Rattle.ts_packet.specs.Views.{PacketView}
-use Rattle.demux.specs.Views.{WhatView, BreaksCounter, IsBadSection}
+use Rattle.pid_findings.specs.Views.{WhatView, BreaksCounter, IsBadSection}
 use Rattle.monitor.specs.declared.fault.StreamFault.{StreamFault}
 use Rattle.monitor.specs.declared.fault.Rule.{Rule}
 use Rattle.monitor.specs.declared.fault.Rule.TheVariants as rules

@@ -10,7 +10,7 @@ use Rattle.monitor.specs.MonitorStates.{MonitorState, none_taken, packets_taken}
 abbrev pub HasTaken : ℕ → ℕ → List (List ℕ) → MonitorState → Type 0
 HasTaken rate limit packets monitor = monitor ≡ packets_taken (none_taken rate limit) packets
 
--- these packets were taken after those before
+-- these packets were taken after the packets before
 abbrev pub Takes : List (List ℕ) → MonitorState → MonitorState → Type 0
 Takes more before after = (rate limit : ℕ) (packets : List (List ℕ)) → HasTaken rate limit packets before → HasTaken rate limit (packets ++ more) after
 
@@ -19,7 +19,7 @@ pub record IsStream (packets : List (List ℕ)) (cut : Bool) (bytes : List ℕ) 
   pub packets_are : cut_packets bytes ≡ packets
   pub cut_is : is_cut bytes ≡ cut
 
--- the report is exactly that of the stream that was taken, of fewer than 2^64 - 1 packets
+-- the report is exactly the report of the stream that was taken, of fewer than 2^64 - 1 packets
 abbrev pub ReportsTaken : MonitorState → Bool → ReportView → Type 0
 ReportsTaken monitor cut report = (rate limit : ℕ) (packets : List (List ℕ)) (bytes : List ℕ) →
     HasTaken rate limit packets monitor → IsStream packets cut bytes → length bytes / 188 < 2 ^ 64 - 1 → report ≡ stream_report rate limit bytes

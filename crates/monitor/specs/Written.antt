@@ -16,7 +16,7 @@ CountsSent text (Ok sent) = sent ≡ length text
 CountsSent text (Err (Device sent)) = sent < length text
 CountsSent text (Err Memory) = ⊤
 
--- a call of the writer failed exactly where that is the answer; `before` and `after` count those that did
+-- a call of the writer failed exactly if the answer says so; `before` and `after` count the calls that failed
 abbrev pub NamesDevice : Result ℕ ReportWriteError → ℕ → ℕ → Type 0
 NamesDevice (Ok sent) before after = after ≡ before
 NamesDevice (Err (Device sent)) before after = CountsOne before after

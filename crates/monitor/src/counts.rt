@@ -6,14 +6,14 @@ ghost use Rattle.monitor.specs.Counts.{duplicate_counted, finding_counts_of, one
 use pid_map::{PidEntries, PidMap};
 use std::alloc::{AllocError, Allocator};
 
-/// The number of packets of a PID, and of those with payload_unit_start_indicator.
+/// The number of packets of a PID, and how many of them have payload_unit_start_indicator.
 #[derive(Clone, Copy)]
 pub(crate) struct PacketCounts {
     pub packets: u64,
     pub starts: u64,
 }
 
-/// The number of packets of a PID that are duplicates, and of those that are scrambled.
+/// The number of duplicate packets of a PID, and of scrambled packets.
 #[derive(Clone, Copy)]
 pub(crate) struct FindingCounts {
     pub duplicates: u64,
@@ -60,7 +60,7 @@ pub(crate) fn count_packet<A: Allocator + Clone>(
     }
 }
 
-// The counts of a PID so far.
+// Returns the counts of a PID so far.
 #[tactic(auto, unfolding(crate::specs::Counts::finding_counts_or_zero))]
 pub(crate) fn finding_counts_so_far<A: Allocator>(
     finding_counts: &FindingCountsByPid<A>,

@@ -1,6 +1,6 @@
 //! Findings of a stream's PIDs: counters, sections, and where tables and PES packets begin.
 ghost use Rattle.std.specs.Prelude.{◌≡◌, ◌≤◌, ◌++◌, ◌∷◌, [], IfOk, OnOk, Some, map};
-ghost use Rattle.demux.specs.Shown.{finding_view, what_view};
+ghost use Rattle.pid_findings.specs.Shown.{finding_view, what_view};
 ghost use Rattle.monitor.specs.Reports.{found_faults};
 ghost use Rattle.monitor.specs.MonitorStates.{pat_marked};
 ghost use Rattle.monitor.specs.FindingStates.{all_noted, begun_noted, finding_noted, none_noted, section_noted};
@@ -12,8 +12,8 @@ use crate::program_maps::ProgramMapWatch;
 use crate::recurrence::RecurrenceWatch;
 use crate::reports::append_late;
 use crate::table_watch::TableWatch;
-use demux::{Finding, Kind, What};
 use indexmap::IndexMap;
+use pid_findings::{Finding, Kind, What};
 use psi_tables::SectionError;
 use std::alloc::{AllocError, Allocator};
 use std::marker::Model;
@@ -78,7 +78,7 @@ impl<A: Allocator + Copy> FindingWatch<A> {
         &self.finding_counts
     }
 
-    // A section that was found at a packet began on a PID.
+    // Notes that a section found at a packet began on a PID.
     fn begin_section(
         &mut self,
         pid: u16,
@@ -99,7 +99,7 @@ impl<A: Allocator + Copy> FindingWatch<A> {
         Ok(())
     }
 
-    // A section or a PES packet that was found at a packet began on a PID.
+    // Notes that a section or a PES packet found at a packet began on a PID.
     #[tactic(auto, unfolding(crate::specs::FindingStates::begun_noted))]
     fn begin(&mut self, pid: u16, found: u64, packet: u64, kind: Kind) -> Result<(), AllocError>
         ensures { OnOk result (self.new ≡ begun_noted self.old pid found packet kind) }
@@ -125,7 +125,7 @@ impl<A: Allocator + Copy> FindingWatch<A> {
         Ok(())
     }
 
-    // What is found of a PID at a packet.
+    // Notes a finding of a PID at a packet.
     #[tactic(auto, unfolding(crate::specs::FindingStates::what_noted))]
     fn note_what(&mut self, pid: u16, packet: u64, what: &What<'_, A>) -> Result<(), AllocError>
         ensures { OnOk result (self.new ≡ what_noted self.old pid packet (what_view what.now)) }
@@ -152,7 +152,7 @@ impl<A: Allocator + Copy> FindingWatch<A> {
         }
     }
 
-    // What is found.
+    // Notes a finding.
     #[tactic(auto, unfolding(crate::specs::FindingStates::noted_from, crate::specs::FindingStates::begun_by))]
     fn note(&mut self, finding: &Finding<'_, A>) -> Result<(), AllocError>
         ensures { OnOk result (self.new ≡ finding_noted self.old (finding_view finding.now)) }

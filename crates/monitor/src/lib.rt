@@ -4,18 +4,18 @@
 //! keeps a state for each PID, and no body of a PES packet.
 #![tactic(auto)]
 
-// What is reported.
+// The report and its faults.
 mod fault;
 mod report_lines;
 mod report_output;
 mod reports;
 
-// What is to come again within a time.
+// Tables that must recur within a time.
 mod program_maps;
 mod recurrence;
 mod table_watch;
 
-// What is kept of packets, and of what is found in them.
+// State about packets, and about the findings in them.
 mod counts;
 mod finding_watch;
 mod packet_watch;

@@ -14,7 +14,8 @@ use crate::finding_watch::FindingWatch;
 use crate::packet_watch::PacketWatch;
 use crate::reports::{PidCounts, Report, ReportError, append_late, in_order};
 use clock27::Rate;
-use demux::{Finding, HeaderDemux};
+use demux::HeaderDemux;
+use pid_findings::Finding;
 use std::alloc::{AllocError, Allocator, Global};
 use std::marker::Model;
 use ts_packet::read_packet;
@@ -44,7 +45,7 @@ impl<A: Allocator> Model for Monitor<A> {
     ghost invariant = { λ w. is_aligned w.demux ≡ true };
 }
 
-// All faults, in the order of the rules' groups.
+// Returns all faults, in the order of the rules' groups.
 #[tactic(auto, unfolding(crate::specs::Reports::grouped_faults))]
 fn faults_of<A: Allocator + Copy>(
     alloc: A,
@@ -61,7 +62,7 @@ fn faults_of<A: Allocator + Copy>(
     Ok(faults)
 }
 
-// All faults in order.
+// Returns all faults in order.
 fn ordered_faults<A: Allocator + Copy>(
     alloc: A,
     packets: u64,
@@ -90,7 +91,7 @@ fn note_ends<A: Allocator + Copy>(
     Ok(())
 }
 
-// The counts of the PIDs.
+// Returns the counts of the PIDs.
 fn counts_of<A: Allocator + Copy>(
     alloc: A,
     packet_counts: &PacketCountsByPid<A>,
@@ -131,7 +132,8 @@ impl<A: Allocator + Copy> Monitor<A> {
         })
     }
 
-    // The next packet, if nothing is found in it and its first bytes show that. Whether they do; else nothing changes.
+    // Takes the next packet if its first bytes show that nothing is found in it, and returns whether it is taken;
+    // otherwise nothing changes.
     #[tactic(auto, using(crate::proofs::PlainPackets::plain_taken))]
     fn go_on(&mut self, bytes: &[u8; 188]) -> Result<bool, AllocError>
         ensures taken { IfOk result (λ went. went ≡ true → self.new ≡ packet_taken self.old bytes.now) }
@@ -145,8 +147,8 @@ impl<A: Allocator + Copy> Monitor<A> {
         Ok(true)
     }
 
-    // The next packet, which is read. What is found in it goes to the room of what was found in others. It stays a call
-    // of its own: few packets come to it, and what is read would else be made ready for each.
+    // Reads the next packet and notes its findings; `found` is their room, which calls share. It is not inlined: few
+    // packets need it, and inlined it would slow all packets down.
     #[inline(never)]
     #[tactic(auto, using(crate::proofs::HeaderFindings::noted_in))]
     fn read_next<'a>(
@@ -165,7 +167,7 @@ impl<A: Allocator + Copy> Monitor<A> {
         Ok(())
     }
 
-    // The next packet.
+    // Takes the next packet.
     fn take_next<'a>(
         &mut self,
         bytes: &'a [u8; 188],
@@ -199,7 +201,7 @@ impl<A: Allocator + Copy> Monitor<A> {
         Ok(())
     }
 
-    // What the end of the stream decides, and the last gap of the program association table.
+    // Notes the findings at the end of the stream, and the last gap of the program association table.
     #[tactic(auto, unfolding(crate::specs::MonitorStates::found_to_end))]
     fn end_findings(&mut self) -> Result<(), AllocError>
         ensures { OnOk result (self.new ≡ record self.old {
@@ -210,7 +212,7 @@ impl<A: Allocator + Copy> Monitor<A> {
         self.found.end_pat(self.packets)
     }
 
-    // The report of the stream so far.
+    // Returns the report of the stream so far.
     #[tactic(auto, unfolding(crate::specs::Reports::report_of, crate::specs::Reports::all_counts, crate::specs::Reports::all_faults))]
     fn report(&self) -> Result<Report<A>, AllocError>
         ensures { IfOk result (λ report. report ≡ report_of self.now) }
@@ -220,7 +222,7 @@ impl<A: Allocator + Copy> Monitor<A> {
         Ok(Report::new(self.packets, pids, faults))
     }
 
-    // The report of the stream, which ends here: after a whole packet, or within one (`cut`).
+    // Returns the report of the stream, which ends here: after a whole packet, or within one (`cut`).
     #[tactic(auto, unfolding(crate::specs::MonitorStates::stream_ended, crate::specs::MonitorStates::seen_to_end))]
     fn end_report(&mut self, cut: bool) -> Result<Report<A>, AllocError>
         ensures { IfOk result (λ report. report ≡ report_of (stream_ended self.old cut)) }
@@ -243,7 +245,7 @@ impl<A: Allocator + Copy> Monitor<A> {
     }
 }
 
-// The report of a whole stream.
+// Returns the report of a whole stream.
 fn watch<A: Allocator + Copy>(
     alloc: A,
     rate: Rate,

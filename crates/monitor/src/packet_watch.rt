@@ -1,7 +1,7 @@
 //! What a stream's packets say one by one: sync, headers, program clock references.
 ghost use Rattle.std.specs.Prelude.{◌≡◌, ◌++◌, ◌∷◌, [], ℕ, OnOk, None, Ok, Result};
 ghost use Rattle.bit_fields.specs.Reading.{Gives};
-ghost use Rattle.demux.specs.GoingOn.{plain_view};
+ghost use Rattle.pid_findings.specs.GoingOn.{plain_view};
 ghost use Rattle.ts_packet.specs.Reading.{packet_at};
 ghost use Rattle.ts_packet.specs.Views.{PacketView, packet_view};
 ghost use Rattle.monitor.specs.PacketStates.{no_packets, packet_counted_by, packet_watched, packet_watched_by};
@@ -10,7 +10,7 @@ ghost use Rattle.monitor.specs.PacketStates.{refusal_rule};
 use crate::counts::{PacketCounts, PacketCountsByPid, count_packet};
 use crate::fault::{Rule, StreamFault};
 use crate::recurrence::RecurrenceWatch;
-use demux::pid_in;
+use pid_findings::pid_in;
 use pid_map::PidMap;
 use std::alloc::{AllocError, Allocator};
 use std::marker::Model;
@@ -78,7 +78,7 @@ impl<A: Allocator + Copy> PacketWatch<A> {
         Ok(())
     }
 
-    // A packet that was read.
+    // Counts a packet that was read.
     #[tactic(auto, unfolding(crate::specs::PacketStates::packet_counted_by))]
     fn count(&mut self, index: u64, packet: &Packet<'_>) -> Result<(), AllocError>
         ensures { OnOk result (self.new ≡ packet_counted_by self.old index (packet_view packet.now)) }

@@ -15,7 +15,7 @@ use std::alloc::{AllocError, Allocator};
 use std::hash::{BuildHasherDefault, FoldHasher};
 use std::marker::Model;
 
-/// A PID that was named: the packet at which it first was, and the last packet in which a section began.
+/// A PID that a PAT names: the packet where it was first named, and the packet where a section last began.
 #[derive(Clone, Copy)]
 pub(crate) struct NamedMap {
     pub since: u64,
@@ -49,7 +49,7 @@ fn no_programs<'a>() -> Programs<'a>
     Programs::over(&[])
 }
 
-// The entries of a section, if it is a program association section that is in force now.
+// Returns the entries of a section, if it is a program association section that is in force now.
 #[tactic(auto, unfolding(crate::specs::ProgramMaps::programs_by))]
 fn programs_of_pat<'a>(section: &Section<'a>) -> Programs<'a>
     ensures { programs_of result ≡ programs_by (pat_at (section_view section.now)) }

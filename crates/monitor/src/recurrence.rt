@@ -17,7 +17,7 @@ pub(crate) struct LatePacket {
     pub packet: u64,
 }
 
-/// The last packet of each PID at which something came, and the packets at which it came too late.
+/// The last packet of each PID with the item watched, and the packets where it was late.
 #[derive(Drop)]
 pub(crate) struct RecurrenceWatch<A: Allocator> {
     limit_times_rate: u64,
@@ -41,7 +41,7 @@ pub(crate) fn is_long(limit_times_rate: u64, gap: u64) -> bool
     gap as u128 * SLOT_MS_AT_1BPS > limit_times_rate as u128
 }
 
-// The last packet at an index becomes this one, and the one before is returned.
+// Replaces the last packet at an index by this packet, and returns the replaced packet.
 fn replace_at<A: Allocator>(last: &mut PidMap<u64, A>, index: usize, packet: u64) -> u64
     requires { index < index_map_len last.old }
     ensures before { slice_get (values last.old) index ≡ Some result }
@@ -53,7 +53,7 @@ fn replace_at<A: Allocator>(last: &mut PidMap<u64, A>, index: usize, packet: u64
     before
 }
 
-// The last packet of a PID becomes this one, and the one before is returned.
+// Replaces the last packet of a PID by this packet, and returns the replaced packet.
 #[tactic(auto, using(crate::proofs::CountedPids::last_there, crate::proofs::CountedPids::replaced_there))]
 fn replace<A: Allocator + Clone>(
     last: &mut PidMap<u64, A>,

@@ -41,7 +41,7 @@ impl<A: Allocator> Report<A> {
         alloc: B,
         to: &mut W,
     ) -> Result<u64, ReportWriteError>
-        // What a writer whose bytes are known has after those that it had.
+        // A writer whose bytes are known has the report after its earlier bytes.
         ensures written { Appends (W.contents to.old) (W.contents to.new)
             (take (sent_of result) (report_text self.now)) }
         ensures ends { CountsSent (report_text self.now) result }

@@ -53,7 +53,7 @@ impl<A: Allocator> Model for Report<A> {
 }
 
 impl<A: Allocator> Report<A> {
-    /// Returns a report of these.
+    /// Returns a report of these counts and faults.
     pub(crate) fn new(
         packets: u64,
         pids: Vec<PidCounts, A>,
@@ -90,7 +90,7 @@ impl<A: Allocator> Report<A> {
     }
 }
 
-// The same values in order, each once.
+// Returns the values in order, each once.
 fn each_once<T: Ord + Drop, A: Allocator>(mut values: Vec<T, A>) -> Vec<T, A>
     ensures order { IsStrictlySortedBy T.cmp result.items }
     ensures kept { (x : T) → Contains values.items x → Any (λ y. T.cmp x y ≡ Equal) result.items }
@@ -108,7 +108,7 @@ pub(crate) fn in_order<A: Allocator>(faults: Vec<StreamFault, A>) -> Vec<StreamF
     each_once(faults)
 }
 
-/// Appends the faults of packets at which something came too late.
+/// Appends a fault for each packet where an item was late.
 pub(crate) fn append_late<A: Allocator>(
     faults: &mut Vec<StreamFault, A>,
     rule: Rule,

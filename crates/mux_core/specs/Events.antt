@@ -1,4 +1,4 @@
--- Units fed and slots written in any order, and the history that they leave.
+-- Units fed and slots written in any order, and the resulting history.
 use Rattle.std.specs.Prelude.{◌≡◌, ◌^◌, ℕ, nat_lt, cond, List, [], ◌∷◌, ◌++◌, slice_get, Option, Some, None}
 use Rattle.pes_packet.specs.AccessUnits.{AccessUnit}
 use Rattle.unit_queue.specs.declared.refusal.FeedError.{FeedError}
@@ -17,28 +17,28 @@ abbrev pub shown : {A : Type 0} → Event A → Step
 shown (Feed stream unit) = FeedStep stream unit
 shown Slot = SlotStep
 
--- a unit that is refused is no part of the history
+-- a refused unit is not part of the history
 unfoldable pub fed_history : History → ℕ → AccessUnit → Option FeedError → History
 fed_history h k u None = with_unit h k u
 fed_history h k u (Some cause) = h
 
--- a history after one event; after 2^40 slots there is no further one
+-- a history after one event; after 2^40 slots no slot is added
 unfoldable pub step_history : Scheduled → ℕ → History → Step → History
 step_history d capacity h (FeedStep k u) = fed_history h k u (feed_cause d capacity h k u (slice_get d.description.streams k))
 step_history d capacity h SlotStep = cond (nat_lt h.slots (2 ^ 40)) (next_slot h) h
 
--- a history after events in their order, where `capacity` units of a stream may wait
+-- a history after events in their order, if `capacity` units of a stream may wait
 unfoldable pub history_after : Scheduled → ℕ → History → List Step → History
 history_after d capacity h [] = h
 history_after d capacity h (step ∷ rest) = history_after d capacity (step_history d capacity h step) rest
 
--- the bytes of a history are those of an earlier one and, after them, what was added to an output
+-- the bytes of a history are the bytes of an earlier history followed by the bytes added to an output
 pub record Adds (d : Scheduled) (h later : History) (old new : List ℕ) : Type 0 where
   pub added : List ℕ
   pub bytes : bytes_of d later ≡ bytes_of d h ++ added
   pub output : new ≡ old ++ added
 
--- a multiplexer stands for a history, and is the one that it was
+-- a multiplexer represents a history, with the same schedule and capacity as before
 pub record StandsOn (h : History) (old new : MuxState) : Type 0 where
   pub stands : Stands h new
   pub same_schedule : new.schedule ≡ old.schedule
@@ -46,12 +46,12 @@ pub record StandsOn (h : History) (old new : MuxState) : Type 0 where
 
 -- ---- laws
 
--- whatever events follow, the bytes written before them stay
+-- whatever events follow, the bytes written before them do not change
 abbrev pub WrittenStays : Type 0
 WrittenStays = (d : Scheduled) (capacity : ℕ) (h : History) (steps : List Step) →
     (added : List ℕ) × (bytes_of d (history_after d capacity h steps) ≡ bytes_of d h ++ added)
 
--- the same units of each stream and the same number of slots give the same bytes, in whatever order units and slots came
+-- the same units of each stream and the same number of slots give the same bytes, whatever the order of units and slots
 pub record SameRun (first second : History) : Type 0 where
   pub units : (k : ℕ) → first.units k ≡ second.units k
   pub slots : first.slots ≡ second.slots

@@ -1,8 +1,8 @@
--- What the finished bytes of a run keep of a stream whose units are PES packets of several access units (ISO/IEC 13818-1, 2.4.2.3): the
--- main buffer, from which each access unit is removed at its own decoding time, never holds more than its size.
+-- The promise of the finished bytes of a run for a stream whose units are PES packets of several access units (ISO/IEC 13818-1, 2.4.2.3): the main buffer,
+-- where each access unit is removed at its own decoding time, never holds more than its size.
 --
--- The bytes do not say where an access unit inside a unit ends. So the promise is of each way to cut the accepted units into access
--- units that keeps what the description declares of them: the cut that the stream has is one of these.
+-- The bytes do not show where an access unit inside a unit ends. So the promise covers every way to cut the accepted units into access units that agrees with
+-- the description, including the cut that the stream really has.
 use Rattle.std.specs.Prelude.{◌≡◌, ℕ, ◌≤◌, List, All}
 use Rattle.pes_packet.specs.AccessUnits.{AccessUnit}
 use Rattle.unit_timing.specs.declared.framing.Framing.{Framing}

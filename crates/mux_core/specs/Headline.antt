@@ -1,5 +1,5 @@
--- What the finished bytes of a run keep, at every moment and in runs of any length: everything that was accepted, on its PID, in order and
--- in time, and no buffer of the decoder model (ISO/IEC 13818-1, 2.4.2) ever too full.
+-- The promises of the finished bytes of a run, at every moment and for runs of any length: every accepted unit is on its PID, in order and in time, and no
+-- buffer of the decoder model (ISO/IEC 13818-1, 2.4.2) ever overflows.
 use Rattle.std.specs.Prelude.{◌≡◌, ◌⊎◌, ℕ, ◌+◌, ◌*◌, ◌%◌, ◌<◌, ◌≤◌, true, false, List, length, map, take, slice_get, Some, None, All}
 use Rattle.clock27.specs.Recurrence.{Recur}
 use Rattle.clock27.specs.Reference.{pcr_at}
@@ -38,11 +38,11 @@ use Rattle.plan_timing.specs.Promised.{Promised}
 use Rattle.plan_timing.specs.Waits.{pes_entered, longest_wait}
 use Rattle.unit_queue.specs.Queues.{ParametersInRange, Kept}
 
--- of a stream with a multiplexing buffer (ISO/IEC 13818-1, 2.4.2.3, the leak method)
+-- the promises for a stream with a multiplexing buffer (ISO/IEC 13818-1, 2.4.2.3, the leak method)
 pub record VideoKept (d : Scheduled) (s : DescribedStream) (b : MultiplexingBuffer) (units : List AccessUnit) (slots : ℕ) (bytes : List ℕ) : Type 0 where
   -- the multiplexing buffer never holds more than its size
   pub multiplexing : (x : ℕ) → multiplexing_fullness d.description.rate s.rx b.rbx x (packets_on s.pid bytes) ≤ b.size
-  -- nor the elementary stream buffer
+  -- the elementary stream buffer never holds more than its size
   pub elementary : (x : ℕ) →
       elementary_fullness d.description.rate s.rx b.rbx x (timed_pes_packets s.stream_id d.description.base0 units) (packets_on s.pid bytes) ≤ s.main
   -- each unit that is due is whole in the elementary stream buffer by its decoding time
@@ -50,16 +50,16 @@ pub record VideoKept (d : Scheduled) (s : DescribedStream) (b : MultiplexingBuff
       (multiplexing_left d.description.rate s.rx b.rbx (packets_on s.pid bytes))
   -- the transport buffer is empty at least once in each second (2.4.2.6)
   pub transport_empties : IsEmptyEachSecond d.description.rate s.rx (λ x. tb_fullness d.description.rate s.rx x (slots_of (packets_on s.pid bytes)))
-  -- and so is the multiplexing buffer
+  -- the multiplexing buffer is empty at least once in each second
   pub multiplexing_empties : IsEmptyEachSecond d.description.rate (s.rx * b.rbx)
       (λ x. multiplexing_fullness d.description.rate s.rx b.rbx x (packets_on s.pid bytes))
 
--- of a stream, of which these units were accepted
+-- the promises for a stream with these accepted units
 pub record StreamKept (d : Scheduled) (k : ℕ) (s : DescribedStream) (units : List AccessUnit) (slots : ℕ) (bytes : List ℕ) : Type 0 where
   -- the payloads on its PID, joined, are a beginning of its PES packets, joined
   pub carried : carries s.pid s.stream_id d.description.base0 units bytes ≡ true
-  -- each is of one unit. Its packet has the payload_unit_start_indicator exactly if it is the first of the unit, and that packet has the
-  -- random_access_indicator exactly if the unit has that mark
+  -- each payload belongs to a single unit. Its packet has the payload_unit_start_indicator exactly if it is the first of the unit, and the first packet has
+  -- the random_access_indicator exactly if the unit has that mark
   pub pieces : map (λ e. piece_in (payload_at e)) (pid_list s.pid bytes) ≡ take (length (pid_list s.pid bytes)) (all_pieces (owned_stream d k s) units)
   -- packet number j has the continuity_counter j modulo 16
   pub counters : (j : ℕ) (e : Entry) → slice_get (pid_list s.pid bytes) j ≡ Some e → e.packet.header.continuity_counter ≡ j % 16
@@ -67,7 +67,7 @@ pub record StreamKept (d : Scheduled) (k : ℕ) (s : DescribedStream) (units : L
   pub not_early : (j : ℕ) (e : Entry) (u : AccessUnit) → slice_get (pid_list s.pid bytes) j ≡ Some e →
       slice_get (all_senders (owned_stream d k s) units) j ≡ Some u →
       IsReleased (owned_stream d k s) u e.index
-  -- nor does a byte of a unit come into the decoder earlier than a second before that (ISO/IEC 13818-1, 2.4.2.6)
+  -- no byte of a unit enters the decoder more than a second before the decoding time of the unit (ISO/IEC 13818-1, 2.4.2.6)
   pub waits : WaitsAtMost longest_wait d.description.rate s.rx (timed_pes_packets s.stream_id d.description.base0 units)
       (pes_entered s.rx (packets_on s.pid bytes))
   -- the transport buffer never holds more than 512 bytes
@@ -78,31 +78,31 @@ pub record StreamKept (d : Scheduled) (k : ℕ) (s : DescribedStream) (units : L
   pub main_buffer : (x : ℕ) →
       mb_fullness d.description.rate s.rx x (timed_pes_packets s.stream_id d.description.base0 units)
       (pes_left d.description.rate s.rx 0 (packets_on s.pid bytes)) ≤ s.main
-  -- where the main buffer is two, a multiplexing buffer and an elementary stream buffer, neither does
+  -- if the main buffer consists of a multiplexing buffer and an elementary stream buffer, neither holds more than its size
   pub video : (b : MultiplexingBuffer) → s.multiplexing ≡ Some b → VideoKept d s b units slots bytes
   -- if its units are several access units each: with each access unit removed at its own decoding time, the main buffer never
   -- holds more than its size either
   pub frames : (f : Framing) → s.framing ≡ Some f → FramesKept d s f units bytes
 
--- of a program
+-- the promises for a program
 pub record ProgramKept (d : Scheduled) (p : DescribedProgram) (slots : ℕ) (bytes : List ℕ) : Type 0 where
   -- each packet on its PCR PID has the clock at its byte 10, no payload, and the counter 15
   pub clocks : map (λ e. e.packet) (pid_list p.pcr_pid bytes)
       ≡ map (λ e. pcr_view p.pcr_pid (pcr_at d.description.rate d.description.base0 (188 * e.index + 10))) (pid_list p.pcr_pid bytes)
-  -- they recur within the program's limit, from the run's begin to its end
+  -- clock references recur within the program's limit, from the begin to the end of the run
   pub pcrs_recur : Recur d.description.rate p.pcr_limit 0 (map (λ e. 188 * e.index + 10) (pid_list p.pcr_pid bytes)) (188 * slots)
-  -- of its tables the transport buffer never holds more than 512 bytes, nor the system buffer more than 1,536
+  -- the transport buffer of its tables never holds more than 512 bytes, nor the system buffer more than 1,536
   pub system_transport : (x : ℕ) → system_tb_fullness d.description.rate x (table_packets p.pmt_pid bytes) ≤ 512
   pub system_buffer : (x : ℕ) → bsys_fullness d.description.rate x (table_packets p.pmt_pid bytes) ≤ 1536
 
--- of table number t
+-- the promises for table number t
 pub record TableKept (d : Scheduled) (t slots : ℕ) (bytes : List ℕ) : Type 0 where
-  -- its sections, each as of the moment of its round, with counters that count on
+  -- its sections, each with the contents of the moment of its round, with consecutive counters
   pub sections : TableCarried (table_of d t) slots bytes
   -- in each slot that is the first place of a section, a packet begins that section
   pub begins : (j s : ℕ) → j < section_count d.description t → s < slots → section_starts d.description d.schedule t j s ≡ true →
       Begins (table_of d t) j s bytes
-  -- and these slots recur within the table's limit, from the run's begin to its end
+  -- these slots recur within the table's limit, from the begin to the end of the run
   pub sections_recur : (j : ℕ) → j < section_count d.description t →
       Recur d.description.rate (table_limit d.description t) 0 (map (λ s. 188 * s) (own_slots (section_starts d.description d.schedule t j) 0 slots))
       (188 * slots)
@@ -119,7 +119,7 @@ IsNamed d packet = ((slot : Slot) × (slot_pid d slot ≡ Some packet.header.pid
 abbrev pub IsAccessAtStart : PacketView → Type 0
 IsAccessAtStart packet = has_access packet.adaptation ≡ is_access (start_in packet)
 
--- of the whole
+-- the promises for the whole output
 pub record Headline (d : Scheduled) (units : ℕ → List AccessUnit) (slots : ℕ) (bytes : List ℕ) : Type 0 where
   -- 188 bytes a slot
   pub size : length bytes ≡ 188 * slots
@@ -127,23 +127,23 @@ pub record Headline (d : Scheduled) (units : ℕ → List AccessUnit) (slots : �
   pub packets : All IsTransportPacket (cut_packets bytes)
   -- each packet is the null packet, or is on a PID of the description and not marked as wrong
   pub pids : All (λ e. (e.packet ≡ null_view) ⊎ IsNamed d.description e.packet) (entries_of bytes)
-  -- no packet in which nothing begins has the random_access_indicator
+  -- the random_access_indicator is set only in packets where something begins
   pub access : All (λ e. IsAccessAtStart e.packet) (entries_of bytes)
   pub streams : (k : ℕ) (s : DescribedStream) → slice_get d.description.streams k ≡ Some s → StreamKept d k s (units k) slots bytes
   pub programs : (i : ℕ) (p : DescribedProgram) → slice_get d.description.programs i ≡ Some p → ProgramKept d p slots bytes
   pub tables : (t : ℕ) → t < table_count d.description → TableKept d t slots bytes
 
--- each stream's numbers are in their ranges, and its units are within what it declares
+-- the numbers of each stream are in their ranges, and its units are within its declaration
 pub record UnitsKept (d : Scheduled) (units : ℕ → List AccessUnit) : Type 0 where
   pub parameters : (k : ℕ) (s : DescribedStream) → slice_get d.description.streams k ≡ Some s → ParametersInRange (parameters_of d.description s)
   pub kept : (k : ℕ) (s : DescribedStream) → slice_get d.description.streams k ≡ Some s → Kept (owned_stream d k s) (units k)
 
--- what a run is promised: a schedule that keeps the conditions, and units that were accepted
+-- the promises of a run: its schedule keeps the conditions, and its units were accepted
 abbrev pub HeadlineLaw : Type 0
 HeadlineLaw = (d : Scheduled) (units : ℕ → List AccessUnit) (slots : ℕ) → IsInRange d.description → Promised d.description d.schedule → UnitsKept d units →
     Headline d units slots (run_bytes (content_at d units) 0 slots)
 
--- so of what a multiplexer stands for, and as far as its bytes go
+-- the same promises for the history that a multiplexer represents, as far as its bytes go
 abbrev pub StandingLaw : Type 0
 StandingLaw = (h : History) (m : MuxState) (n : ℕ) → IsInRange m.schedule.description → Promised m.schedule.description m.schedule.schedule → Stands h m →
     Headline m.schedule h.units n (run_bytes (content_at m.schedule h.units) 0 n)

@@ -17,12 +17,12 @@ use Rattle.unit_queue.specs.Places.{stream_content}
 use Rattle.table_rounds.specs.Tables.{Table as TableSlots, table_content}
 use Rattle.mux_core.specs.Scheduled.{Scheduled}
 
--- of each stream, by its number, the units that were accepted, in order; and the number of slots written
+-- for each stream, by its number, the accepted units in order; and the number of slots written
 pub record History : Type 0 where
   pub units : ℕ → List AccessUnit
   pub slots : ℕ
 
--- what a stream declares of its units, in the output of this description
+-- the declaration of a stream about its units, in the output of this description
 abbrev pub parameters_of : Described → DescribedStream → StreamParameters
 parameters_of d s = record {
   pid = s.pid;
@@ -85,7 +85,7 @@ bytes_of d h = run_bytes (content_at d h.units) 0 h.slots
 abbrev pub empty_history : History
 empty_history = record { units = λ k. []; slots = 0 }
 
--- one slot more, one unit more
+-- the history with one more slot, and with one more unit
 abbrev pub next_slot : History → History
 next_slot h = record { units = h.units; slots = suc h.slots }
 

@@ -1,4 +1,4 @@
--- What measuring the finished bytes finds: it is not refused, and finds no late unit and no buffer over its size.
+-- The result of measuring the finished bytes: the measurement is not refused, and finds no late unit and no buffer over its size.
 use Rattle.std.specs.Prelude.{◌≡◌, ℕ, ◌≤◌, true, List, slice_get, Some, None}
 use Rattle.std.specs.List.{list_all}
 use Rattle.pes_packet.specs.AccessUnits.{AccessUnit}
@@ -13,8 +13,8 @@ use Rattle.unit_timing.specs.declared.multiplexing_buffer.MultiplexingBuffer.{Mu
 use Rattle.mux_core.specs.Scheduled.{Scheduled}
 use Rattle.mux_core.specs.Headline.{Headline}
 
--- no unit is late, and no buffer is ever fuller than its size; of a stream with a multiplexing buffer a unit is late that is not
--- whole in the elementary stream buffer by its stamp, and neither of these two buffers is fuller than its size
+-- no unit is late, and no buffer is ever fuller than its size; in a stream with a multiplexing buffer a unit is late if it is not whole in the elementary
+-- stream buffer by its stamp, and neither of these two buffers is fuller than its size
 pub record FindsNoFault (d : Described) (found : Measured) : Type 0 where
   pub none_late : found.late ≡ None
   pub streams : (k : ℕ) (s : DescribedStream) (f : StreamFullness) → slice_get d.streams k ≡ Some s → slice_get found.streams k ≡ Some f →
@@ -24,14 +24,14 @@ pub record FindsNoFault (d : Described) (found : Measured) : Type 0 where
   pub programs : (i : ℕ) (p : DescribedProgram) (f : SystemFullness) → slice_get d.programs i ≡ Some p → slice_get found.programs i ≡ Some f →
       (f.transport ≤ 512) × (f.system ≤ 1536)
 
--- of bytes that keep what they promise, what `measure` finds
+-- the result of `measure` for bytes that keep their promises
 abbrev pub MeasuredLaw : Type 0
 MeasuredLaw = (d : Scheduled) (units : List (ℕ × AccessUnit)) (slots : ℕ) (bytes : List ℕ) (found : Measured) → Headline d (λ k. units_of k units) slots bytes →
     StreamsMeasured d.description units bytes found.streams → SystemsMeasured d.description bytes found.programs →
     found.late ≡ late_unit d.description units bytes →
     FindsNoFault d.description found
 
--- nor is it refused, where each unit names a stream and has from one byte to that stream's greatest size
+-- the measurement is not refused if each unit names a stream and has from one byte to that stream's greatest size
 abbrev pub MeasurableLaw : Type 0
 MeasurableLaw = (d : Scheduled) (units : List (ℕ × AccessUnit)) (slots : ℕ) (bytes : List ℕ) → Headline d (λ k. units_of k units) slots bytes →
     list_all (is_declared d.description) units ≡ true → cause d.description units bytes ≡ None

@@ -1,4 +1,4 @@
--- The state of a multiplexer, and the history that it stands for.
+-- The state of a multiplexer, and the history that it represents.
 use Rattle.std.specs.Prelude.{◌≡◌, ◌≤◌, ◌<◌, ◌^◌, ℕ, List, Option, Some, None, slice_get, length, option_map, Result, Ok, Err, ⊤}
 use Rattle.pes_packet.specs.AccessUnits.{AccessUnit}
 use Rattle.slot_contents.specs.Contents.{packet_of}
@@ -15,7 +15,7 @@ use Rattle.mux_core.specs.Scheduled.{Scheduled}
 use Rattle.mux_core.specs.Histories.{History, owned_stream, table_of, content_at, bytes_of, next_slot, with_unit}
 use Rattle.mux_core.specs.declared.done.Done.{Done}
 
--- what is multiplexed, a queue for each stream, the carousel of each table, the capacity of a queue in units, and the number of slots written
+-- the schedule, a queue for each stream, the carousel of each table, the capacity of a queue in units, and the number of slots written
 pub record MuxState : Type 0 where
   pub schedule : Scheduled
   pub queues : List Queue
@@ -23,34 +23,34 @@ pub record MuxState : Type 0 where
   pub capacity : ℕ
   pub slots : ℕ
 
--- the queue of a stream stands for the stream's units
+-- the queue of a stream represents the stream's units
 abbrev pub QueueStands : Scheduled → History → ℕ → ℕ → Option Queue → Option DescribedStream → Type 0
 QueueStands d h capacity k (Some q) (Some s) = QueueHolds (owned_stream d k s) h.slots capacity (h.units k) q
 QueueStands d h capacity k (Some q) None = ⊥
 QueueStands d h capacity k None (Some s) = ⊥
 QueueStands d h capacity k None None = ⊤
 
--- the carousel of a table stands for the table's own slots so far
+-- the carousel of a table represents the table's own slots so far
 abbrev pub CarouselStands : Scheduled → History → ℕ → Option Carousel → Option TableKind → Type 0
 CarouselStands d h t (Some carousel) (Some kind) = CarouselHolds (table_of d t) h.slots carousel
 CarouselStands d h t (Some carousel) None = ⊥
 CarouselStands d h t None (Some kind) = ⊥
 CarouselStands d h t None None = ⊤
 
--- a multiplexer stands for a history
+-- a multiplexer represents a history
 pub record Stands (h : History) (m : MuxState) : Type 0 where
   pub written : m.slots ≡ h.slots
   pub streams : (k : ℕ) → QueueStands m.schedule h m.capacity k (slice_get m.queues k) (slice_get m.schedule.description.streams k)
   pub tables : (t : ℕ) → CarouselStands m.schedule h t (slice_get m.carousels t) (slice_get (table_kinds m.schedule.description) t)
 
--- the next 188 bytes of the history, and the history with a slot more; nothing after 2^40 slots
+-- the next 188 bytes of the history, and the history with one more slot; nothing after 2^40 slots
 abbrev pub Gives : History → MuxState → Result (List ℕ) Done → MuxState → Type 0
 Gives h old (Ok packet) new =
     (h.slots < 2 ^ 40) × (packet ≡ packet_of (content_at old.schedule h.units h.slots)) × (new.schedule ≡ old.schedule) × Stands (next_slot h) new ×
     (new.capacity ≡ old.capacity)
 Gives h old (Err e) new = (2 ^ 40 ≤ h.slots) × (new ≡ old)
 
--- why a unit of a stream is refused: the stream is unknown, or one of the causes of its units
+-- why a unit of a stream is refused: the stream is unknown, or a cause applies to the unit
 unfoldable pub feed_cause : Scheduled → ℕ → History → ℕ → AccessUnit → Option DescribedStream → Option FeedError
 feed_cause d capacity h k u None = Some UnknownStream
 feed_cause d capacity h k u (Some s) = unit_cause (owned_stream d k s) h.slots capacity (h.units k) u
@@ -58,13 +58,13 @@ feed_cause d capacity h k u (Some s) = unit_cause (owned_stream d k s) h.slots c
 abbrev pub refusal_of : MuxState → History → ℕ → AccessUnit → Option FeedError
 refusal_of m h k u = feed_cause m.schedule m.capacity h k u (slice_get m.schedule.description.streams k)
 
--- what feeding a unit does
+-- the effect of feeding a unit
 pub record Takes (h : History) (old : MuxState) (k : ℕ) (u : AccessUnit) (refused : Option FeedError) (new : MuxState) : Type 0 where
-  -- the first cause is given
+  -- the answer is the first cause that applies
   pub first : refused ≡ refusal_of old h k u
-  -- an accepted unit is one more of its stream
+  -- an accepted unit is added to the units of its stream
   pub stands : refused ≡ None → Stands (with_unit h k u) new
-  -- what was written stays
+  -- the bytes written before do not change
   pub before : refused ≡ None → bytes_of old.schedule (with_unit h k u) ≡ bytes_of old.schedule h
   pub same_schedule : new.schedule ≡ old.schedule
   pub same_capacity : new.capacity ≡ old.capacity

@@ -1,4 +1,4 @@
--- A multiplexer that is made, and why none is.
+-- The creation of a multiplexer, and why it may be refused.
 use Rattle.std.specs.Prelude.{◌≡◌, ◌⊎◌, zero, suc, [], ◌∷◌, ◌*◌, ◌^◌, ◌&&◌, ℕ, nat_le, Bool, if◌then◌else◌, Option, Some, None, Result, Ok, Err, List}
 use Rattle.description_parts.specs.Described.{Described, DescribedStream}
 use Rattle.description_parts.specs.Tables.{table_pid, section_lengths}
@@ -9,29 +9,29 @@ use Rattle.mux_core.specs.Histories.{parameters_of}
 use Rattle.mux_core.specs.declared.done.NewError.{NewError}
 use Rattle.mux_core.specs.declared.done.NewError.TheVariants.{Capacity, Periods, Memory}
 
--- 1 to 1,048,576 units
+-- a capacity is from 1 to 1,048,576 units
 abbrev pub is_capacity : ℕ → Bool
 is_capacity n = nat_le 1 n && nat_le n 1048576
 
--- the first plan of a switch runs for a period or more, and for 2^40 slots at most
+-- the first plan of a switch runs for at least one period, and for at most 2^40 slots
 abbrev pub is_periods : ℕ → ℕ → Bool
 is_periods period periods = nat_le 1 periods && nat_le (periods * period) (2 ^ 40)
 
--- why no multiplexer over a plan is made, except out of memory
+-- why no multiplexer is made for a plan, except out of memory
 abbrev pub plan_cause : ℕ → Option NewError
 plan_cause capacity = if is_capacity capacity then None else Some Capacity
 
--- nor over a switch whose first plan has this period
+-- why no multiplexer is made for a switch whose first plan has this period, except out of memory
 abbrev pub switch_cause : ℕ → ℕ → ℕ → Option NewError
 switch_cause period periods capacity =
     if is_capacity capacity then (if is_periods period periods then None else Some Periods) else Some Capacity
 
--- what was answered
+-- the cause in an answer
 abbrev pub new_refusal : {V W : Type 0} → Result V (NewError × W) → Option NewError
 new_refusal (Ok mux) = None
 new_refusal (Err e) = Some e.0
 
--- if there is a cause it is answered; if there is none, at most out of memory is
+-- if there is a cause, the answer is this cause; otherwise the only possible refusal is out of memory
 abbrev pub Judges : Option NewError → Option NewError → Type 0
 Judges (Some cause) refused = refused ≡ Some cause
 Judges None refused = (refused ≡ None) ⊎ (refused ≡ Some Memory)
@@ -43,7 +43,7 @@ first_queue d capacity s = empty_queue (parameters_of d s) capacity
 abbrev pub first_carousel : Described → ℕ → Carousel
 first_carousel d t = table_carousel (table_pid d t) d.rate d.start (section_lengths d t)
 
--- those of the first n tables
+-- the carousels of n tables from table t on
 unfoldable pub first_carousels : Described → ℕ → ℕ → List Carousel
 first_carousels d t zero = []
 first_carousels d t (suc n) = first_carousel d t ∷ first_carousels d (suc t) n

@@ -1,4 +1,4 @@
--- One slot, and one unit, as the state takes them.
+-- The steps of the state: one slot, and one unit fed.
 use Rattle.std.specs.Prelude.{ℕ, suc, cond, nat_lt, List, [], set, Option, Some, None, slice_get}
 use Rattle.slot_contents.specs.Contents.{Content, NullContent}
 use Rattle.description_parts.specs.Described.{Described}
@@ -24,7 +24,7 @@ unfoldable pub queues_after : ℕ → List Queue → ℕ → Option Queue → Li
 queues_after slot queues k None = queues
 queues_after slot queues k (Some q) = set queues k (sent_in slot q)
 
--- the bytes of a section of a table at a moment, none where there is no such section
+-- the bytes of a section of a table at a moment; none if there is no such section
 abbrev pub section_bytes : Described → ℕ → ℕ → ℕ → List ℕ
 section_bytes d t j moment = cond (nat_lt t (table_count d)) (cond (nat_lt j (section_count d t)) (table_bytes d t j moment) []) []
 
@@ -37,14 +37,14 @@ unfoldable pub carousels_after : (ℕ → ℕ → List ℕ) → ℕ → List Car
 carousels_after source slot carousels t None = carousels
 carousels_after source slot carousels t (Some carousel) = set carousels t (carousel_after source slot carousel)
 
--- what the next slot carries, where it is of this kind
+-- what the next slot carries, if it is of this kind
 unfoldable pub sends : MuxState → Slot → Content
 sends m (Stream k) = queue_sends m.slots (slice_get m.queues k)
 sends m (Pcr p) = pcr_content m.schedule.description m.slots (slice_get m.schedule.description.programs p)
 sends m (Table t) = carousel_sends (section_bytes m.schedule.description t) m.slots (slice_get m.carousels t)
 sends m Null = NullContent
 
--- the state with these queues and carousels, a slot later
+-- the state with these queues and carousels, one slot later
 abbrev pub later : MuxState → List Queue → List Carousel → MuxState
 later m queues carousels = record { schedule = m.schedule; queues = queues; carousels = carousels; capacity = m.capacity; slots = suc m.slots }
 
@@ -56,7 +56,7 @@ after m Null = later m m.queues m.carousels
 
 -- ---- a unit fed
 
--- why the queue refuses it
+-- why the queue refuses a unit
 unfoldable pub queue_cause : ℕ → AccessUnit → Option Queue → Option FeedError
 queue_cause slots u None = Some UnknownStream
 queue_cause slots u (Some q) = state_cause slots q u

@@ -19,9 +19,9 @@ use Rattle.packet_output.specs.Formats.{formatted}
 use Rattle.mux_core.specs.declared.multiplexing.MuxError.{MuxError}
 use Rattle.mux_core.specs.declared.multiplexing.MuxError.TheVariants.{TooManySlots, Periods, Feed, Device, Memory}
 
--- ---- what is multiplexed
+-- ---- the schedule
 
--- a checked plan over and over
+-- a checked plan, repeated for ever
 abbrev pub plan_schedule : Served → Scheduled
 plan_schedule plan = record { description = plan.description; schedule = single plan.plan.slots }
 
@@ -31,16 +31,16 @@ switch_schedule switch periods = record { description = switch.first.description
 
 -- ---- the units
 
--- the maximum number of units of one stream: the first unit and those of its stream after it, or more of another stream
+-- the maximum number of units of one stream, over all streams
 unfoldable pub max_stream_units : List (ℕ × AccessUnit) → ℕ
 max_stream_units [] = 0
 max_stream_units (entry ∷ rest) = max (1 + length (units_of entry.0 rest)) (max_stream_units rest)
 
--- the number of units of a stream that may wait: that number, at least 1 and at most 1,048,576
+-- the number of units of a stream that may wait: this maximum, at least 1 and at most 1,048,576
 abbrev pub capacity_for : List (ℕ × AccessUnit) → ℕ
 capacity_for units = min (max 1 (max_stream_units units)) 1048576
 
--- the history in which all of these units are accepted and `slots` slots are written
+-- the history with all these units accepted and `slots` slots written
 abbrev pub job_history : List (ℕ × AccessUnit) → ℕ → History
 job_history units slots = record { units = λ k. units_of k units; slots = slots }
 
@@ -51,11 +51,11 @@ unfoldable pub or_cause : Option MuxError → Option MuxError → Option MuxErro
 or_cause (Some cause) next = Some cause
 or_cause None next = next
 
--- a run has 2^40 slots at most
+-- a run has at most 2^40 slots
 abbrev pub slots_cause : ℕ → Option MuxError
 slots_cause slots = if nat_lt (2 ^ 40) slots then Some TooManySlots else None
 
--- the first plan, of this period, runs for a period or more, and for 2^40 slots at most
+-- the first plan, of this period, runs for at least one period, and for at most 2^40 slots
 abbrev pub periods_cause : ℕ → ℕ → Option MuxError
 periods_cause period periods = if is_periods period periods then None else Some Periods
 
@@ -64,7 +64,7 @@ unfoldable pub unit_refused : ℕ → Option FeedError → Option MuxError
 unit_refused index None = None
 unit_refused index (Some cause) = Some (Feed index cause)
 
--- of two plans
+-- the first cause in the numbers of a switch: its slots, then its periods
 abbrev pub switch_slots_cause : Followed → ℕ → ℕ → Option MuxError
 switch_slots_cause switch periods slots = or_cause (slots_cause slots) (periods_cause (length switch.first.plan.slots) periods)
 
@@ -72,13 +72,13 @@ switch_slots_cause switch periods slots = or_cause (slots_cause slots) (periods_
 abbrev pub cause_after : Scheduled → ℕ → List (ℕ × AccessUnit) → ℕ × AccessUnit → Option FeedError
 cause_after d capacity fed entry = feed_cause d capacity (job_history fed 0) entry.0 entry.1 (slice_get d.description.streams entry.0)
 
--- the first unit that is refused, and why, where those of `fed` are accepted already
+-- the first refused unit and its cause, after the units of `fed` were accepted
 unfoldable pub first_refused : Scheduled → ℕ → List (ℕ × AccessUnit) → List (ℕ × AccessUnit) → Option MuxError
 first_refused d capacity fed [] = None
 first_refused d capacity fed (entry ∷ rest) =
     or_cause (unit_refused (length fed) (cause_after d capacity fed entry)) (first_refused d capacity (fed ++ (entry ∷ [])) rest)
 
--- all units were fed to a multiplexer that stood for nothing: it stands for their history, or the first that is refused is named
+-- all units were fed to a multiplexer with an empty history: it represents their history, or the answer names the first refused unit
 pub record AllFed (old : MuxState) (units : List (ℕ × AccessUnit)) (new : MuxState) : Type 0 where
   pub none_refused : first_refused old.schedule old.capacity [] units ≡ None
   pub stands : Stands (job_history units 0) new
@@ -88,16 +88,16 @@ abbrev pub FeedsAll : MuxState → List (ℕ × AccessUnit) → Result (Unit {0}
 FeedsAll old units (Ok x) new = AllFed old units new
 FeedsAll old units (Err e) new = first_refused old.schedule old.capacity [] units ≡ Some (Feed e.0 e.1)
 
--- of a job: a cause that lies in its numbers, else the first unit that is refused
+-- the cause for a job: a cause in its numbers, otherwise the first refused unit
 abbrev pub job_cause : Option MuxError → Scheduled → List (ℕ × AccessUnit) → Option MuxError
 job_cause early d units = or_cause early (first_refused d (capacity_for units) [] units)
 
--- the room that a job takes is enough: units are refused just where 1,048,576 of each stream may wait
+-- the room of a job is enough: the same units are refused as if 1,048,576 units of each stream might wait
 abbrev pub RoomForAll : Type 0
 RoomForAll = (d : Scheduled) (units : List (ℕ × AccessUnit)) → first_refused d (capacity_for units) [] units ≡ first_refused d 1048576 [] units
 
--- which answer is given, where `early` is the cause that lies in the job's numbers and `cause` that of the whole job:
--- the cause if there is one; out of memory only where the numbers are right
+-- the answer, if `early` is the cause in the numbers of the job and `cause` the cause of the whole job: the cause, if any; out of memory only if the numbers
+-- are right
 abbrev pub Refuses : Option MuxError → Option MuxError → Result ℕ MuxError → Type 0
 Refuses early cause (Ok sent) = cause ≡ None
 Refuses early cause (Err TooManySlots) = cause ≡ Some TooManySlots
@@ -106,7 +106,7 @@ Refuses early cause (Err (Feed index refused)) = cause ≡ Some (Feed index refu
 Refuses early cause (Err (Device sent)) = cause ≡ None
 Refuses early cause (Err Memory) = early ≡ None
 
--- ---- what is written
+-- ---- the output
 
 -- the output of the next n slots from slot s on: their packets, or a line of digits for each
 unfoldable pub run_output : Bool → (ℕ → Content) → ℕ → ℕ → List ℕ
@@ -117,7 +117,7 @@ run_output hex content s (suc n) = formatted hex (packet_of (content s)) ++ run_
 abbrev pub output_of : Bool → Scheduled → History → List ℕ
 output_of hex d h = run_output hex (content_at d h.units) 0 h.slots
 
--- the bytes that leave for a slot
+-- the number of output bytes for a slot
 abbrev pub slot_size : Bool → ℕ
 slot_size hex = if hex then 377 else 188
 
@@ -139,7 +139,7 @@ WritesAll out old new (Err Periods) = ⊥
 WritesAll out old new (Err (Feed index cause)) = ⊥
 WritesAll out old new (Err Memory) = ⊥
 
--- what holds of the output is said wherever some of it may have been written
+-- a claim about the output, for each answer after which part of it may have been written
 abbrev pub OnWriting : Result ℕ MuxError → Type 0 → Type 0
 OnWriting (Ok sent) claim = claim
 OnWriting (Err (Device sent)) claim = claim
@@ -148,7 +148,7 @@ OnWriting (Err Periods) claim = ⊤
 OnWriting (Err (Feed index cause)) claim = ⊤
 OnWriting (Err Memory) claim = ⊤
 
--- the writer is named exactly where a call of it failed
+-- the writer is named exactly if a call of it failed
 abbrev pub NamesWriter : Result ℕ MuxError → ℕ → ℕ → Type 0
 NamesWriter (Ok sent) old new = new ≡ old
 NamesWriter (Err (Device sent)) old new = Failed old new

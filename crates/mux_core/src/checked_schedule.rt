@@ -96,7 +96,7 @@ impl<A: Allocator> CheckedSchedule<A> {
     }
 }
 
-// What slot `s` of a period over and over carries.
+// Returns what slot `s` of a repeated period carries.
 fn repeated(slots: &[Slot], s: u64) -> Slot
     ensures { result ≡ repeated slots.now s }
 {

@@ -12,15 +12,15 @@ use pes_packet::Unit;
 use std::alloc::{Allocator, Global};
 use std::collections::VecDeque;
 
-/// What may come next: a unit for a stream, or a slot.
+/// The next event: a unit for a stream, or a slot.
 #[derive(Drop)]
 pub enum Event<A: Allocator = Global> {
     Feed(u8, Unit<A>),
     Slot,
 }
 
-/// Does what the events say, in their order. A unit that is refused is dropped; a slot appends its 188 bytes, and
-/// nothing after 2^40 slots. Where there is no memory for the output, the events come back and nothing changes.
+/// Applies the events in order. A refused unit is dropped; a slot appends its 188 bytes, and nothing after 2^40 slots.
+/// If memory for the output runs out, the events are returned and nothing changes.
 pub fn drive<A: Allocator>(
     mux: &mut Mux<A>,
     events: Vec<Event<A>, A>,
@@ -58,7 +58,7 @@ pub fn drive<A: Allocator>(
     Ok(())
 }
 
-// Feeds a unit; one that is refused is dropped.
+// Feeds a unit; drops it if it is refused.
 fn take_unit<A: Allocator>(mux: &mut Mux<A>, stream: u8, unit: Unit<A>)
     ensures { (h : History) → Stands h mux.old →
         StandsOn (step_history mux.old.schedule mux.old.capacity h (FeedStep stream unit)) mux.old mux.new
@@ -68,7 +68,7 @@ fn take_unit<A: Allocator>(mux: &mut Mux<A>, stream: u8, unit: Unit<A>)
     let _ = mux.feed(stream, unit);
 }
 
-// Appends the packet of the next slot, for which there is room.
+// Appends the packet of the next slot; there has to be room for it.
 fn write_slot<A: Allocator>(mux: &mut Mux<A>, out: &mut Vec<u8, A>)
     requires room { vec_len out.old + 188 ≤ vec_capacity out.old }
     ensures stands { (h : History) → Stands h mux.old →

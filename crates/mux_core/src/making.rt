@@ -52,8 +52,8 @@ impl<A: Allocator + Clone> Mux<A> {
         Ok(begun(CheckedSchedule::single(plan), queues, carousels, capacity))
     }
 
-    /// Returns a multiplexer over two plans, the first for `periods` of its periods: 1 or more, and 2^40 slots at
-    /// most. Where none is made the switch comes back.
+    /// Returns a multiplexer over two plans, the first for `periods` of its periods: at least 1, and at most 2^40
+    /// slots. If it is refused, the switch is returned.
     pub fn with_switch(
         alloc: A,
         switch: CheckedSwitch<A>,
@@ -87,7 +87,7 @@ impl<A: Allocator + Clone> Mux<A> {
     }
 }
 
-// A multiplexer before slot 0.
+// Returns a multiplexer before slot 0.
 fn begun<A: Allocator>(
     schedule: CheckedSchedule<A>,
     queues: Vec<UnitQueue<A>, A>,
@@ -117,14 +117,14 @@ fn is_capacity(capacity: usize) -> bool
     1 <= capacity && capacity <= MAX_CAPACITY
 }
 
-// Whether the first plan, of this period, may run for this number of periods.
+// Returns whether the first plan, of this period, may run for this number of periods.
 pub(crate) fn is_periods(period: usize, periods: u64) -> bool
     ensures { result ≡ is_periods period periods }
 {
     1 <= periods && u128::from(periods) * period as u128 <= u128::from(MAX_SLOTS)
 }
 
-// What a stream declares.
+// Returns the declaration of a stream.
 fn parameters_of(description: &Description, stream: &StreamDescription) -> StreamParameters
     ensures { result ≡ parameters_of description.now stream.now }
 {
@@ -141,7 +141,7 @@ fn parameters_of(description: &Description, stream: &StreamDescription) -> Strea
     }
 }
 
-// A queue for each stream.
+// Returns a queue for each stream.
 fn first_queues<A: Allocator + Clone>(
     alloc: &A,
     description: &Description,
@@ -159,7 +159,7 @@ fn first_queues<A: Allocator + Clone>(
     Ok(queues)
 }
 
-// A carousel for each table.
+// Returns a carousel for each table.
 fn first_carousels<A: Allocator + Clone>(
     alloc: &A,
     description: &Description,
@@ -174,7 +174,7 @@ fn first_carousels<A: Allocator + Clone>(
     Ok(carousels)
 }
 
-// The carousel of a table before slot 0.
+// Returns the carousel of a table before slot 0.
 fn first_carousel(description: &Description, table: usize) -> TableCarousel
     requires { table < table_count description.now }
     ensures { result ≡ first_carousel description.now table }

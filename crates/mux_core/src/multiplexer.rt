@@ -126,7 +126,7 @@ impl<A: Allocator> Mux<A> {
         self.slots += 1;
     }
 
-    /// Takes a unit of a stream. A unit that is refused comes back, and nothing changes.
+    /// Takes a unit of a stream. A refused unit is returned, and nothing changes.
     pub fn feed(&mut self, stream: u8, unit: Unit<A>) -> Result<(), (FeedError, Unit<A>)>
         ensures takes { (h : History) → Stands h self.old → Takes h self.old stream unit (refusal result) self.new }
         ensures handed_back { IfErr result (λ e. (e.1 ≡ unit) × (self.new ≡ self.old)) }
@@ -141,14 +141,14 @@ impl<A: Allocator> Mux<A> {
         self.slots
     }
 
-    /// Returns the number of units of a stream that are not sent whole; None where there is no such stream.
+    /// Returns the number of units of a stream that are not sent whole; None if there is no such stream.
     pub fn waiting(&self, stream: u8) -> Option<usize>
         ensures { (h : History) → Stands h self.now → result ≡ waiting_of self.now.schedule h stream }
     {
         self.units_waiting(stream)
     }
 
-    // The number of units in the queue of a stream.
+    // Returns the number of units in the queue of a stream.
     fn units_waiting(&self, stream: u8) -> Option<usize>
         ensures { result ≡ option_map (λ q. length q.units) (slice_get self.now.queues stream) }
     {
@@ -158,7 +158,8 @@ impl<A: Allocator> Mux<A> {
         Some(queue.waiting())
     }
 
-    // The numbers of the description are in their ranges, and the schedule keeps every promise of it.
+    // States that the numbers of the description are in their ranges, and that the schedule keeps every promise about
+    // it.
     pub(crate) fn keeps_promises(&self)
         ensures ranges { IsInRange self.now.schedule.description }
         ensures promised { Promised self.now.schedule.description self.now.schedule.schedule }

@@ -162,14 +162,14 @@ pub fn multiplex_switch_as<A: Allocator + Copy, W: Sink>(
     written
 }
 
-// The number of units of a stream that may wait.
+// Returns the number of units of a stream that may wait.
 fn capacity_for<A: Allocator>(units: &[(u8, Unit<A>)]) -> usize
     ensures { result ≡ capacity_for units.now }
 {
     max_stream_units(units).max(1).min(MAX_CAPACITY)
 }
 
-// The maximum number of units of one stream.
+// Returns the maximum number of units of one stream.
 fn max_stream_units<A: Allocator>(units: &[(u8, Unit<A>)]) -> usize
     ensures { result ≡ max_stream_units units.now }
 {

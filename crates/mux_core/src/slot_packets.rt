@@ -31,8 +31,8 @@ pub(crate) fn write_stream<A: Allocator>(
     queue.write_next(slot, packet);
 }
 
-/// Writes the next packet of a table, from its carousel. It stays a call of its own: what a section's text needs on the
-/// stack would else be made ready in each slot.
+/// Writes the next packet of a table, from its carousel. It stays a call of its own: otherwise every slot would
+/// prepare the stack that a section's text needs.
 #[inline(never)]
 #[tactic(auto, unfolding(crate::specs::SlotSteps::carousel_sends, crate::specs::SlotSteps::carousels_after))]
 pub(crate) fn write_table<A: Allocator>(
@@ -58,7 +58,7 @@ pub(crate) fn write_table<A: Allocator>(
     carousel.write_next(&sections, slot, packet);
 }
 
-/// Writes the clock reference of a program: its time is that of byte 10 of the packet (ISO/IEC 13818-1, 2.4.3.5).
+/// Writes the clock reference of a program: the time of byte 10 of the packet (ISO/IEC 13818-1, 2.4.3.5).
 #[tactic(auto, unfolding(crate::specs::Histories::pcr_content))]
 pub(crate) fn write_program_pcr(description: &Description, p: u8, slot: u64, packet: &mut [u8; 188])
     requires ranges { IsInRange description.now }

@@ -110,19 +110,23 @@ has_bytes files name bytes input opened same whole = (opened, subst (λ (k : Opt
 
 -- what becomes of a new file
 
-pub saved : (creates : Option Bool) (name bytes : List ℕ) (ended : ℕ) (file faults : Device) (status : ℕ) → IsAsKnown creates true →
-    ((xs : List ℕ) → file.before.bytes ≡ Some xs → xs ≡ []) →
-    Takes file bytes × IsClean file → Keeps name ended faults status → SavesFile creates name bytes ended faults status
-saved creates name bytes ended file faults status created empty written keeps =
-    inl (record { file = file; new = record { created = created; empty = empty }; written = written.0; clean = written.1; keeps = keeps })
+-- a known fact about a value is a fact about an equal value
+pub known_as : (keeps : Option Bool) (b b' : Bool) → IsAsKnown keeps b → b ≡ b' → IsAsKnown keeps b'
+known_as keeps b b' known is = subst (λ (c : Bool). IsAsKnown keeps c) is known
 
-pub removed : (creates : Option Bool) (name bytes : List ℕ) (ended : ℕ) (file faults : Device) (status : ℕ) → IsAsKnown creates true →
+pub saved : (creates keeps : Option Bool) (name bytes : List ℕ) (ended : ℕ) (file faults : Device) (status : ℕ) → IsAsKnown creates true →
     ((xs : List ℕ) → file.before.bytes ≡ Some xs → xs ≡ []) →
-    Stopped bytes file → HasFailed file → TellsOf name unwritten_text faults → status ≡ 3 → SavesFile creates name bytes ended faults status
-removed creates name bytes ended file faults status created empty stopped failed tells is =
+    Takes file bytes × IsClean file → Keeps keeps name ended faults status → SavesFile creates keeps name bytes ended faults status
+saved creates keeps name bytes ended file faults status created empty written kept =
+    inl (record { file = file; new = record { created = created; empty = empty }; written = written.0; clean = written.1; kept = kept })
+
+pub removed : (creates keeps : Option Bool) (name bytes : List ℕ) (ended : ℕ) (file faults : Device) (status : ℕ) → IsAsKnown creates true →
+    ((xs : List ℕ) → file.before.bytes ≡ Some xs → xs ≡ []) →
+    Stopped bytes file → HasFailed file → TellsOf name unwritten_text faults → status ≡ 3 → SavesFile creates keeps name bytes ended faults status
+removed creates keeps name bytes ended file faults status created empty stopped failed tells is =
     inr (inl (record { file = file; new = record { created = created; empty = empty }; stopped = stopped; failed = failed; tells = tells; status_is = is }))
 
-pub uncreated : (creates : Option Bool) (name bytes : List ℕ) (ended : ℕ) (faults : Device) (status : ℕ) → IsAsKnown creates false →
+pub uncreated : (creates keeps : Option Bool) (name bytes : List ℕ) (ended : ℕ) (faults : Device) (status : ℕ) → IsAsKnown creates false →
     TellsOf name uncreated_text faults → status ≡ 3 →
-    SavesFile creates name bytes ended faults status
-uncreated creates name bytes ended faults status none tells is = inr (inr (record { uncreated = none; tells = tells; status_is = is }))
+    SavesFile creates keeps name bytes ended faults status
+uncreated creates keeps name bytes ended faults status none tells is = inr (inr (record { uncreated = none; tells = tells; status_is = is }))

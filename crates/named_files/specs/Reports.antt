@@ -1,4 +1,4 @@
--- What is wrong with a file that is named, in words.
+-- Reports, in words, of a fault of a named file.
 use Rattle.std.specs.Prelude.{ℕ, List, [], ◌∷◌, codes}
 use Rattle.devices.specs.Devices.{Device}
 use Rattle.devices.specs.Lines.{Tells}

@@ -5,9 +5,10 @@ use Rattle.devices.specs.Files.{IsAsKnown}
 use Rattle.devices.specs.Lines.{Stopped}
 use Rattle.named_files.specs.Reports.{TellsOf, uncreated_text, unnamed_text, unwritten_text}
 
--- a new file has its name now, or that is reported
-abbrev pub Keeps : List ℕ → ℕ → Device → ℕ → Type 0
-Keeps name ended faults status = ((status ≡ ended) × IsUntouched faults) ⊎ ((status ≡ 3) × TellsOf name unnamed_text faults)
+-- a new file has its name now; or it can't have it, which is reported
+abbrev pub Keeps : Option Bool → List ℕ → ℕ → Device → ℕ → Type 0
+Keeps keeps name ended faults status =
+    (IsAsKnown keeps true × ((status ≡ ended) × IsUntouched faults)) ⊎ (IsAsKnown keeps false × ((status ≡ 3) × TellsOf name unnamed_text faults))
 
 -- a new file was created, before its first byte
 pub record IsNew (creates : Option Bool) (file : Device) : Type 0 where
@@ -15,12 +16,12 @@ pub record IsNew (creates : Option Bool) (file : Device) : Type 0 where
   pub empty : (bytes : List ℕ) → file.before.bytes ≡ Some bytes → bytes ≡ []
 
 -- all bytes are written to it
-pub record IsSaved (creates : Option Bool) (name bytes : List ℕ) (ended : ℕ) (faults : Device) (status : ℕ) : Type 0 where
+pub record IsSaved (creates keeps : Option Bool) (name bytes : List ℕ) (ended : ℕ) (faults : Device) (status : ℕ) : Type 0 where
   pub file : Device
   pub new : IsNew creates file
   pub written : Takes file bytes
   pub clean : IsClean file
-  pub keeps : Keeps name ended faults status
+  pub kept : Keeps keeps name ended faults status
 
 -- the writer failed: the file is removed
 pub record IsRemoved (creates : Option Bool) (name bytes : List ℕ) (faults : Device) (status : ℕ) : Type 0 where
@@ -37,6 +38,6 @@ pub record IsUncreated (creates : Option Bool) (name : List ℕ) (faults : Devic
   pub tells : TellsOf name uncreated_text faults
   pub status_is : status ≡ 3
 
-abbrev pub SavesFile : Option Bool → List ℕ → List ℕ → ℕ → Device → ℕ → Type 0
-SavesFile creates name bytes ended faults status =
-    IsSaved creates name bytes ended faults status ⊎ (IsRemoved creates name bytes faults status ⊎ IsUncreated creates name faults status)
+abbrev pub SavesFile : Option Bool → Option Bool → List ℕ → List ℕ → ℕ → Device → ℕ → Type 0
+SavesFile creates keeps name bytes ended faults status =
+    IsSaved creates keeps name bytes ended faults status ⊎ (IsRemoved creates name bytes faults status ⊎ IsUncreated creates name faults status)

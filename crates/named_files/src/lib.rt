@@ -1,7 +1,7 @@
 //! Files that a command line names.
 //!
-//! `read_files` has the bytes of files, one after another (`specs/ReadFiles`); `save_file` writes a file whole or not
-//! at all (`specs/Saving`). `reports` says what is wrong with a file (`specs/Reports`).
+//! `read_files` returns the bytes of files, one after another (`specs/ReadFiles`); `save_file` writes a file whole or
+//! not at all (`specs/Saving`). `reports` names a file and its fault (`specs/Reports`).
 #![tactic(auto)]
 
 mod reading;

@@ -25,7 +25,7 @@ fn report_unread<E: Sink>(name: &str, halt: Halt, faults: &mut E) -> u8
     3
 }
 
-// The bytes of the file of a name; if there are none, reports why, and returns the status.
+// Returns the bytes of the file of a name; if there are none, reports why, and returns the status.
 fn read_file<F: NamedFiles, E: Sink>(
     alloc: Global,
     files: &F,

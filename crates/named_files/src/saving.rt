@@ -14,17 +14,17 @@ fn keep<F: OutputFiles, E: Sink>(
     ended: u8,
     faults: &mut E,
 ) -> u8
-    ensures { spec.Keeps name.now ended (writes E.Sink faults.old faults.new) result }
+    ensures { spec.Keeps (F.keeps files.now name.now) name.now ended (writes E.Sink faults.old faults.new) result }
 {
-    if files.keep_file(file) {
+    if files.keep_file(name, file) {
         return ended;
     }
     report_of(name, ": can't be renamed\n", faults);
     3
 }
 
-/// Writes bytes to a file of this name, whole or not at all, and returns `ended`; or reports what is wrong with the
-/// file, and returns 3.
+/// Writes bytes to a file of this name, whole or not at all, and returns `ended`; or reports the file's fault, and
+/// returns 3.
 pub fn save_file<F: OutputFiles, E: Sink>(
     files: &F,
     name: &str,
@@ -32,7 +32,7 @@ pub fn save_file<F: OutputFiles, E: Sink>(
     ended: u8,
     faults: &mut E,
 ) -> u8
-    ensures { spec.SavesFile (F.creates files.now name.now) name.now bytes.now ended
+    ensures { spec.SavesFile (F.creates files.now name.now) (F.keeps files.now name.now) name.now bytes.now ended
         (writes E.Sink faults.old faults.new) result }
 {
     let Some(mut file) = files.create_named(name) else {

@@ -1,4 +1,4 @@
--- What stands in memory of a run, and which run it stands for.
+-- The state of a run in memory, and the run that it represents.
 use Rattle.std.specs.Prelude.{◌≡◌, ◌+◌, ℕ, Bool, false, nat_le, if◌then◌else◌, List, [], length, Option, Some, None, Result, Ok, Err}
 use Rattle.description_parts.specs.Ranges.{IsInRange}
 use Rattle.pes_packet.specs.AccessUnits.{AccessUnit}
@@ -21,8 +21,8 @@ use Rattle.on_air.specs.declared.options.Terms.{Terms}
 use Rattle.on_air.specs.declared.refusals.AirRefusal.{AirRefusal}
 use Rattle.on_air.specs.Airing.{Run, Air, job_of, air_output, lead_of, greatest_lead, room_by, room_of, air_cause, accepted_by}
 
--- the multiplexer, the packets that wait to be written, the terms, the rate and the lead by which slots are settled, the greatest DTS taken,
--- the records that leap and the number of records heard
+-- the multiplexer, the packets that wait to be written, the terms, the rate and the lead that settle slots, the greatest DTS taken, the records that leap,
+-- and the number of records read
 pub record AirState : Type 0 where
   pub mux : MuxState
   pub packets : Buffered
@@ -33,7 +33,7 @@ pub record AirState : Type 0 where
   pub leap : Leap
   pub records : ℕ
 
--- a multiplexer of this run stands for a history
+-- the multiplexer of this run represents a history
 pub record Carries (run : Run) (h : History) (m : MuxState) : Type 0 where
   pub stands : Stands h m
   pub scheduled : m.schedule ≡ run.scheduled
@@ -43,18 +43,18 @@ pub record Carries (run : Run) (h : History) (m : MuxState) : Type 0 where
 abbrev pub with_slots : History → ℕ → History
 with_slots h n = record { units = h.units; slots = n }
 
--- slots were written
+-- the state after slots were written
 pub record WroteOn (run : Run) (h : History) (hex : Bool) (start now : Option (List ℕ)) (m : MuxState) (packets : Buffered) : Type 0 where
   pub mux : Carries run h m
   pub hex_is : packets.hex ≡ hex
   pub output : IsOutput start now packets (output_of hex run.scheduled h)
 
--- what a schedule promises of its description
+-- the promises of a schedule about its description
 pub record Promises (d : Scheduled) : Type 0 where
   pub ranges : IsInRange d.description
   pub promised : Promised d.description d.schedule
 
--- a record was judged, and its unit fed where it was accepted: what was written stays
+-- the state after a record was judged, and its unit fed if it was accepted: the output so far does not change
 pub record Admits (run : Run) (a : Air) (entry : ℕ × AccessUnit) (refused : Option AirRefusal) (m : MuxState) : Type 0 where
   pub cause : refused ≡ air_cause run a entry
   pub mux : Carries run (job_history (accepted_by a entry refused) a.slots) m
@@ -64,8 +64,8 @@ pub record Admits (run : Run) (a : Air) (entry : ℕ × AccessUnit) (refused : O
 abbrev pub KeepsHeadline : Run → Air → Type 0
 KeepsHeadline run a = Headline run.scheduled (λ k. units_of k a.accepted) a.slots (bytes_of run.scheduled (job_of a))
 
--- the run has come as far as this: the multiplexer stands for the units accepted and the slots written, the writer, which held `start` at the
--- beginning, holds the output of these slots but for what waits, and the bytes of these slots keep every promise
+-- the state of a run at `a`: the multiplexer represents the accepted units and the written slots; the writer, which held `start` at the beginning, holds the
+-- output of these slots except the waiting bytes; and the bytes of these slots keep every promise
 pub record IsOnAir (run : Run) (a : Air) (start now : Option (List ℕ)) (s : AirState) : Type 0 where
   pub mux : Carries run (job_of a) s.mux
   pub promises : Promises run.scheduled
@@ -79,17 +79,17 @@ pub record IsOnAir (run : Run) (a : Air) (start now : Option (List ℕ)) (s : Ai
   pub output : IsOutput start now s.packets (air_output run a)
   pub headline : KeepsHeadline run a
 
--- ---- what waits
+-- ---- waiting packets
 
 -- the record at the front is whole in these bytes
 abbrev pub holds_record : List ℕ → Bool
 holds_record xs = nat_le (head_size + size_at xs) (length xs)
 
--- where the record that comes next is not whole in the bytes that the input holds, so that a read of it may wait, no packet waits
+-- no packet waits if the input does not hold the next record whole, so that a read of it may wait
 abbrev pub IsOut : List ℕ → AirState → Type 0
 IsOut held s = holds_record held ≡ false → waiting_of s.packets ≡ []
 
--- ---- what is aired of a plan, and of two
+-- ---- a run of one plan, and of two plans
 
 abbrev pub run_with : Scheduled → Terms → Bool → Run
 run_with d terms hex = record {

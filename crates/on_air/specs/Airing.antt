@@ -20,16 +20,15 @@ use Rattle.on_air.specs.declared.refusals.AirRefusal.{AirRefusal}
 use Rattle.on_air.specs.declared.refusals.AirRefusal.TheVariants.{Feed, Ahead, Followed}
 use Rattle.on_air.specs.Leaps.{is_far, is_followed, leap_with, no_leap}
 
--- what is aired, the number of units of a stream that may wait, the terms, and whether packets leave as lines of digits
+-- the schedule, the number of units of a stream that may wait, the terms, and whether packets are written as lines of digits
 pub record Run : Type 0 where
   pub scheduled : Scheduled
   pub capacity : ℕ
   pub terms : Terms
   pub hex : Bool
 
--- how far a run has come: the units accepted, each with the number of its stream, in order; the number of slots written; the greatest DTS
--- taken, in units of 90 kHz; the records that leap, up to the last one heard; the number of records heard; the numbers of those that
--- were refused, and why
+-- the progress of a run: the accepted units, each with the number of its stream, in order; the number of slots written; the greatest DTS taken, in units of
+-- 90 kHz; the records that leap, up to the last record read; the number of records read; the numbers of the refused records, with the causes
 pub record Air : Type 0 where
   pub accepted : List (ℕ × AccessUnit)
   pub slots : ℕ
@@ -41,7 +40,7 @@ pub record Air : Type 0 where
 abbrev pub silence : Air
 silence = record { accepted = []; slots = 0; greatest = 0; leap = no_leap; records = 0; refused = [] }
 
--- as a history of the multiplexer, and its output
+-- the history of the multiplexer, and its output
 abbrev pub job_of : Air → History
 job_of a = job_history a.accepted a.slots
 
@@ -57,11 +56,11 @@ greatest_lead streams = fold (λ lead s. max lead s.lead) 0 streams
 abbrev pub least_interval : List DescribedStream → ℕ
 least_interval streams = fold (λ least s. min least s.interval) 90_000 streams
 
--- how long before it is due a unit may come: the greatest lead, and what the terms add
+-- how long before it is due a unit may arrive: the greatest lead, plus the wait of the terms
 abbrev pub lead_of : Run → ℕ
 lead_of run = greatest_lead run.scheduled.description.streams + run.terms.wait
 
--- the number of slots after which none is written
+-- the limit of slots: no slot is written after this number
 unfoldable pub slots_or : ℕ → Option ℕ → ℕ
 slots_or most None = most
 slots_or most (Some slots) = min slots most
@@ -69,14 +68,14 @@ slots_or most (Some slots) = min slots most
 abbrev pub limit_of : Terms → ℕ
 limit_of terms = slots_or (2 ^ 40) terms.slots
 
--- the slots that no unit can be sent in any more, where those that come are due at `due` or later, and come `lead` before they are due
+-- the slots where no unit can be sent any more, if later units are due at `due` or later, and arrive `lead` before they are due
 abbrev pub settled : ℕ → ℕ → ℕ → ℕ → ℕ
 settled rate lead limit due = min (release rate lead due) limit
 
 abbrev pub settled_at : Run → ℕ → ℕ
 settled_at run due = settled run.scheduled.description.rate (lead_of run) (limit_of run.terms) due
 
--- the slots of the whole run, where the input ends: those that the terms ask for, else up to the greatest DTS
+-- the slots of the whole run at the end of the input: the number that the terms ask for, otherwise the slots up to the greatest DTS
 unfoldable pub last_by : ℕ → ℕ → ℕ → Option ℕ → ℕ
 last_by rate limit greatest None = settled rate 0 limit greatest
 last_by rate limit greatest (Some slots) = limit
@@ -87,56 +86,56 @@ last_of rate terms greatest = last_by rate (limit_of terms) greatest terms.slots
 abbrev pub last_at : Run → ℕ → ℕ
 last_at run greatest = last_of run.scheduled.description.rate run.terms greatest
 
--- the number of slots after one more is written until `target` are
+-- the number of slots after slots are written until there are `target`
 abbrev pub on_to : ℕ → ℕ → ℕ
 on_to slots target = slots + (target - slots)
 
 -- ---- one record
 
--- it is a tick, and no unit: of stream 255, and without bytes
+-- the record is a tick, not a unit: stream 255, without bytes
 abbrev pub is_tick : ℕ × AccessUnit → Bool
 is_tick entry = (entry.0 == 255) && (length entry.1.bytes == 0)
 
--- its DTS lies further after the greatest so far than the terms allow
+-- the DTS of the record is further after the greatest DTS so far than the terms allow
 abbrev pub is_far_from : Run → Air → ℕ × AccessUnit → Bool
 is_far_from run a entry = is_far run.terms.ahead a.greatest entry.1.dts
 
--- the records that leap, with this one, which does
+-- the records that leap, with this record, which leaps
 abbrev pub leap_by : Run → Air → ℕ × AccessUnit → Leap
 leap_by run a entry = leap_with run.terms.ahead a.leap entry.1.dts
 
--- why a record is refused that lies further ahead than the terms allow: it is the last of enough records that leap, so that the run follows
--- them, after these slots, from this DTS to that of the record; or it is not
+-- why a record too far ahead is refused: it is the last of enough records that leap, so that the run follows them, after these slots, from this DTS to the
+-- DTS of the record; or it is not
 abbrev pub far_cause : Run → Air → ℕ × AccessUnit → AirRefusal
 far_cause run a entry = if is_followed (leap_by run a entry) then Followed a.slots a.greatest entry.1.dts else Ahead
 
--- why the multiplexer refuses its unit
+-- why the multiplexer refuses the unit of the record
 abbrev pub unit_refusal : Run → Air → ℕ × AccessUnit → Option FeedError
 unit_refusal run a entry = feed_cause run.scheduled run.capacity (job_of a) entry.0 entry.1 (slice_get run.scheduled.description.streams entry.0)
 
--- why it is refused; a tick is not fed
+-- why the record is refused; a tick is not fed
 abbrev pub air_cause : Run → Air → ℕ × AccessUnit → Option AirRefusal
 air_cause run a entry =
     if is_far_from run a entry then Some (far_cause run a entry) else (if is_tick entry then None else option_map Feed (unit_refusal run a entry))
 
--- the units accepted with it
+-- the accepted units after this record
 unfoldable pub accepted_by : Air → ℕ × AccessUnit → Option AirRefusal → List (ℕ × AccessUnit)
 accepted_by a entry (Some cause) = a.accepted
 accepted_by a entry None = cond (is_tick entry) a.accepted (a.accepted ++ entry ∷ [])
 
--- the greatest DTS after a record that is refused, from which later records are judged: it moves to a record that the run follows alone
+-- the greatest DTS after a refused record, which later records are judged by: it changes only to the DTS of a record that the run follows
 unfoldable pub greatest_by : Air → AirRefusal → ℕ
 greatest_by a (Feed cause) = a.greatest
 greatest_by a Ahead = a.greatest
 greatest_by a (Followed packet from to) = to
 
--- the records that leap after it: one that is not far, and refused, leaves them as they are; one that the run follows ends the leap
+-- the records that leap after a refused record: unchanged if the record is not too far ahead, none if the run follows the record, otherwise with the record
 unfoldable pub leap_left : Run → Air → ℕ × AccessUnit → AirRefusal → Leap
 leap_left run a entry (Feed cause) = a.leap
 leap_left run a entry Ahead = leap_by run a entry
 leap_left run a entry (Followed packet from to) = no_leap
 
--- a record that is refused moves no slot; after one that is taken the slots that are settled by its DTS are written
+-- a refused record writes no slot; after a record that is taken the slots that its DTS settles are written
 unfoldable pub judged_by : Run → Air → ℕ × AccessUnit → Option AirRefusal → Air
 judged_by run a entry (Some cause) = record {
   accepted = a.accepted;
@@ -158,7 +157,7 @@ judged_by run a entry None = record {
 abbrev pub judged : Run → Air → ℕ × AccessUnit → Air
 judged run a entry = judged_by run a entry (air_cause run a entry)
 
--- with this number of slots
+-- the same progress with this number of slots
 abbrev pub with_count : Air → ℕ → Air
 with_count a slots = record {
   accepted = a.accepted;
@@ -169,7 +168,7 @@ with_count a slots = record {
   refused = a.refused;
 }
 
--- the slots after a record that the run follows: those that are settled by its DTS are written, as after one that is taken
+-- the slots after a record that the run follows: the slots that its DTS settles are written, as after a record that is taken
 unfoldable pub slots_followed : Run → Air → Option AirRefusal → ℕ
 slots_followed run a None = a.slots
 slots_followed run a (Some (Feed cause)) = a.slots
@@ -179,24 +178,24 @@ slots_followed run a (Some (Followed packet from to)) = on_to a.slots (settled_a
 abbrev pub caught_up : Run → Air → Option AirRefusal → Air
 caught_up run a refused = with_count a (slots_followed run a refused)
 
--- a record was judged, and the run followed it if it is the last of a leap
+-- the progress after a record was judged, and followed if it is the last of a leap
 abbrev pub aired : Run → Air → ℕ × AccessUnit → Air
 aired run a entry = caught_up run (judged run a entry) (air_cause run a entry)
 
 -- ---- a whole input
 
--- what is no record leaves all as it is
+-- the progress after a read: unchanged if the read gives no record
 unfoldable pub with_record : Run → Result (Option (ℕ × AccessUnit)) UnitFileError → Air → Air
 with_record run (Ok (Some entry)) a = aired run a entry
 with_record run (Ok None) a = a
 with_record run (Err fault) a = a
 
--- after n records of an input
+-- the progress after n records of an input
 unfoldable pub heard : Run → ℕ → List ℕ → Air
 heard run zero xs = silence
 heard run (suc n) xs = with_record run (record_at (after_records n xs)) (heard run n xs)
 
--- where the input ends
+-- the progress at the end of the input
 abbrev pub ended : Run → Air → Air
 ended run a = with_count a (on_to a.slots (last_at run a.greatest))
 
@@ -207,14 +206,14 @@ air_code (Feed cause) = feed_code cause
 air_code Ahead = 11
 air_code (Followed packet from to) = 11
 
--- the number of units of a stream that may wait: those due within a lead, and one that comes; 1,048,576 at most
+-- the number of units of a stream that may wait: the units due within a lead, plus the next unit; at most 1,048,576
 abbrev pub needed_room : ℕ → List DescribedStream → ℕ
 needed_room lead streams = div_ceil lead (max (least_interval streams) 1) + 1
 
 abbrev pub room_of : ℕ → List DescribedStream → ℕ
 room_of lead streams = min (needed_room lead streams) 1048576
 
--- the room that the terms ask for, from 1 to as many; else that one
+-- the room that the terms ask for, between 1 and the maximum; otherwise `room`
 unfoldable pub room_by : Option ℕ → ℕ → ℕ
 room_by None room = room
 room_by (Some units) room = min (max units 1) 1048576

@@ -18,12 +18,12 @@ use Rattle.on_air.specs.Airing.{Run, Air, greatest_lead, is_tick, is_far_from, l
 use Rattle.on_air.specs.Airing.{heard, ended, air_output}
 use Rattle.on_air.specs.AirStates.{Promises}
 
--- a unit that a stream accepts before the first slot is accepted too where no slot from its release on is written, and there is room for it
+-- a unit that a stream accepts before the first slot is also accepted later, if no slot from its release on is written and there is room for it
 abbrev pub TakenInTime : Type 0
 TakenInTime = (l : OwnedStream) (slots capacity other : ℕ) (us : List AccessUnit) (u : AccessUnit) → unit_cause l 0 other us u ≡ None →
     slots ≤ release l.parameters.rate l.parameters.lead u.dts → is_full l slots capacity us ≡ false → unit_cause l slots capacity us u ≡ None
 
--- ---- records that come in order
+-- ---- records in order
 
 -- the first n records of an input: units, each with the number of its stream, and ticks
 unfoldable pub with_entry : Result (Option (ℕ × AccessUnit)) UnitFileError → List (ℕ × AccessUnit) → List (ℕ × AccessUnit)
@@ -35,7 +35,7 @@ unfoldable pub records_of : ℕ → List ℕ → List (ℕ × AccessUnit)
 records_of zero xs = []
 records_of (suc n) xs = with_entry (record_at (after_records n xs)) (records_of n xs)
 
--- the units among records: all but ticks
+-- the units among records: all records except ticks
 abbrev pub without_ticks : List (ℕ × AccessUnit) → List (ℕ × AccessUnit)
 without_ticks records = filter (λ entry. not (is_tick entry)) records
 
@@ -43,13 +43,13 @@ without_ticks records = filter (λ entry. not (is_tick entry)) records
 abbrev pub greatest_of : List (ℕ × AccessUnit) → ℕ
 greatest_of records = fold (λ greatest entry. max greatest entry.1.dts) 0 records
 
--- a unit comes after these records no later than the terms allow: each of them, unit or tick, is due no later than that after it; and the
--- slots that they settle are within those of the run
+-- a unit follows these records no later than the terms allow: each of them, unit or tick, is due at most the allowed wait after the unit; and the slots that
+-- they settle are within the slots of the run
 pub record InTime (run : Run) (before : List (ℕ × AccessUnit)) (entry : ℕ × AccessUnit) : Type 0 where
   pub in_order : greatest_of before ≤ entry.1.dts + run.terms.wait
   pub early : release run.scheduled.description.rate (lead_of run) (greatest_of before) ≤ limit_of run.terms
 
--- a record comes after these no further ahead than the terms allow, and in time where it is a unit: a tick that is late moves nothing
+-- a record follows these records no further ahead than the terms allow, and in time if it is a unit: a late tick has no effect
 pub record Comes (run : Run) (before : List (ℕ × AccessUnit)) (entry : ℕ × AccessUnit) : Type 0 where
   pub near : entry.1.dts ≤ greatest_of before + run.terms.ahead
   pub in_time : is_tick entry ≡ false → InTime run before entry
@@ -57,15 +57,15 @@ pub record Comes (run : Run) (before : List (ℕ × AccessUnit)) (entry : ℕ ×
 abbrev pub ComeInOrder : Run → List (ℕ × AccessUnit) → Type 0
 ComeInOrder run records = (before after : List (ℕ × AccessUnit)) (entry : ℕ × AccessUnit) → records ≡ before ++ (entry ∷ after) → Comes run before entry
 
--- a run over a plan that serves its description, with room for the units that may wait; a job of the units among these records is
--- multiplexed where `other` units of a stream may wait, and they come in order
+-- a run over a plan that serves its description, with room for the units that may wait; the units among these records are accepted as one job if `other`
+-- units of a stream may wait, and they arrive in order
 pub record IsJobInOrder (run : Run) (other : ℕ) (records : List (ℕ × AccessUnit)) : Type 0 where
   pub promises : Promises run.scheduled
   pub room : needed_room (lead_of run) run.scheduled.description.streams ≤ run.capacity
   pub accepted : first_refused run.scheduled other [] (without_ticks records) ≡ None
   pub in_order : ComeInOrder run records
 
--- then all units are accepted, and no record is refused
+-- all units are accepted, and no record is refused
 pub record AiredAll (a : Air) (records : List (ℕ × AccessUnit)) : Type 0 where
   pub accepted : a.accepted ≡ without_ticks records
   pub refused : a.refused ≡ []
@@ -73,8 +73,8 @@ pub record AiredAll (a : Air) (records : List (ℕ × AccessUnit)) : Type 0 wher
 abbrev pub AiredInOrder : Type 0
 AiredInOrder = (run : Run) (other n : ℕ) (xs : List ℕ) → IsJobInOrder run other (records_of n xs) → AiredAll (heard run n xs) (records_of n xs)
 
--- and where none is refused, in order or not, the output is that of the whole job, multiplexed at once: of as many slots as the terms ask
--- for, else up to the greatest DTS
+-- if no record is refused, in order or not, the output is the output of the whole job, multiplexed at once: with the number of slots that the terms ask for,
+-- otherwise up to the greatest DTS
 abbrev pub AiredAsMultiplexed : Type 0
 AiredAsMultiplexed = (run : Run) (other n : ℕ) (xs : List ℕ) → first_refused run.scheduled other [] (records_of n xs) ≡ None → (heard run n xs).refused ≡ [] →
     air_output run (ended run (heard run n xs))
@@ -82,24 +82,24 @@ AiredAsMultiplexed = (run : Run) (other n : ℕ) (xs : List ℕ) → first_refus
 
 -- ---- records that leap
 
--- each record lies near the one before, the first one near a record that is due at `due`
+-- each record is near the record before, and the first record near `due`
 unfoldable pub NearEach : ℕ → ℕ → List (ℕ × AccessUnit) → Type 0
 NearEach ahead due [] = ⊤
 NearEach ahead due (entry ∷ entries) = (is_near ahead due entry.1.dts ≡ true) × NearEach ahead entry.1.dts entries
 
--- each of these records lies further ahead than the terms of a run allow, when it comes
+-- each of these records is further ahead than the terms of a run allow when it arrives
 unfoldable pub AllFar : Run → Air → List (ℕ × AccessUnit) → Type 0
 AllFar run a [] = ⊤
 AllFar run a (entry ∷ entries) = (is_far_from run a entry ≡ true) × AllFar run (aired run a entry) entries
 
--- whatever came before, of nine records in a row that lie near one another not all lie too far ahead: from the ninth on at the latest, a
--- feed whose stamps agree is judged by its streams
+-- after any input, among nine records in a row that are near one another not all are too far ahead: from the ninth record on at the latest, a feed whose
+-- stamps agree is judged by its streams
 abbrev pub LeapFollowed : Type 0
 LeapFollowed = (run : Run) (a : Air) (first : ℕ × AccessUnit) (rest : List (ℕ × AccessUnit)) → NearEach run.terms.ahead first.1.dts rest →
     AllFar run a (first ∷ rest) → length (first ∷ rest) ≤ leap_records
 
--- what is told of a record that the run follows: how many slots were written before it, the greatest DTS before it, and its own; and the run
--- goes on from this DTS, after the slots that it settles
+-- the report of a record that the run follows: how many slots were written before it, the greatest DTS before it, and its own DTS; the run continues from
+-- this DTS, after the slots that it settles
 pub record GoesOnFrom (run : Run) (a : Air) (entry : ℕ × AccessUnit) (packet from to : ℕ) : Type 0 where
   pub packet_is : packet ≡ a.slots
   pub from_is : from ≡ a.greatest
@@ -113,15 +113,15 @@ LeapMovesOn = (run : Run) (a : Air) (entry : ℕ × AccessUnit) (packet from to 
 
 -- ---- records that are near
 
--- a record is due at most as far after the greatest DTS so far as the terms allow, at most as long before it as the run waits, and no
--- earlier than its lead after the beginning; and the slots that are settled so far are within those of the run
+-- a record is due at most as far after the greatest DTS so far as the terms allow, at most as long before it as the run waits, and at least the greatest lead
+-- after the beginning; and the slots settled so far are within the slots of the run
 pub record ComesNear (run : Run) (a : Air) (entry : ℕ × AccessUnit) : Type 0 where
   pub near : entry.1.dts ≤ a.greatest + run.terms.ahead
   pub in_order : a.greatest ≤ entry.1.dts + run.terms.wait
   pub begun : greatest_lead run.scheduled.description.streams ≤ entry.1.dts
   pub early : release run.scheduled.description.rate (lead_of run) a.greatest ≤ limit_of run.terms
 
--- a cause that lies in the unit and its stream's units, by what the stream declares: all but the slots that are written, and the room
+-- a cause within the unit and the units of its stream, by the declaration of the stream: all causes except the written slots and the room
 abbrev pub IsOwnCause : FeedError → Type 0
 IsOwnCause UnknownStream = ⊤
 IsOwnCause Empty = ⊤
@@ -140,8 +140,8 @@ IsJudgedAlone (Some (Feed cause)) = IsOwnCause cause
 IsJudgedAlone (Some Ahead) = ⊥
 IsJudgedAlone (Some (Followed packet from to)) = ⊥
 
--- after any input, however damaged, such a record is refused for nothing else: neither for its time nor for want of room, where the run has
--- the room that its streams need
+-- after any input, however damaged, such a record is refused for no other cause: neither for its time nor for the room, if the run has the room that its
+-- streams need
 abbrev pub NearIsJudgedAlone : Type 0
 NearIsJudgedAlone = (run : Run) (n : ℕ) (xs : List ℕ) (entry : ℕ × AccessUnit) → Promises run.scheduled →
     needed_room (lead_of run) run.scheduled.description.streams ≤ run.capacity → ComesNear run (heard run n xs) entry →

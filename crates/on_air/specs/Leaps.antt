@@ -1,5 +1,5 @@
--- A leap of the stamps that come in: after a silence, or if an encoder restarts with greater stamps, each record lies further ahead than
--- the terms of a run allow. A single wild stamp is no leap: a run follows stamps only once several records in a row agree.
+-- A leap of the incoming stamps: after a silence, or if an encoder restarts with greater stamps, each record is further ahead than the terms of a run allow.
+-- A single wild stamp is no leap: a run follows stamps only after several records in a row agree.
 use Rattle.std.specs.Prelude.{ℕ, ◌+◌, ◌-◌, ◌&&◌, Bool, nat_le, nat_lt, if◌then◌else◌}
 use Rattle.on_air.specs.declared.leap.Leap.{Leap}
 
@@ -7,11 +7,11 @@ use Rattle.on_air.specs.declared.leap.Leap.{Leap}
 abbrev pub leap_records : ℕ
 leap_records = 8
 
--- what is due at `due` lies more than `ahead` after the greatest DTS so far, in units of 90 kHz
+-- a record due at `due` is more than `ahead` after the greatest DTS so far, in units of 90 kHz
 abbrev pub is_far : ℕ → ℕ → ℕ → Bool
 is_far ahead greatest due = nat_lt ahead (due - greatest)
 
--- two stamps lie at most `ahead` from each other
+-- two stamps are at most `ahead` apart
 abbrev pub is_near : ℕ → ℕ → ℕ → Bool
 is_near ahead one other = nat_le (one - other) ahead && nat_le (other - one) ahead
 
@@ -19,7 +19,7 @@ is_near ahead one other = nat_le (one - other) ahead && nat_le (other - one) ahe
 abbrev pub no_leap : Leap
 no_leap = record { records = 0; due = 0 }
 
--- with one more record that is far: it goes on with the leap where it is near the last record of it, and else begins another
+-- the leap with one more record that is too far ahead: it continues the leap if it is near the last record of the leap, otherwise it begins a new leap
 abbrev pub leap_with : ℕ → Leap → ℕ → Leap
 leap_with ahead leap due = record {
   records = if is_near ahead leap.due due then (if nat_lt leap.records leap_records then leap.records + 1 else leap_records) else 1;

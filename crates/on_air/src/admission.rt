@@ -10,7 +10,7 @@ use pes_packet::Unit;
 use std::alloc::Allocator;
 use unit_queue::FeedError;
 
-// Whether a record is a tick: of stream 255, and without bytes.
+// Returns whether a record is a tick: stream 255, without bytes.
 fn is_tick<A: Allocator>(stream: u8, unit: &Unit<A>) -> bool
     ensures { result ≡ is_tick (stream, unit.now) }
 {

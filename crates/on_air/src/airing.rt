@@ -79,8 +79,9 @@ impl<A: Allocator + Copy> OnAir<A> {
         self.flush(to)
     }
 
-    /// Takes the next record: judges it, and writes the slots that it settles, to the last byte if a read of the record
-    /// after it may wait. A refused record moves nothing; if the run follows it, `follow` writes what is between.
+    /// Takes the next record: judges it, and writes the slots that it settles, to the last byte if a read of the
+    /// record after it may wait. A refused record changes nothing; if the run follows it, `follow` writes the slots
+    /// between.
     pub fn hear<R: HeldInput, W: Sink>(
         &mut self,
         alloc: A,
@@ -203,7 +204,7 @@ impl<A: Allocator + Copy> OnAir<A> {
         self.packets.flush(to)
     }
 
-    // Writes the slots that are settled by a DTS; what is no whole part yet waits.
+    // Writes the slots that a DTS settles; an incomplete last part waits.
     fn write_until<W: Sink>(&mut self, due: u64, to: &mut W) -> Result<(), OutputFault>
         ensures ok { (run : Run) (a : Air) (start : Option (List ℕ)) → IsOnAir run a start (W.contents to.old) self.old →
             OnOk result (IsOnAir run (with_count a (on_to a.slots (settled_at run due))) start (W.contents to.new) self.new) }
@@ -218,7 +219,7 @@ impl<A: Allocator + Copy> OnAir<A> {
         write_on(&mut self.mux, target, &mut self.packets, to)
     }
 
-    // Refuses a record that lies too far ahead, and counts it among those that leap.
+    // Refuses a record that is too far ahead, and counts it among the records that leap.
     fn pass_over(&mut self, due: u64) -> AirRefusal
         requires { self.old.records < 2 ^ 64 - 1 }
         ensures passes { (run : Run) (a : Air) (entry : ℕ × AccessUnit) (start now : Option (List ℕ)) → IsOnAir run a start now self.old →
@@ -243,7 +244,7 @@ impl<A: Allocator + Copy> OnAir<A> {
         }
     }
 
-    // Judges a record, and writes the slots that are settled by it; what is no whole part yet waits.
+    // Judges a record, and writes the slots that it settles; an incomplete last part waits.
     fn take<W: Sink>(
         &mut self,
         stream: u8,

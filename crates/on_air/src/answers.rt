@@ -14,12 +14,12 @@ pub enum Heard {
     Ended(Ending),
 }
 
-/// Why no further record is taken.
+/// Why no more records are taken.
 #[derive(Clone, Copy)]
 pub enum Ending {
     /// The input is at its end.
     Input,
-    /// What comes next is no whole record, or was not read.
+    /// The next record is not whole, or was not read.
     Unread(UnitFileError),
     /// The slots that the terms ask for are written, or 2^40.
     Slots,

@@ -83,7 +83,7 @@ struct Numbers {
     room: usize,
 }
 
-// The numbers of a run over a description.
+// Returns the numbers of a run over a description.
 fn numbers_of(description: &Description, terms: Terms) -> Numbers
     ensures rate { result.rate ≡ description.now.rate }
     ensures lead { result.lead ≡ greatest_lead description.now.streams + terms.wait }
@@ -100,7 +100,7 @@ fn numbers_of(description: &Description, terms: Terms) -> Numbers
     }
 }
 
-// The run over a multiplexer before its first slot.
+// Returns the run over a multiplexer before its first slot.
 fn begun<A: Allocator + Copy>(
     alloc: A,
     mux: Mux<A>,

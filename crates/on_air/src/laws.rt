@@ -2,14 +2,14 @@
 
 ghost use Rattle.on_air.specs.Laws.{TakenInTime, AiredInOrder, AiredAsMultiplexed, LeapFollowed, LeapMovesOn, NearIsJudgedAlone};
 
-/// States that a unit that a stream accepts before the first slot is accepted too where no slot from its release on is
-/// written.
+/// States that a unit that a stream accepts before the first slot is also accepted later, if no slot from its release
+/// on is written.
 pub fn taken_in_time()
     ensures { TakenInTime }
 {}
 
-/// States that all units of a multiplexed job, in order, are accepted on air, whatever ticks are among them that are in
-/// order with each later unit: none is late, and each finds room.
+/// States that all units of a multiplexed job, in order, are accepted on air, whatever ticks are among them that are
+/// in order with each later unit: no unit is late, and each finds room.
 pub fn aired_in_order()
     ensures { AiredInOrder }
 {}
@@ -19,13 +19,13 @@ pub fn aired_as_multiplexed()
     ensures { AiredAsMultiplexed }
 {}
 
-/// States that of nine records in a row whose stamps lie near one another, not all lie too far ahead, whatever came
+/// States that among nine records in a row whose stamps are near one another, not all are too far ahead, whatever came
 /// before: a feed whose stamps agree is never refused for ever for being ahead.
 pub fn leap_followed()
     ensures { LeapFollowed }
 {}
 
-/// States that a run goes on from the DTS of a record that it follows, after the slots that this DTS settles.
+/// States that a run continues from the DTS of a record that it follows, after the slots that this DTS settles.
 pub fn leap_moves_on()
     ensures { LeapMovesOn }
 {}

@@ -15,7 +15,7 @@ pub(crate) fn greatest_lead(streams: &[StreamDescription]) -> u32
     streams.iter().fold(0, |lead, stream| lead.max(stream.lead))
 }
 
-// The least interval of all streams, in units of 90 kHz; 90,000 without streams.
+// Returns the least interval of all streams, in units of 90 kHz; 90,000 without streams.
 fn least_interval(streams: &[StreamDescription]) -> u32
     ensures { result ≡ least_interval streams.now }
 {
@@ -24,7 +24,7 @@ fn least_interval(streams: &[StreamDescription]) -> u32
         .fold(90_000, |least, stream| least.min(stream.interval))
 }
 
-/// Returns the number of units of a stream that may wait: those that may be due within a lead, and one that comes.
+/// Returns the number of units of a stream that may wait: the units that may be due within a lead, and the next unit.
 pub(crate) fn room_of(lead: u64, streams: &[StreamDescription]) -> usize
     requires { lead ≤ 2 ^ 33 }
     ensures value { result ≡ room_of lead streams.now }
@@ -35,7 +35,7 @@ pub(crate) fn room_of(lead: u64, streams: &[StreamDescription]) -> usize
     room.min(MAX_ROOM) as usize
 }
 
-/// Returns the room that the terms of a run ask for, from 1 to 1,048,576 units; else this one.
+/// Returns the room that the terms of a run ask for, from 1 to 1,048,576 units; otherwise `room`.
 #[tactic(auto, unfolding(crate::specs::Airing::room_by))]
 pub(crate) fn room_by(asked: Option<u64>, room: usize) -> usize
     requires some { 1 ≤ room }

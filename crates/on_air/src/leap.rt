@@ -3,15 +3,15 @@
 ghost use Rattle.std.specs.Prelude.{◌≡◌};
 ghost use Rattle.on_air.specs.Leaps.{is_far, is_followed, is_near, leap_with, no_leap};
 
-/// How many records in a row have to leap, each near the one before, until a run follows them.
+/// How many records in a row have to leap, each near the record before, until a run follows them.
 pub(crate) const LEAP_RECORDS: u8 = 8;
 
-/// The records in a row, so far, that lie further ahead than the terms allow, each near the one before.
+/// The records in a row, so far, that are further ahead than the terms allow, each near the record before.
 #[derive(Clone, Copy)]
 pub struct Leap {
     /// The number of these records, 8 at most.
     pub(crate) records: u8,
-    /// The DTS of the last one, in units of 90 kHz.
+    /// The DTS of the last record, in units of 90 kHz.
     pub(crate) due: u64,
 }
 

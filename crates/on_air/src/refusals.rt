@@ -10,10 +10,11 @@ use unit_queue::FeedError;
 pub enum AirRefusal {
     /// The multiplexer refuses its unit.
     Feed(FeedError),
-    /// Its DTS lies further after the greatest so far than the terms allow.
+    /// Its DTS is further after the greatest DTS so far than the terms allow.
     Ahead,
     /// The same, and seven records before it in a row were refused for it, each near the record before it: the run
-    /// follows them. `packet` slots were written before it, and time goes on from the DTS `from` to its own, `to`.
+    /// follows them. `packet` slots were written before it, and time jumps from the DTS `from` to the DTS of the
+    /// record, `to`.
     Followed { packet: u64, from: u64, to: u64 },
 }
 

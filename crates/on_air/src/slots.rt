@@ -15,8 +15,8 @@ use mux_core::Mux;
 use packet_output::{OutputFault, PacketOutput};
 use std::alloc::Allocator;
 
-/// Returns the number of slots that are settled by a unit due at `due`, where units come up to `lead` before they are
-/// due: no later one can be sent in them. `limit` at most.
+/// Returns the number of slots that a unit due at `due` settles, if units arrive up to `lead` before they are due: no
+/// later unit can be sent in them. At most `limit`.
 pub(crate) fn settled(rate: Rate, lead: u64, limit: u64, due: u64) -> u64
     ensures value { result ≡ settled rate lead limit due }
     ensures upper { result ≤ limit }
@@ -39,7 +39,7 @@ pub(crate) fn last_slot(rate: Rate, terms: Terms, greatest: u64) -> u64
     }
 }
 
-/// Writes slots until `target` are written; what is no whole part yet waits.
+/// Writes slots until `target` are written; an incomplete last part waits.
 pub(crate) fn write_on<A: Allocator, B: Allocator, W: Sink>(
     mux: &mut Mux<A>,
     target: u64,

@@ -6,7 +6,7 @@ ghost use Rattle.on_air.specs.AirStates.{holds_record};
 use byteorder::{BigEndian, ByteOrder};
 use unit_records::size_in;
 
-// The number of bytes of a record before those of its unit.
+// The number of bytes of a record before its unit.
 const HEAD_SIZE: usize = 21;
 
 /// Returns whether the record at the front is whole in these bytes.

@@ -16,7 +16,7 @@ colon_parts text = slice_split (λ b. b == 58) text
 abbrev pub given : {A B : Type 0} → Option A → (A → Option B) → Option B
 given value f = option_and_then f value
 
--- all values, none where one is none
+-- all values; none if any value is none
 unfoldable pub all_of : {T : Type 0} → List (Option T) → Option (List T)
 all_of [] = Some []
 all_of (None ∷ values) = None
@@ -30,7 +30,7 @@ number_in low high text = option_and_then (within low high) (decimal text)
 abbrev pub numbers_of : ℕ → List Text → Option (List ℕ)
 numbers_of most texts = all_of (map (number_in 0 most) texts)
 
--- N,..: no numbers where the option is not given
+-- N,..: no numbers if the option is not given
 unfoldable pub number_list : ℕ → Option Text → Option (List ℕ)
 number_list most None = Some []
 number_list most (Some text) = numbers_of most (comma_parts text)
@@ -47,7 +47,7 @@ buffers_of parts = None
 abbrev pub all_buffers : List Text → Option (List PidBuffers)
 all_buffers texts = all_of (map (λ text. buffers_of (colon_parts text)) texts)
 
--- PID:RX:MAIN,..: no buffers where the option is not given
+-- PID:RX:MAIN,..: no buffers if the option is not given
 unfoldable pub buffer_list : Option Text → Option (List PidBuffers)
 buffer_list None = Some []
 buffer_list (Some text) = all_buffers (comma_parts text)

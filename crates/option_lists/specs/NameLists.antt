@@ -21,7 +21,7 @@ name_of parts = None
 abbrev pub all_names : List Text → Option (List ServiceNameView)
 all_names texts = all_of (map (λ text. name_of (colon_parts text)) texts)
 
--- N:NAME:PROVIDER,..: no names where the option is not given
+-- N:NAME:PROVIDER,..: no names if the option is not given
 unfoldable pub name_list : Option Text → Option (List ServiceNameView)
 name_list None = Some []
 name_list (Some text) = if are_printable text then all_names (comma_parts text) else None
@@ -40,7 +40,7 @@ network_of parts = None
 unfoldable pub network_in : Text → Option NetworkNameView
 network_in text = if are_printable text then network_of (colon_parts text) else None
 
--- no network where the option is not given
+-- no network if the option is not given
 unfoldable pub network_if_given : Option Text → Option (Option NetworkNameView)
 network_if_given None = Some None
 network_if_given (Some text) = option_map Some (network_in text)

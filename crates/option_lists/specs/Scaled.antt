@@ -8,14 +8,14 @@ use Rattle.option_lists.specs.Lists.{number_in}
 use Rattle.option_lists.specs.declared.scaled.Scale.{Scale}
 use Rattle.option_lists.specs.declared.scaled.Scale.TheVariants.{Bits, Ticks, Millis}
 
--- what stands before a unit that ends the text: the unit by its first character, and the rest of it
+-- the text before a unit at its end: the unit by its first character, and its further characters
 abbrev pub ends_with : ℕ → Text → Text → Bool
 ends_with first rest text = nat_lt (position_or_len (λ b. b == first) text) (length text) && bytes_eq (after_first (λ b. b == first) text) rest
 
 abbrev pub before_unit : ℕ → Text → Text → Option Text
 before_unit first rest text = if ends_with first rest text then Some (before_first (λ b. b == first) text) else None
 
--- so many of it: the number before a unit is at most 1,000,000,000
+-- a number times the factor of its unit: the number before a unit is at most 1,000,000,000
 unfoldable pub times : ℕ → Option Text → Option ℕ
 times factor None = None
 times factor (Some text) = option_map (λ n. n * factor) (number_in 0 1000000000 text)

@@ -21,7 +21,7 @@ pub fn declare_by_of(text: Option<&str>) -> Option<DeclareBy>
     }
 }
 
-/// Returns what the system clock shows as the run begins; without a value, what lasts.
+/// Returns the base of the system clock when the run begins; without a text, `ClockBase::Lasting`.
 #[tactic(auto, unfolding(crate::specs::JobValues::base_of))]
 pub fn base_of(text: Option<&str>) -> Option<ClockBase>
     ensures { result ≡ spec.base_of (option_map (λ s. s.now) text.entry) }
@@ -33,21 +33,21 @@ pub fn base_of(text: Option<&str>) -> Option<ClockBase>
     }
 }
 
-// Whether a byte may occur in a moment.
+// Returns whether a byte may occur in a moment.
 fn is_of_time(byte: u8) -> bool
     ensures { result ≡ spec.is_of_time byte }
 {
     byte.is_ascii_digit() || byte == b'-' || byte == b':' || byte == b'T'
 }
 
-// Whether each byte of a text may occur in a moment.
+// Returns whether each byte of a text may occur in a moment.
 fn is_of_times(text: &str) -> bool
     ensures { result ≡ list_all spec.is_of_time text.now }
 {
     text.bytes().all(|byte| is_of_time(byte))
 }
 
-// Whether a text names a moment that a description can name.
+// Returns whether a text names a moment that a description can name.
 fn is_moment(text: &str) -> bool
     ensures { result ≡ spec.is_moment text.now }
 {

@@ -21,7 +21,7 @@ pub fn colon_parts<'a>(alloc: Global, text: &'a str) -> Result<Vec<&'a str>, All
     text.split(':').collect(alloc)
 }
 
-// The numbers in texts, each up to `most`; none where a text is no such number.
+// Returns the numbers in texts, each up to `most`; none if a text is no such number.
 fn numbers_of(alloc: Global, most: u16, texts: &[&str]) -> Result<Option<Vec<u16>>, AllocError>
     ensures { IfOk result
         (λ r. option_map (λ numbers. numbers.items) r ≡ spec.numbers_of most (map (λ s. s.now) texts.now)) }
@@ -36,7 +36,7 @@ fn numbers_of(alloc: Global, most: u16, texts: &[&str]) -> Result<Option<Vec<u16
     Ok(Some(numbers))
 }
 
-/// Returns the numbers of a list, each up to `most`: an empty list where it is not given, none where a part is no such
+/// Returns the numbers of a list, each up to `most`: an empty list if it is not given, none if a part is no such
 /// number.
 #[tactic(auto, unfolding(crate::specs::Lists::number_list))]
 pub fn number_list(
@@ -53,7 +53,7 @@ pub fn number_list(
     }
 }
 
-// The buffers with these three numbers, each in its range.
+// Returns the buffers with these three numbers, each in its range.
 #[tactic(auto, unfolding(crate::specs::Lists::buffers_of))]
 fn ranged(pid: &str, rx: &str, main: &str) -> Option<PidBuffers>
     ensures { result ≡ spec.buffers_of (pid.now ∷ rx.now ∷ main.now ∷ []) }
@@ -70,7 +70,7 @@ fn ranged(pid: &str, rx: &str, main: &str) -> Option<PidBuffers>
     })
 }
 
-// The buffers of a part `PID:RX:MAIN`.
+// Returns the buffers of a part `PID:RX:MAIN`.
 #[tactic(auto, unfolding(crate::specs::Lists::buffers_of))]
 fn buffers_in(alloc: Global, part: &str) -> Result<Option<PidBuffers>, AllocError>
     ensures { IfOk result (λ r. r ≡ spec.buffers_of (spec.colon_parts part.now)) }
@@ -81,7 +81,7 @@ fn buffers_in(alloc: Global, part: &str) -> Result<Option<PidBuffers>, AllocErro
     }
 }
 
-// The buffers of all parts; none where a part is bad.
+// Returns the buffers of all parts; none if a part is bad.
 fn all_buffers(alloc: Global, parts: &[&str]) -> Result<Option<Vec<PidBuffers>>, AllocError>
     ensures { IfOk result
         (λ r. option_map (λ buffers. buffers.items) r ≡ spec.all_buffers (map (λ s. s.now) parts.now)) }
@@ -96,8 +96,7 @@ fn all_buffers(alloc: Global, parts: &[&str]) -> Result<Option<Vec<PidBuffers>>,
     Ok(Some(all))
 }
 
-/// Returns the buffers of a list `PID:RX:MAIN,..`: an empty list where it is not given, none where a part is out of
-/// range.
+/// Returns the buffers of a list `PID:RX:MAIN,..`: an empty list if it is not given, none if a part is out of range.
 #[tactic(auto, unfolding(crate::specs::Lists::buffer_list))]
 pub fn buffer_list(alloc: Global, text: Option<&str>) -> Result<Option<Vec<PidBuffers>>, AllocError>
     ensures { IfOk result (λ r. option_map (λ buffers. buffers.items) r

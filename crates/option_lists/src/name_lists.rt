@@ -10,21 +10,21 @@ use devices::number_in;
 use given_values::{NetworkName, ServiceName};
 use std::alloc::{AllocError, Global};
 
-// Whether a byte is no control character of ASCII.
+// Returns whether a byte is no control character of ASCII.
 fn is_printable(byte: u8) -> bool
     ensures { result ≡ spec.is_printable byte }
 {
     byte >= 32 && byte != 127
 }
 
-// Whether all bytes of a text are none: a description has a text on one line.
+// Returns whether no byte of a text is a control character of ASCII: a description has a text on one line.
 fn are_printable(text: &str) -> bool
     ensures { result ≡ spec.are_printable text.now }
 {
     text.bytes().all(|byte| is_printable(byte))
 }
 
-// The name in a part `N:NAME` or `N:NAME:PROVIDER`.
+// Returns the name in a part `N:NAME` or `N:NAME:PROVIDER`.
 #[tactic(auto, unfolding(crate::specs::NameLists::name_of))]
 fn name_in<'a>(alloc: Global, part: &'a str) -> Result<Option<ServiceName<'a>>, AllocError>
     ensures { IfOk result (λ r. r ≡ spec.name_of (colon_parts part.entry.now)) }
@@ -45,7 +45,7 @@ fn name_in<'a>(alloc: Global, part: &'a str) -> Result<Option<ServiceName<'a>>, 
     }
 }
 
-// The names of all parts; none where a part is bad.
+// Returns the names of all parts; none if a part is bad.
 fn all_names<'a>(
     alloc: Global,
     parts: &[&'a str],
@@ -81,7 +81,7 @@ pub fn name_list<'a>(
     all_names(alloc, &comma_parts(alloc, text)?)
 }
 
-// A network with these numbers, each in its range.
+// Returns a network with these numbers, each in its range.
 #[tactic(auto, unfolding(crate::specs::NameLists::network_with))]
 fn ranged_network<'a>(id: &str, name: &'a str, original: Option<&str>) -> Option<NetworkName<'a>>
     ensures { option_map network_name_view result
@@ -102,7 +102,7 @@ fn ranged_network<'a>(id: &str, name: &'a str, original: Option<&str>) -> Option
     }
 }
 
-/// Returns the network `ID:NAME[:ORIGINAL]`; none where it is none.
+/// Returns the network `ID:NAME[:ORIGINAL]`; none if the text is no network.
 #[tactic(auto, unfolding(crate::specs::NameLists::network_in, crate::specs::NameLists::network_of))]
 pub fn network_in<'a>(alloc: Global, text: &'a str) -> Result<Option<NetworkName<'a>>, AllocError>
     ensures { IfOk result (λ r. option_map network_name_view r ≡ spec.network_in text.entry.now) }

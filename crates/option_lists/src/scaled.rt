@@ -16,7 +16,7 @@ pub enum Scale {
     Millis,
 }
 
-// Returns what stands before a `k` that ends the text.
+// Returns the text before a `k` at its end.
 fn before_thousands(text: &str) -> Option<&str>
     ensures { option_map (λ s. s.now) result ≡ spec.before_unit 107 [] text.now }
 {
@@ -26,7 +26,7 @@ fn before_thousands(text: &str) -> Option<&str>
     }
 }
 
-// Returns what stands before an `M` that ends the text.
+// Returns the text before an `M` at its end.
 fn before_millions(text: &str) -> Option<&str>
     ensures { option_map (λ s. s.now) result ≡ spec.before_unit 77 [] text.now }
 {
@@ -36,7 +36,7 @@ fn before_millions(text: &str) -> Option<&str>
     }
 }
 
-// Returns what stands before an `ms` that ends the text.
+// Returns the text before an `ms` at its end.
 fn before_milliseconds(text: &str) -> Option<&str>
     ensures { option_map (λ s. s.now) result ≡ spec.before_unit 109 (codes "s") text.now }
 {
@@ -46,7 +46,7 @@ fn before_milliseconds(text: &str) -> Option<&str>
     }
 }
 
-// Returns what stands before an `s` that ends the text.
+// Returns the text before an `s` at its end.
 fn before_seconds(text: &str) -> Option<&str>
     ensures { option_map (λ s. s.now) result ≡ spec.before_unit 115 [] text.now }
 {
@@ -56,7 +56,7 @@ fn before_seconds(text: &str) -> Option<&str>
     }
 }
 
-// Returns so many of a unit.
+// Returns a number times the factor of its unit.
 #[tactic(auto, unfolding(crate::specs::Scaled::times))]
 fn times(text: Option<&str>, factor: u64) -> Option<u64>
     requires { factor ≤ 1000000 }

@@ -5,7 +5,7 @@ use Rattle.std.specs.Prelude.{slice_set, slice_index, slice_index_or, replicate}
 use Rattle.std.proofs.lemmas.Bool.{eq-eqb, ne_eqb, cases_eq}
 use Rattle.std.proofs.lemmas.List.{drop_more, drop_all, length-set, get_or-set_same, get_or-set_other, get_or-replicate, length-replicate}
 use Rattle.std.proofs.lemmas.List.Folds.{list_any-append}
-use Rattle.demux.specs.Views.{FindingView}
+use Rattle.pid_findings.specs.Views.{FindingView}
 use Rattle.demux.specs.Laws.{has_pid}
 use Rattle.other_tables.specs.OtherTables.{kind_at, is_found, section_count, section_number, table_at, table_on}
 use Rattle.other_tables.specs.PidCounts.{AreCounts, AreSeen, counted_on, counted_with, table_pid, table_of, table_with, seen_on, seen_with}

@@ -8,7 +8,7 @@ use Rattle.std.proofs.lemmas.Bool.Decides.{nat_tests}
 use Rattle.std.proofs.lemmas.Grind.{common_steps}
 use Rattle.std.proofs.Math.Seq.{drop-cons}
 use Rattle.std.proofs.lemmas.List.{drop_all}
-use Rattle.demux.specs.Views.{FindingView}
+use Rattle.pid_findings.specs.Views.{FindingView}
 use Rattle.other_tables.specs.SteadySections.{PidSection, section_view, section_on, sections_on, with_new, distinct_sections, distance_from, greatest_gap}
 use Rattle.other_tables.specs.SteadySections.{widest_gap, is_same_section, none_changes}
 use Rattle.other_tables.specs.declared.steady.FoundSection.{FoundSection}

@@ -1,13 +1,13 @@
 -- The PIDs with tables that no job is made of.
 use Rattle.std.specs.Prelude.{ℕ, ◌+◌, ◌==◌, ◌&&◌, Bool, is_some, if◌then◌else◌, List, [], ◌∷◌, ◌++◌, Option, Some, None}
 use Rattle.std.specs.List.{list_any}
-use Rattle.demux.specs.Views.{WhatView, IsSection, FindingView}
+use Rattle.pid_findings.specs.Views.{WhatView, IsSection, FindingView}
 use Rattle.demux.specs.Laws.{has_pid}
 use Rattle.other_tables.specs.declared.kinds.TableKind.{TableKind}
 use Rattle.other_tables.specs.declared.tables.OtherTable.{OtherTable}
 use Rattle.other_tables.specs.TableKinds.{kind_of}
 
--- what table a section is of, if no job is made of it
+-- the kind of table of a section, if no job takes that table
 unfoldable pub kind_at : WhatView → Option TableKind
 kind_at (IsSection []) = None
 kind_at (IsSection (table_id ∷ bytes)) = kind_of table_id
@@ -33,7 +33,7 @@ table_on all found (Some kind) (Some pid) = if is_found found pid then [] else r
 unfoldable pub table_at : List FindingView → List OtherTable → FindingView → List OtherTable
 table_at all found finding = table_on all found (kind_at finding.what) finding.pid
 
--- those of all findings in order, each PID once
+-- the tables of all findings in order, each PID once
 unfoldable pub tables_from : List FindingView → List OtherTable → List FindingView → List OtherTable
 tables_from all found [] = found
 tables_from all found (finding ∷ findings) = tables_from all (found ++ table_at all found finding) findings

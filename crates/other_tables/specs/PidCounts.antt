@@ -1,7 +1,7 @@
--- What is kept for each PID while the findings are gone through.
+-- The state of each PID during one pass over the findings.
 use Rattle.std.specs.Prelude.{◌≡◌, ◌<◌, ℕ, ◌+◌, Bool, true, false, is_some, if◌then◌else◌, List, [], ◌∷◌, length, slice_index, slice_index_or, slice_set}
 use Rattle.std.specs.Prelude.{Option, Some, None}
-use Rattle.demux.specs.Views.{FindingView}
+use Rattle.pid_findings.specs.Views.{FindingView}
 use Rattle.other_tables.specs.declared.kinds.TableKind.{TableKind}
 use Rattle.other_tables.specs.declared.tables.OtherTable.{OtherTable}
 use Rattle.other_tables.specs.OtherTables.{is_found, kind_at, section_count}

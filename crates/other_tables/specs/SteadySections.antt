@@ -3,19 +3,19 @@ use Rattle.std.specs.Prelude.{ℕ, ◌+◌, ◌-◌, ◌*◌, ◌==◌, ◌&&◌
 use Rattle.std.specs.Prelude.{slice_index, Option, Some, None, option_and_then}
 use Rattle.std.specs.List.{list_any, list_all}
 use Rattle.std.specs.Str.{bytes_eq}
-use Rattle.demux.specs.declared.finding.Kind.{Kind}
-use Rattle.demux.specs.Views.{WhatView, IsDuplicate, IsSection, IsTruncated, IsStray, FindingView}
+use Rattle.pid_findings.specs.declared.finding.Kind.{Kind}
+use Rattle.pid_findings.specs.Views.{WhatView, IsDuplicate, IsSection, IsTruncated, IsStray, FindingView}
 use Rattle.demux.specs.Laws.{has_pid}
 use Rattle.other_tables.specs.declared.steady.FoundSection.{FoundSection}
 
--- 1. What is found on the PID
+-- 1. The findings on the PID
 
--- a section, and the packet in which it begins
+-- a section, and the packet where it begins
 pub record PidSection : Type 0 where
   pub begun : ℕ
   pub bytes : List ℕ
 
--- that of the code
+-- the section of the code
 abbrev pub section_view : FoundSection → PidSection
 section_view s = record { begun = s.begun; bytes = s.bytes.now }
 
@@ -41,14 +41,14 @@ section_at count f = section_by count f.packet (begun_at f) f.what
 unfoldable pub section_on : ℕ → ℕ → FindingView → Option (List PidSection)
 section_on count pid f = if has_pid pid f.pid then section_at count f else Some []
 
--- those that were found before, and those of all further findings, in order
+-- the sections found before, and the sections of all further findings, in order
 unfoldable pub sections_on : ℕ → ℕ → List PidSection → List FindingView → Option (List PidSection)
 sections_on count pid found [] = Some found
 sections_on count pid found (f ∷ fs) = option_and_then (λ one. sections_on count pid (found ++ one) fs) (section_on count pid f)
 
--- 2. Each once, in the order in which they come first: at most nine, which are too many
+-- 2. The sections, each once, in the order of their first findings: at most nine, which are too many
 
--- a section has the bytes of one of these
+-- a section has the same bytes as a known section
 unfoldable pub is_known : List PidSection → PidSection → Bool
 is_known known s = list_any (λ k. bytes_eq k.bytes s.bytes) known
 
@@ -86,7 +86,7 @@ unfoldable pub distance_from : Option ℕ → ℕ → ℕ
 distance_from None begun = 0
 distance_from (Some last) begun = begun - last
 
--- the greatest distance from one start of a section to the next, 0 where it comes once
+-- the greatest distance from one start of a section to the next, 0 if it comes once
 unfoldable pub greatest_gap : List ℕ → Option ℕ → List PidSection → ℕ
 greatest_gap bytes last [] = 0
 greatest_gap bytes last (s ∷ ss) =

@@ -7,7 +7,7 @@ use Rattle.other_tables.specs.declared.kinds.TableKind.TheVariants.{Private}
 abbrev pub is_between : ℕ → ℕ → ℕ → Bool
 is_between low high id = nat_le low id && nat_le id high
 
--- CAT, ECM and EMM; sections of DSM-CC; EIT, the schedule of this stream, and of others
+-- CAT, ECM and EMM; sections of DSM-CC; EIT, the schedule of this stream and of other streams
 unfoldable pub kind_in_range : ℕ → TableKind
 kind_in_range id =
     if id == 0x01 then ConditionalAccess
@@ -15,8 +15,8 @@ kind_in_range id =
     else (if is_between 0x4F 0x6F id then Events
     else (if is_between 0x80 0x8F id then ConditionalAccess else Private)))
 
--- none for PAT, PMT, the NIT of the actual network, the SDT and the present and following events of this stream, and the TDT, of which a job is made, and for
--- stuffing
+-- none for stuffing, and none for PAT, PMT, the NIT of the actual network, the SDT and the present and following events of this stream, and the TDT: a
+-- job is made from these
 unfoldable pub kind_of : ℕ → Option TableKind
 kind_of id =
     if id == 0x00 || id == 0x02 || id == 0x40 || id == 0x42 || id == 0x4E || id == 0x70 || id == 0x72 then None

@@ -45,7 +45,7 @@ pub fn kind_of(table_id: u8) -> Option<TableKind>
     }
 }
 
-// That of a table_id of a range.
+// Returns the table of a table_id in a range of table_ids.
 #[tactic(auto, unfolding(crate::specs::TableKinds::kind_in_range))]
 fn kind_in_range(table_id: u8) -> TableKind
     ensures { result ≡ spec.kind_in_range table_id }

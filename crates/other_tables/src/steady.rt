@@ -2,10 +2,10 @@
 
 ghost use Rattle.std.specs.Prelude.{◌≡◌, ◌++◌, [], IfOk, OnOk, None, map, option_map, option_to_list, slice_index};
 ghost use Rattle.std.specs.List.{list_any, list_all};
-ghost use Rattle.demux.specs.Shown.{finding_view};
+ghost use Rattle.pid_findings.specs.Shown.{finding_view};
 ghost use Rattle.other_tables.specs.SteadySections as spec;
 
-use demux::{Finding, What};
+use pid_findings::{Finding, What};
 use std::alloc::{AllocError, Global};
 use std::marker::Model;
 
@@ -36,7 +36,7 @@ pub(crate) struct FoundSection<'f> {
     pub bytes: &'f [u8],
 }
 
-// The packet in which a finding begins.
+// Returns the packet where a finding begins.
 #[tactic(auto, unfolding(crate::specs::SteadySections::begun_by))]
 fn begun_at(finding: &Finding<'_>) -> u64
     ensures { result ≡ spec.begun_at (finding_view finding.now) }
@@ -47,8 +47,8 @@ fn begun_at(finding: &Finding<'_>) -> u64
     }
 }
 
-// What a finding adds to the sections of its PID, in a stream of `count` whole packets; none where that is no PID of
-// whole sections alone.
+// Returns the section that a finding adds to its PID in a stream of `count` whole packets, or no section; `None` if the
+// PID does not carry whole sections alone.
 #[tactic(auto, unfolding(crate::specs::SteadySections::section_by))]
 fn section_at<'f>(count: u64, finding: &'f Finding<'_>) -> Option<Option<FoundSection<'f>>>
     ensures { option_map (λ one. map spec.section_view (option_to_list one)) result
@@ -72,7 +72,7 @@ fn section_at<'f>(count: u64, finding: &'f Finding<'_>) -> Option<Option<FoundSe
     }
 }
 
-// The same of a PID, where findings of others add nothing.
+// Returns the section that a finding adds to a PID; a finding of another PID adds none.
 #[tactic(auto, unfolding(crate::specs::SteadySections::section_on))]
 fn section_on<'f>(
     count: u64,
@@ -102,7 +102,7 @@ fn push_if<'f>(
     Ok(())
 }
 
-// The sections of a PID, if nothing else is found on it.
+// Returns the sections of a PID, if nothing else is found on it.
 fn sections_on<'f>(
     alloc: Global,
     count: u64,
@@ -122,7 +122,7 @@ fn sections_on<'f>(
     Ok(Some(sections))
 }
 
-// Whether a section has the bytes of one of these.
+// Returns whether a section has the same bytes as a known section.
 fn is_known(known: &[FoundSection<'_>], section: &FoundSection<'_>) -> bool
     ensures { result ≡ spec.is_known (map spec.section_view known.now) (spec.section_view section.now) }
 {
@@ -144,7 +144,7 @@ fn push_new<'f>(
     Ok(())
 }
 
-// Each section once, at most nine.
+// Returns each different section once, at most nine.
 fn distinct_sections<'f>(
     alloc: Global,
     all: &[FoundSection<'f>],
@@ -159,7 +159,7 @@ fn distinct_sections<'f>(
     Ok(known)
 }
 
-// The packets since the last start, if there is one.
+// Returns the packets since the last start, if there is one.
 #[tactic(auto, unfolding(crate::specs::SteadySections::distance_from))]
 fn distance_from(last: Option<u64>, begun: u64) -> u64
     ensures { result ≡ spec.distance_from last begun }
@@ -170,7 +170,7 @@ fn distance_from(last: Option<u64>, begun: u64) -> u64
     }
 }
 
-// The greatest number of packets from one start of a section to the next.
+// Returns the greatest number of packets from one start of a section to the next.
 fn greatest_gap(bytes: &[u8], all: &[FoundSection<'_>]) -> u64
     ensures { result ≡ spec.greatest_gap bytes.now None (map spec.section_view all.now) }
 {
@@ -185,7 +185,7 @@ fn greatest_gap(bytes: &[u8], all: &[FoundSection<'_>]) -> u64
     gap
 }
 
-// Whether each of these comes again.
+// Returns whether each known section recurs.
 fn all_come_again(all: &[FoundSection<'_>], known: &[FoundSection<'_>]) -> bool
     ensures { result ≡ list_all (spec.comes_again (map spec.section_view all.now)) (map spec.section_view known.now) }
 {
@@ -194,7 +194,7 @@ fn all_come_again(all: &[FoundSection<'_>], known: &[FoundSection<'_>]) -> bool
         .all(|section| greatest_gap(section.bytes, all) > 0)
 }
 
-// Whether two are one section of one table.
+// Returns whether both are the same section of the same table.
 #[tactic(auto, unfolding(crate::specs::SteadySections::is_same_section))]
 fn is_same_section(one: &FoundSection<'_>, other: &FoundSection<'_>) -> bool
     ensures { result ≡ spec.is_same_section (spec.section_view one.now) (spec.section_view other.now) }
@@ -204,7 +204,7 @@ fn is_same_section(one: &FoundSection<'_>, other: &FoundSection<'_>) -> bool
         && number_of(one.bytes) == number_of(other.bytes)
 }
 
-// A byte; 0 past the end.
+// Returns the byte at a place; 0 past the end.
 fn byte_at(bytes: &[u8], at: usize) -> u8
     ensures { result ≡ slice_index bytes.now at }
 {
@@ -214,7 +214,7 @@ fn byte_at(bytes: &[u8], at: usize) -> u8
     }
 }
 
-// table_id_extension of the long form.
+// Returns table_id_extension of the long form.
 #[tactic(auto, unfolding(crate::specs::SteadySections::extension_of))]
 fn extension_of(bytes: &[u8]) -> u16
     ensures { result ≡ spec.extension_of bytes.now }
@@ -226,7 +226,7 @@ fn extension_of(bytes: &[u8]) -> u16
     }
 }
 
-// section_number of the long form.
+// Returns section_number of the long form.
 #[tactic(auto, unfolding(crate::specs::SteadySections::number_of))]
 fn number_of(bytes: &[u8]) -> u8
     ensures { result ≡ spec.number_of bytes.now }
@@ -238,7 +238,7 @@ fn number_of(bytes: &[u8]) -> u8
     }
 }
 
-// Whether none of these is one section of one table with another.
+// Returns whether no two of these are the same section of the same table.
 fn none_changes(known: &[FoundSection<'_>]) -> bool
     ensures { result ≡ spec.none_changes (map spec.section_view known.now) }
 {
@@ -257,7 +257,7 @@ fn has_same(others: &[FoundSection<'_>], section: &FoundSection<'_>) -> bool
     others.iter().any(|other| is_same_section(section, other))
 }
 
-// The greatest number of packets from one start of any to its next.
+// Returns the greatest number of packets from one start of any section to its next start.
 fn widest_gap(all: &[FoundSection<'_>], known: &[FoundSection<'_>]) -> u64
     ensures { result ≡ spec.widest_gap (map spec.section_view all.now) (map spec.section_view known.now) }
 {
@@ -268,7 +268,7 @@ fn widest_gap(all: &[FoundSection<'_>], known: &[FoundSection<'_>]) -> u64
     widest
 }
 
-// Whether these are 1 to 8 that come again and do not change.
+// Returns whether there are 1 to 8 known sections, each recurs and none changes.
 #[tactic(auto, unfolding(crate::specs::SteadySections::are_steady))]
 fn are_steady(all: &[FoundSection<'_>], known: &[FoundSection<'_>]) -> bool
     ensures { result ≡ spec.are_steady (map spec.section_view all.now) (map spec.section_view known.now) }
@@ -276,7 +276,7 @@ fn are_steady(all: &[FoundSection<'_>], known: &[FoundSection<'_>]) -> bool
     known.len() >= 1 && known.len() <= 8 && all_come_again(all, known) && none_changes(known)
 }
 
-// The bytes of each.
+// Returns the bytes of each section.
 fn bytes_of(alloc: Global, known: &[FoundSection<'_>]) -> Result<Vec<Vec<u8>>, AllocError>
     ensures { IfOk result (λ sections. map (λ b. b.items) sections.items
         ≡ map (λ s. s.bytes) (map spec.section_view known.now)) }
@@ -289,7 +289,7 @@ fn bytes_of(alloc: Global, known: &[FoundSection<'_>]) -> Result<Vec<Vec<u8>>, A
     Ok(sections)
 }
 
-// Those that are known of all, if they do not change.
+// Returns the known sections, if all sections are steady.
 #[tactic(auto, unfolding(crate::specs::SteadySections::steady_if))]
 fn steady_if(
     alloc: Global,
@@ -307,8 +307,8 @@ fn steady_if(
     }))
 }
 
-/// Returns the sections of a PID in a stream of `count` whole packets, if nothing but whole sections is found on it, at
-/// most 8, each of which comes again with the same bytes.
+/// Returns the sections of a PID in a stream of `count` whole packets, if the PID has only whole sections, at most 8
+/// different ones, and each section recurs with the same bytes.
 #[tactic(auto, unfolding(crate::specs::SteadySections::steady_sections))]
 pub fn steady_sections(
     alloc: Global,

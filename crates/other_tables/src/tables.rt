@@ -1,12 +1,13 @@
 //! The PIDs with tables that no job is made of.
 
-ghost use Rattle.std.specs.Prelude.{◌≡◌, ◌<◌, ◌-◌, ◌^◌, ◌++◌, [], ℕ, IfOk, OnOk, Some, length, map, option_to_list, slice_index};
-ghost use Rattle.demux.specs.Shown.{finding_view, what_view};
+ghost use Rattle.std.specs.Prelude.{◌≡◌, ◌<◌, ◌-◌, ◌^◌, ◌++◌, [], ℕ, IfOk, OnOk, Some, length, map, option_to_list};
+ghost use Rattle.std.specs.Prelude.{slice_index};
+ghost use Rattle.pid_findings.specs.Shown.{finding_view, what_view};
 ghost use Rattle.other_tables.specs.OtherTables as spec;
 ghost use Rattle.other_tables.specs.PidCounts as counted;
 
 use crate::kinds::{TableKind, kind_of};
-use demux::{Finding, What};
+use pid_findings::{Finding, What};
 use std::alloc::{AllocError, Global};
 
 /// How many numbers 16 bits have; a PID has 13.
@@ -22,7 +23,7 @@ pub struct OtherTable {
     pub count: usize,
 }
 
-// What table a finding is a section of, if it is one and no job is made of it.
+// Returns the table of a finding's section, if no job is made of that table.
 #[tactic(auto, unfolding(crate::specs::OtherTables::kind_at))]
 fn kind_at(what: &What<'_>) -> Option<TableKind>
     ensures { result ≡ spec.kind_at (what_view what.now) }
@@ -36,7 +37,7 @@ fn kind_at(what: &What<'_>) -> Option<TableKind>
     }
 }
 
-// The PID of a finding that is such a section.
+// Returns the PID of a finding with a section of a table that no job is made of.
 #[tactic(auto, unfolding(crate::specs::PidCounts::table_pid))]
 fn table_pid(finding: &Finding<'_>) -> Option<u16>
     ensures { result ≡ counted.table_pid (finding_view finding.now) }
@@ -48,21 +49,21 @@ fn table_pid(finding: &Finding<'_>) -> Option<u16>
     }
 }
 
-// A count of none for each PID.
+// Returns a count of 0 for each PID.
 fn no_counts(alloc: Global) -> Result<Vec<usize>, AllocError>
     ensures { IfOk result (λ counts. counted.AreCounts counts.items []) }
 {
     Ok(vec![in alloc; 0usize; PID_NUMBERS]?)
 }
 
-// No table is found on any PID.
+// Returns, for each PID, that no table is found on it.
 fn none_seen(alloc: Global) -> Result<Vec<bool>, AllocError>
     ensures { IfOk result (λ seen. counted.AreSeen seen.items []) }
 {
     Ok(vec![in alloc; false; PID_NUMBERS]?)
 }
 
-// Counts one more where a finding is such a section.
+// Counts a finding that is a section of a table that no job is made of.
 #[tactic(auto, unfolding(crate::specs::PidCounts::counted_on))]
 fn count_section(finding: &Finding<'_>, counts: &mut Vec<usize>)
     requires size { length counts.old.items ≡ 65_536 }
@@ -75,7 +76,7 @@ fn count_section(finding: &Finding<'_>, counts: &mut Vec<usize>)
     }
 }
 
-// How many such sections each PID has, counted from the last to the first.
+// Counts the sections of such tables on each PID, from the last finding to the first.
 fn section_counts(alloc: Global, findings: &[Finding<'_>]) -> Result<Vec<usize>, AllocError>
     ensures { IfOk result (λ counts. counted.AreCounts counts.items (map finding_view findings.now)) }
 {
@@ -88,7 +89,7 @@ fn section_counts(alloc: Global, findings: &[Finding<'_>]) -> Result<Vec<usize>,
     Ok(counts)
 }
 
-// The table that a finding is the first section of, with the count of its PID.
+// Returns the table that a finding is the first section of, with the count of its PID.
 #[tactic(auto, unfolding(crate::specs::PidCounts::table_with, crate::specs::PidCounts::table_of))]
 fn table_with(counts: &[usize], seen: &[bool], finding: &Finding<'_>) -> Option<OtherTable>
     requires counts { length counts.now ≡ 65_536 }

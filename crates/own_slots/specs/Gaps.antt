@@ -8,7 +8,7 @@ use Rattle.own_slots.specs.Extremes.{greatest}
 abbrev pub gap : List Bool → ℕ → ℕ
 gap marks k = greatest (per_period marks) (λ i. position marks (i + k) - position marks i)
 
--- the distance from slot s to the k-th own slot after it, where s is an own slot; else 0
+-- the distance from slot s to the k-th own slot after it, where s is an own slot; otherwise 0
 abbrev pub ahead : List Bool → ℕ → ℕ → ℕ
 ahead marks k s = cond (own marks s) (position marks (own_before (own marks) s + k) - s) 0
 

@@ -1,8 +1,8 @@
--- A part of an item's own slots, as the slots in which sections of a table begin.
+-- A part of an item's own slots, such as the slots where sections of a table begin.
 use Rattle.std.specs.Prelude.{◌≡◌, ℕ, Bool, true}
 use Rattle.own_slots.specs.Slots.{own_slots, Rises}
 
--- each slot of `part` is one of `own`
+-- each slot of `part` is a slot of `own`
 abbrev pub IsPart : (ℕ → Bool) → (ℕ → Bool) → Type 0
 IsPart part own = (s : ℕ) → part s ≡ true → own s ≡ true
 

@@ -1,6 +1,5 @@
--- An item of a plan (a stream, the PCRs of a program, a table, the system tables of a program) is a function of the
--- slot number over all time: is this slot the item's own? All that the timing says of an item is said by one count, the
--- own slots before a slot.
+-- An item of a plan (a stream, the PCRs of a program, a table, the system tables of a program) is a function of the slot number
+-- over all time: is this slot the item's own? All timing of an item is expressed by one count, the own slots before a slot.
 use Rattle.std.specs.Prelude.{◌≡◌, ℕ, zero, suc, ◌+◌, ◌*◌, ◌<◌, ◌≤◌, Bool, true, cond, List, [], ◌∷◌}
 
 -- the number of own slots before slot s, and so the number (from 0) of the own slot at s

@@ -13,11 +13,11 @@ work_step rate drain work mark = (work - 188 * drain) + cond mark (188 * rate) 0
 unfoldable pub work_at : ℕ → ℕ → ℕ → List Bool → ℕ → ℕ
 work_at rate drain start marks s = fold (work_step rate drain) start (take s marks)
 
--- the work before slot s with the slot's packet on top, 0 where it is no own slot
+-- the work before slot s with the slot's packet on top, 0 if it is no own slot
 abbrev pub before_at : ℕ → ℕ → ℕ → List Bool → ℕ → ℕ
 before_at rate drain start marks s = cond (slice_index_or marks s false) (work_at rate drain start marks s + 188 * rate) 0
 
--- the work right after slot s, 0 where it is no own slot
+-- the work right after slot s, 0 if it is no own slot
 abbrev pub after_at : ℕ → ℕ → ℕ → List Bool → ℕ → ℕ
 after_at rate drain start marks s = cond (slice_index_or marks s false) (work_at rate drain start marks (s + 1)) 0
 

@@ -1,9 +1,9 @@
--- Bytes on their way to a writer: some are written, the rest waits.
+-- Bytes that go to a writer: some are written, the rest waits.
 use Rattle.std.specs.Prelude.{◌≡◌, ◌≤◌, ℕ, ◌+◌, ◌-◌, ◌^◌, min, Bool, List, ◌++◌, length, take, slice_get, slice_set, Option, Some}
 use Rattle.std.specs.List.{flat_map}
 use Rattle.std.specs.Io.KnownBytes.{Appends}
 
--- lines that wait, rooms of packets and how many of these wait, the number of bytes written, and whether packets are written as lines of
+-- the lines that wait, the rooms of packets and how many of these packets wait, the number of bytes written, and whether packets are written as lines of
 -- digits
 pub record Buffered : Type 0 where
   pub lines : List ℕ
@@ -12,23 +12,23 @@ pub record Buffered : Type 0 where
   pub sent : ℕ
   pub hex : Bool
 
--- what waits
+-- the bytes that wait
 abbrev pub waiting_of : Buffered → List ℕ
 waiting_of buffer = buffer.lines ++ flat_map (λ packet. packet) (take buffer.count buffer.rooms)
 
--- in the room of the next packet stands this one
+-- the room of the next packet holds this packet
 abbrev pub HasNext : Buffered → List ℕ → Type 0
 HasNext buffer packet = slice_get buffer.rooms buffer.count ≡ Some packet
 
--- the same with this packet there
+-- the same buffer with this packet in the next room
 abbrev pub with_next : Buffered → List ℕ → Buffered
 with_next buffer packet = record buffer { rooms = slice_set buffer.rooms buffer.count packet }
 
--- a number of bytes as it is answered: it stops at 2^64 - 1
+-- a number of bytes in an answer: at most 2^64 - 1
 abbrev pub byte_count : ℕ → ℕ
 byte_count n = min n (2 ^ 64 - 1)
 
--- of the output `all`, after what the writer held at the start, the writer holds the front and the rest waits
+-- the output `all` is split: the writer holds its front after what it held at the start, and the rest waits
 pub record IsOutput (start now : Option (List ℕ)) (buffer : Buffered) (all : List ℕ) : Type 0 where
   pub written : List ℕ
   pub taken : Appends start now written
@@ -42,7 +42,7 @@ pub record Took (start now : Option (List ℕ)) (sent : ℕ) (all : List ℕ) : 
   pub taken : Appends start now (take count all)
   pub sent_is : sent ≡ byte_count count
 
--- of a part after `before` bytes that were counted, the writer took the first bytes, and `sent` counts these too
+-- the writer took the first bytes of a part, and `sent` counts these bytes and the `before` bytes counted earlier
 pub record TookPart (old new : Option (List ℕ)) (part : List ℕ) (before sent : ℕ) : Type 0 where
   pub count : ℕ
   pub within : count ≤ length part

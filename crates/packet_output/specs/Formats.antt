@@ -8,6 +8,6 @@ unfoldable pub formatted : Bool → List ℕ → List ℕ
 formatted false packet = packet
 formatted true packet = encode_lower packet ++ 10 ∷ []
 
--- packets one after the other
+-- packets in order, each in this format
 abbrev pub formatted_all : Bool → List (List ℕ) → List ℕ
 formatted_all hex packets = flat_map (formatted hex) packets

@@ -14,7 +14,7 @@ use counted_io::{Sink, write_part};
 use std::alloc::{AllocError, Allocator};
 use std::marker::Model;
 
-// What waits is written once it is so many packets, 65,612 bytes, or lines of so many bytes.
+// The bytes that wait are written once there are 349 packets (65,612 bytes), or lines of 65,536 bytes.
 const PACKETS: usize = 349;
 
 const PART: usize = 65_536;
@@ -28,14 +28,13 @@ pub struct OutputFault {
     pub sent: u64,
 }
 
-/// Packets on their way to a writer, as bytes or as lines of hexadecimal digits. They leave in parts of 64 KiB and
-/// more; the room for a part is taken once. A packet is written where it waits: into the room of the next one.
+/// Packets that go to a writer, as bytes or as lines of hexadecimal digits. They are written in parts of at least 64
+/// KiB; the room for a part is taken once. A packet is made where it waits: in the room of the next packet.
 #[derive(Drop)]
 pub struct PacketOutput<A: Allocator> {
     // Lines that wait.
     lines: Vec<u8, A>,
-    // The rooms of a part's packets: of the first `count` the packets wait, the next one is the room of the next
-    // packet.
+    // The rooms of a part's packets: the first `count` packets wait, and the next room is for the next packet.
     rooms: Vec<[u8; 188], A>,
     count: usize,
     sent: u64,
@@ -93,7 +92,7 @@ impl<A: Allocator> PacketOutput<A> {
         &mut self.rooms[self.count]
     }
 
-    /// Adds the packet in the room of the next one, and writes what waits once it is a part.
+    /// Adds the packet in the next room, and writes the waiting bytes once they are a part.
     pub fn push<W: Sink>(&mut self, to: &mut W) -> Result<(), OutputFault>
         ensures ok { (start : Option (List ℕ)) (all packet : List ℕ) → HasNext self.old packet →
             IsOutput start (W.contents to.old) self.old all →
@@ -130,7 +129,7 @@ impl<A: Allocator> PacketOutput<A> {
         }
     }
 
-    /// Writes what waits, by one write where the writer takes it whole. Nothing waits then.
+    /// Writes the waiting bytes, by one write if the writer takes them whole. No byte waits then.
     pub fn flush<W: Sink>(&mut self, to: &mut W) -> Result<(), OutputFault>
         ensures ok { (start : Option (List ℕ)) (all : List ℕ) → IsOutput start (W.contents to.old) self.old all →
             OnOk result (IsOutput start (W.contents to.new) self.new all) }
@@ -165,7 +164,7 @@ impl<A: Allocator> PacketOutput<A> {
         write_after(to, self.waiting(), self.sent)
     }
 
-    // What waits.
+    // Returns the bytes that wait.
     fn waiting(&self) -> &[u8]
         ensures { result.now ≡ waiting_of self.now }
     {
@@ -178,7 +177,7 @@ impl<A: Allocator> PacketOutput<A> {
     }
 }
 
-// Two digits a byte.
+// Returns the bytes of a packet as hexadecimal digits, two for each byte.
 fn digits_of(packet: &[u8; 188]) -> [u8; 376]
     ensures { result ≡ encode_lower packet.now }
 {

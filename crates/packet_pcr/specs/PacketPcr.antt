@@ -27,7 +27,7 @@ pcr_read index (Ok packet) = if packet.header.transport_error_indicator then Non
 abbrev pub pcr_at : ℕ → List ℕ → Option FoundPcr
 pcr_at index bytes = pcr_read index (packet_at bytes)
 
--- it is one of the clock on this PID
+-- the PCR belongs to the clock on this PID
 unfoldable pub is_on : ℕ → Option ℕ → Bool
 is_on pid None = false
 is_on pid (Some other) = other == pid

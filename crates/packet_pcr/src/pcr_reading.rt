@@ -21,7 +21,7 @@ pub struct FoundPcr {
     pub discontinuity: bool,
 }
 
-// The clock reference of an adaptation field.
+// Returns the clock reference of an adaptation field.
 #[tactic(auto, unfolding(crate::specs::PacketPcr::pcr_with))]
 fn pcr_in_field(packet: u64, pid: u16, parts: &AdaptationField<'_>) -> Option<FoundPcr>
     ensures { result ≡ spec.pcr_in_field packet pid (field_view parts.now) }
@@ -35,7 +35,7 @@ fn pcr_in_field(packet: u64, pid: u16, parts: &AdaptationField<'_>) -> Option<Fo
     })
 }
 
-// The clock reference that may be in an adaptation field.
+// Returns the clock reference that may be in an adaptation field.
 #[tactic(auto, unfolding(crate::specs::PacketPcr::pcr_in))]
 fn pcr_in(packet: u64, pid: u16, adaptation: &Option<Adaptation<'_>>) -> Option<FoundPcr>
     ensures { result ≡ spec.pcr_in packet pid (option_map adaptation_view adaptation.now) }
@@ -73,7 +73,7 @@ pub fn pcr_at(index: u64, bytes: &[u8; 188]) -> Option<FoundPcr>
 }
 
 impl FoundPcr {
-    /// Returns whether it is one of the clock on a PID.
+    /// Returns whether the PCR belongs to the clock on a PID.
     #[tactic(auto, unfolding(crate::specs::PacketPcr::is_on))]
     pub fn is_on(self, pid: Option<u16>) -> bool
         ensures { result ≡ spec.is_on self.pid pid }

@@ -13,7 +13,7 @@ use Rattle.packet_sync.specs.declared.field.Field.TheVariants.{PrivateData, Othe
 abbrev pub has_priority : List ℕ → Bool
 has_priority packet = slice_index packet 1 / 32 % 2 == 1
 
--- the flag byte of the adaptation field; 0 where there is none, or an empty one
+-- the flag byte of the adaptation field; 0 if there is none, or an empty one
 unfoldable pub adaptation_flags : List ℕ → ℕ
 adaptation_flags packet = if slice_index packet 3 / 32 % 2 == 1 && not (slice_index packet 4 == 0) then slice_index packet 5 else 0
 
@@ -45,7 +45,7 @@ has_adaptation_private_data flags = flags / 2 % 2 == 1
 abbrev pub has_adaptation_extension : ℕ → Bool
 has_adaptation_extension flags = flags % 2 == 1
 
--- 2. The payload in which a PES packet begins
+-- 2. The payload where a PES packet begins
 
 -- payload_unit_start_indicator and a payload, without transport_error_indicator, not scrambled
 unfoldable pub is_clear_start : List ℕ → Bool
@@ -54,11 +54,11 @@ is_clear_start packet =
     && slice_index packet 3 / 64 == 0
     && slice_index packet 3 / 16 % 2 == 1
 
--- where it begins: after the four bytes of the header and an adaptation field
+-- the place where the payload begins: after the four bytes of the header and an adaptation field
 unfoldable pub payload_place : List ℕ → ℕ
 payload_place packet = if slice_index packet 3 / 32 % 2 == 1 then 5 + slice_index packet 4 else 4
 
--- the payload; empty where none begins
+-- the payload; empty if no PES packet begins in it
 unfoldable pub start_payload : List ℕ → List ℕ
 start_payload packet = if is_clear_start packet && nat_le (payload_place packet) 188 then slice_range packet (payload_place packet) 188 else []
 
@@ -68,12 +68,12 @@ is_flagged p = slice_index p 0 == 0 && slice_index p 1 == 0 && slice_index p 2 =
 
 -- 3. Its PES header: two flag bytes, PES_header_data_length, and what they announce
 
--- PTS_DTS_flags announce no PTS: the PES packet goes on with a unit, and marks are those of its first one
+-- PTS_DTS_flags announce no PTS: the PES packet continues a unit, and its marks belong to the unit's first PES packet
 abbrev pub goes_on : List ℕ → Bool
 goes_on p = nat_lt (slice_index p 7) 128
 
--- a PES header of which the PTS_DTS_flags announce a PTS is at the front of a payload: a unit begins with it; of a header that goes on in
--- another packet before its PTS_DTS_flags the same is taken
+-- a PES header at the front of a payload whose PTS_DTS_flags announce a PTS: a unit begins with it; a header that continues in
+-- another packet before its PTS_DTS_flags is taken to begin a unit, too
 unfoldable pub begins_unit : List ℕ → Bool
 begins_unit p = if nat_lt (length p) 9 then not (length p == 0) else is_flagged p && not (goes_on p)
 
@@ -93,12 +93,12 @@ is_scrambled p = not (slice_index p 6 / 16 % 4 == 0)
 abbrev pub is_long : List ℕ → Bool
 is_long p = slice_index p 3 == 189 && slice_index p 8 == 36
 
--- where the flags of PES_extension stand: after PTS and DTS, ESCR, ES_rate, DSM_trick_mode, additional_copy_info, PES_CRC
+-- the place of the flags of PES_extension: after PTS and DTS, ESCR, ES_rate, DSM_trick_mode, additional_copy_info, PES_CRC
 unfoldable pub extension_place : ℕ → ℕ
 extension_place flags =
     9 + flags / 128 * 5 + flags / 64 % 2 * 5 + flags / 32 % 2 * 6 + flags / 16 % 2 * 3 + flags / 8 % 2 + flags / 4 % 2 + flags / 2 % 2 * 2
 
--- these flags; 0 where there are none
+-- these flags; 0 if there are none
 unfoldable pub extension_flags : List ℕ → ℕ
 extension_flags p =
     if slice_index p 7 % 2 == 1 && nat_lt (extension_place (slice_index p 7)) (9 + slice_index p 8) && nat_lt (extension_place (slice_index p 7)) (length p)
@@ -112,7 +112,7 @@ has_private_data extension = extension / 128 == 1
 abbrev pub lacks_private_data : List ℕ → Bool
 lacks_private_data p = nat_lt (9 + slice_index p 8) (extension_place (slice_index p 7) + 17)
 
--- PES_private_data that no unit carries: of a PES packet that goes on with a unit, or not whole
+-- PES_private_data that no unit carries: in a PES packet that continues a unit, or cut short
 abbrev pub loses_private_data : List ℕ → Bool
 loses_private_data p = has_private_data (extension_flags p) && (goes_on p || lacks_private_data p)
 
@@ -121,7 +121,7 @@ loses_private_data p = has_private_data (extension_flags p) && (goes_on p || lac
 abbrev pub has_other_data : ℕ → ℕ → Bool
 has_other_data flags extension = not (flags / 2 % 32 == 0) || not (extension / 16 % 8 == 0) || extension % 2 == 1
 
--- the header goes on in another packet
+-- the header continues in another packet
 abbrev pub is_cut : List ℕ → Bool
 is_cut p = nat_lt (length p) (9 + slice_index p 8)
 
@@ -153,6 +153,6 @@ number_of PrivateData = 12
 number_of OtherHeaderData = 13
 number_of UnreadHeader = 14
 
--- it stands in the header or the adaptation field of a packet, and not in a PES header
+-- the field is in the header or the adaptation field of a packet, and not in a PES header
 abbrev pub is_of_packet : Field → Bool
 is_of_packet field = nat_lt (number_of field) 8

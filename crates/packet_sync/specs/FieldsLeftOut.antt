@@ -1,4 +1,4 @@
--- The fields that are not written again, each once of a PID, in packets that stand in step.
+-- The fields that are not written again, each once for a PID, in packets that are in step.
 use Rattle.std.specs.Prelude.{ℕ, zero, suc, ◌+◌, ◌*◌, ◌%◌, ◌==◌, ◌&&◌, not, nat_lt, Bool, true, if◌then◌else◌, List, [], ◌∷◌, ◌++◌, length, slice_index}
 use Rattle.std.specs.Prelude.{slice_range, Option, None, Some}
 use Rattle.std.specs.List.{list_any}
@@ -22,7 +22,7 @@ pid_of packet = slice_index packet 1 % 32 * 256 + slice_index packet 2
 abbrev pub is_noted : List FieldLeftOut → ℕ → Field → Bool
 is_noted found pid field = list_any (λ f. f.pid == pid && number_of f.field == number_of field) found
 
--- with a field of a PID, if it stands in the packet and is not there yet
+-- `found`, with a field of a PID if it is in the packet and not noted yet
 unfoldable pub with_field : ℕ → Field → Bool → List FieldLeftOut → List FieldLeftOut
 with_field pid field stands found = if stands && not (is_noted found pid field) then found ++ record { pid = pid; field = field } ∷ [] else found
 
@@ -43,27 +43,28 @@ with_adaptation_data pid flags found =
 abbrev pub with_adaptation : ℕ → ℕ → Bool → List FieldLeftOut → List FieldLeftOut
 with_adaptation pid flags begins found = with_adaptation_data pid flags (with_indicators pid flags begins found)
 
--- with those of the first flag byte of a PES header; the flags of the first PES packet of a unit are carried
+-- `found`, with the fields of the first flag byte of a PES header; the flags of the first PES packet of a unit are carried
 unfoldable pub with_flags : ℕ → List ℕ → List FieldLeftOut → List FieldLeftOut
 with_flags pid p found =
     with_field pid Scrambling (is_scrambled p)
     (with_field pid Flags (goes_on p && has_other_flags p) (with_field pid Alignment (goes_on p && is_aligned p) found))
 
--- with those of its header data; a long header and PES_private_data of the first PES packet of a unit are carried
+-- `found`, with the fields of the PES header's data; a long header and PES_private_data of the first PES packet of a unit are
+-- carried
 unfoldable pub with_data : ℕ → List ℕ → List FieldLeftOut → List FieldLeftOut
 with_data pid p found =
     with_field pid UnreadHeader (is_cut p)
     (with_field pid OtherHeaderData (has_other_data (slice_index p 7) (extension_flags p))
     (with_field pid PrivateData (loses_private_data p) (with_field pid LongHeader (goes_on p && is_long p) found)))
 
--- with those of the PES header at the front of a payload; of one that is cut before its header data nothing is read
+-- `found`, with the fields of the PES header at the front of a payload; a header that is cut before its header data is not read
 unfoldable pub with_header : ℕ → List ℕ → List FieldLeftOut → List FieldLeftOut
 with_header pid p found =
     if length p == 0 then found
     else (if nat_lt (length p) 9 then with_field pid UnreadHeader true found
     else (if is_flagged p then with_data pid p (with_flags pid p found) else found))
 
--- with those of a packet
+-- `found`, with the fields of a packet
 unfoldable pub with_packet : List ℕ → List FieldLeftOut → List FieldLeftOut
 with_packet packet found =
     with_header (pid_of packet) (start_payload packet)
@@ -76,7 +77,7 @@ with_packet packet found =
 abbrev pub packet_at : List ℕ → ℕ → List ℕ
 packet_at bs at = slice_range bs at (at + 188)
 
--- that packet, or a slip there, and then those after it
+-- `found`, with the packet at this place, or none if a slip is there, and then with the packets after it
 unfoldable pub with_next : List ℕ → Option ℕ → ℕ → List FieldLeftOut → (ℕ → List FieldLeftOut → List FieldLeftOut) → List FieldLeftOut
 with_next bs None at found after = after (at + 188) (with_packet (packet_at bs at) found)
 with_next bs (Some size) at found after = after (at + size) found
@@ -92,7 +93,7 @@ fields_left_out bs = fields_from (length bs) bs 0 []
 
 -- 3. Packets one after another
 
--- with those of the first n packets of bytes that stand in step
+-- `found`, with the fields of the first n packets of bytes that are in step
 unfoldable pub with_packets : ℕ → List ℕ → List FieldLeftOut → List FieldLeftOut
 with_packets zero bs found = found
 with_packets (suc n) bs found = with_packet (packet_at bs (188 * n)) (with_packets n bs found)

@@ -1,4 +1,4 @@
--- What is said of the packets of a stream whose bytes come piece by piece: its slips, and the fields that are not written again.
+-- Notes on the packets of a stream whose bytes arrive piece by piece: its slips, and the fields that are not written again.
 use Rattle.std.specs.Prelude.{◌≡◌, ℕ, ◌+◌, ◌/◌, ◌==◌, if◌then◌else◌, Bool, true, List, [], ◌∷◌, ◌++◌, length, map, drop}
 use Rattle.packet_sync.specs.FieldsLeftOut.{fields_from, with_packets}
 use Rattle.packet_sync.specs.Slips.{slips}
@@ -6,7 +6,7 @@ use Rattle.packet_sync.specs.declared.left_out.FieldLeftOut.{FieldLeftOut}
 use Rattle.packet_sync.specs.declared.slip.Slip.{Slip}
 use Rattle.packet_sync.specs.declared.stretch.Stretch.{Stretch}
 
--- those so far, and how many packets and bytes stand before those still to come
+-- the notes so far, and how many packets and bytes precede the bytes still to come
 pub record NotesView : Type 0 where
   pub slips : List Slip
   pub fields : List FieldLeftOut
@@ -17,9 +17,9 @@ pub record NotesView : Type 0 where
 abbrev pub no_notes : NotesView
 no_notes = record { slips = []; fields = []; packet = 0; start = 0 }
 
--- 1. What is said of a whole stream
+-- 1. The notes on a whole stream
 
--- a slip of the rest of a stream that has so many packets and bytes before that rest
+-- a slip of the rest of a stream, if `packet` packets and `start` bytes precede that rest
 abbrev pub later_slip : ℕ → ℕ → Slip → Slip
 later_slip packet start s = record { packet = packet + s.packet; start = start + s.start; size = s.size }
 
@@ -31,12 +31,12 @@ all_slips n rest = n.slips ++ map (later_slip n.packet n.start) (slips rest)
 abbrev pub all_fields : NotesView → List ℕ → List FieldLeftOut
 all_fields n rest = fields_from (length rest) rest 0 n.fields
 
--- what is said of the stream after some of its rest was taken is what was to be said before that
+-- the notes on the stream do not change when some of its rest is taken
 pub record SayAlike (old : NotesView) (before : List ℕ) (new : NotesView) (after : List ℕ) : Type 0 where
   pub slips : all_slips old before ≡ all_slips new after
   pub fields : all_fields old before ≡ all_fields new after
 
--- however the stream goes on
+-- whatever bytes follow
 abbrev pub IsNoted : NotesView → NotesView → List ℕ → Bool → Stretch → Type 0
 IsNoted old new bytes ended s = (more : List ℕ) → (ended ≡ true → more ≡ []) → SayAlike old (bytes ++ more) new (drop (s.in_step + s.slipped) bytes ++ more)
 

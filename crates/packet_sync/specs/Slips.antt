@@ -6,11 +6,11 @@ use Rattle.packet_sync.specs.declared.slip.Slip.{Slip}
 
 -- 1. Sync bytes
 
--- a sync byte stands at this place
+-- there is a sync byte at this place
 unfoldable pub is_sync : List ℕ → ℕ → Bool
 is_sync bs at = option_map_or (λ b. b == 71) (slice_get bs at) false
 
--- one stands there, or the stream ends before it
+-- there is a sync byte at this place, or the stream ends before it
 unfoldable pub is_next : List ℕ → ℕ → Bool
 is_next bs at = option_map_or (λ b. b == 71) (slice_get bs at) true
 
@@ -20,12 +20,12 @@ is_in_step bs at = is_sync bs at && is_sync bs (at + 188) && is_sync bs (at + 37
 
 -- 2. A slip
 
--- the step goes on after the packet at this place: with the next one, or, where only that one's sync byte is damaged, with
--- those after it
+-- the step continues after the packet at this place: with the next packet, or, if only the next packet's sync byte is damaged, with
+-- the packets after it
 unfoldable pub goes_on : List ℕ → ℕ → Bool
 goes_on bs at = is_next bs (at + 188) || is_in_step bs (at + 376)
 
--- a new step begins so many bytes after the place
+-- a new step begins `size` bytes after the place
 unfoldable pub is_new_step : List ℕ → ℕ → ℕ → Bool
 is_new_step bs at size = not (size % 188 == 0) && is_in_step bs (at + size)
 
@@ -34,14 +34,13 @@ unfoldable pub new_step : List ℕ → ℕ → ℕ → ℕ → Option ℕ
 new_step bs at size zero = None
 new_step bs at size (suc n) = if is_new_step bs at size then Some size else new_step bs at (size + 1) n
 
--- how many bytes are left out from this place on: none where the step goes on, or where no new one begins within four
--- packets
+-- how many bytes are left out from this place on: none if the step continues, or if no new step begins within four packets
 unfoldable pub slip_size : List ℕ → ℕ → Option ℕ
 slip_size bs at = if goes_on bs at then None else new_step bs at 1 751
 
 -- 3. All slips: from a place on, with this number of packets before it, in at most n steps
 
--- a packet, or a slip, and then those after it
+-- a packet, or a slip, and then the slips after it
 unfoldable pub slip_then : Option ℕ → ℕ → ℕ → (ℕ → ℕ → List Slip) → List Slip
 slip_then None packet at after = after (packet + 1) (at + 188)
 slip_then (Some size) packet at after = record { packet = packet; start = at; size = size } ∷ after packet (at + size)
@@ -54,7 +53,7 @@ slips_from (suc n) bs packet at = if nat_lt (length bs) (at + 188) then [] else 
 unfoldable pub slips : List ℕ → List Slip
 slips bs = slips_from (length bs) bs 0 0
 
--- 4. What is carried: all bytes that are in no slip
+-- 4. The bytes that are carried: all bytes in no slip
 
 unfoldable pub carried_from : List ℕ → ℕ → List Slip → List ℕ
 carried_from bs at [] = drop at bs
@@ -63,7 +62,7 @@ carried_from bs at (s ∷ ss) = slice_range bs at s.start ++ carried_from bs (s.
 abbrev pub carried : List ℕ → List ℕ
 carried bs = carried_from bs 0 (slips bs)
 
--- from a place on, slips stand one after another within the stream
+-- from a place on, slips follow one another within the stream
 unfoldable pub AreOrdered : List ℕ → ℕ → List Slip → Type 0
 AreOrdered bs at [] = at ≤ length bs
 AreOrdered bs at (s ∷ ss) = (at ≤ s.start) × (s.start + s.size ≤ length bs) × AreOrdered bs (s.start + s.size) ss

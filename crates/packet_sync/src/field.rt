@@ -13,7 +13,7 @@ pub enum Field {
     TransportPriority,
     /// discontinuity_indicator of an adaptation field.
     Discontinuity,
-    /// random_access_indicator of an adaptation field in a packet with which no unit begins.
+    /// random_access_indicator of an adaptation field in a packet where no unit begins.
     RandomAccess,
     /// elementary_stream_priority_indicator of an adaptation field.
     StreamPriority,
@@ -31,15 +31,15 @@ pub enum Field {
     Flags,
     /// PES_scrambling_control: the PES packet is scrambled.
     Scrambling,
-    /// The header of 45 bytes that teletext (EN 300 472, 4.2) and VBI data (EN 301 775, 4.3) have, so that their data
-    /// units stand in step with packets.
+    /// The header of 45 bytes of teletext (EN 300 472, 4.2) and VBI data (EN 301 775, 4.3), which aligns their data
+    /// units with packets.
     LongHeader,
-    /// PES_private_data, 16 bytes, where audio description has its levels (ETSI TS 101 154, annex E): of a PES packet
-    /// that goes on with a unit, or not whole.
+    /// PES_private_data, 16 bytes, where audio description has its levels (ETSI TS 101 154, annex E): in a PES packet
+    /// that continues a unit, or cut short.
     PrivateData,
     /// ESCR, ES_rate, DSM_trick_mode, additional_copy_info, PES_CRC, or another part of PES_extension.
     OtherHeaderData,
-    /// A PES header that goes on in another packet: what it carries there is not read.
+    /// A PES header that continues in another packet: its bytes there are not read.
     UnreadHeader,
 }
 
@@ -88,7 +88,7 @@ impl Field {
     }
 }
 
-/// Returns the flag byte of the adaptation field of a packet; 0 where there is none.
+/// Returns the flag byte of the adaptation field of a packet; 0 if there is none.
 #[tactic(auto, unfolding(crate::specs::Fields::adaptation_flags))]
 pub(crate) fn adaptation_flags(packet: &[u8]) -> u8
     requires { length packet.now ≡ 188 }
@@ -101,7 +101,7 @@ pub(crate) fn adaptation_flags(packet: &[u8]) -> u8
     }
 }
 
-// Whether a clear payload begins with a PES packet or a section.
+// Returns whether a clear payload begins with a PES packet or a section.
 #[tactic(auto, unfolding(crate::specs::Fields::is_clear_start))]
 fn is_clear_start(packet: &[u8]) -> bool
     requires { length packet.now ≡ 188 }
@@ -110,7 +110,7 @@ fn is_clear_start(packet: &[u8]) -> bool
     packet[1] / 64 == 1 && packet[3] / 64 == 0 && packet[3] / 16 % 2 == 1
 }
 
-// Where the payload of a packet begins.
+// Returns the place in a packet where its payload begins.
 #[tactic(auto, unfolding(crate::specs::Fields::payload_place))]
 fn payload_place(packet: &[u8]) -> usize
     requires { length packet.now ≡ 188 }
@@ -123,7 +123,7 @@ fn payload_place(packet: &[u8]) -> usize
     }
 }
 
-/// Returns the clear payload at whose front a PES packet or a section begins; empty where none does.
+/// Returns the clear payload at whose front a PES packet or a section begins; empty if none does.
 #[tactic(auto, unfolding(crate::specs::Fields::start_payload))]
 pub(crate) fn start_payload(packet: &[u8]) -> &[u8]
     requires { length packet.now ≡ 188 }
@@ -158,7 +158,7 @@ pub(crate) fn begins_unit(payload: &[u8]) -> bool
     is_flagged(payload) && payload[7] >= 128
 }
 
-// Where the flags of PES_extension stand, by the second flag byte.
+// Returns the place of the flags of PES_extension, by the second flag byte.
 #[tactic(auto, unfolding(crate::specs::Fields::extension_place))]
 fn extension_place(flags: u8) -> usize
     ensures { result ≡ spec.extension_place flags }
@@ -167,7 +167,7 @@ fn extension_place(flags: u8) -> usize
     9 + bit(128) * 5 + bit(64) * 5 + bit(32) * 6 + bit(16) * 3 + bit(8) + bit(4) + bit(2) * 2
 }
 
-/// Returns the flags of PES_extension; 0 where there are none.
+/// Returns the flags of PES_extension; 0 if there are none.
 #[tactic(auto, unfolding(crate::specs::Fields::extension_flags))]
 pub(crate) fn extension_flags(payload: &[u8]) -> u8
     requires { 9 ≤ length payload.now }
@@ -181,7 +181,7 @@ pub(crate) fn extension_flags(payload: &[u8]) -> u8
     }
 }
 
-// Whether the header data end before the 16 bytes of PES_private_data do.
+// Returns whether the header data end before the 16 bytes of PES_private_data do.
 fn lacks_private_data(payload: &[u8]) -> bool
     requires { 9 ≤ length payload.now }
     ensures { result ≡ spec.lacks_private_data payload.now }
@@ -190,8 +190,8 @@ fn lacks_private_data(payload: &[u8]) -> bool
     end < 17 || end - 17 < extension_place(payload[7])
 }
 
-/// Returns whether PES_private_data is there that no unit carries: of a PES packet that goes on with a unit, or not
-/// whole.
+/// Returns whether there is PES_private_data that no unit carries: in a PES packet that continues a unit, or cut
+/// short.
 pub(crate) fn loses_private_data(payload: &[u8]) -> bool
     requires { 9 ≤ length payload.now }
     ensures { result ≡ spec.loses_private_data payload.now }

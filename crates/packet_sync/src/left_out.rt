@@ -18,7 +18,7 @@ pub struct FieldLeftOut {
     pub field: Field,
 }
 
-// The PID of a packet.
+// Returns the PID of a packet.
 #[tactic(auto, unfolding(crate::specs::FieldsLeftOut::pid_of))]
 fn pid_of(packet: &[u8]) -> u16
     requires { length packet.now ≡ 188 }
@@ -27,14 +27,14 @@ fn pid_of(packet: &[u8]) -> u16
     (packet[1] % 32) as u16 * 256 + packet[2] as u16
 }
 
-// Whether a field of a PID is there already.
+// Returns whether a field of a PID is there already.
 fn is_noted(found: &[FieldLeftOut], pid: u16, field: Field) -> bool
     ensures { result ≡ spec.is_noted found.now pid field }
 {
     found.iter().any(|other| other.pid == pid && other.field.number() == field.number())
 }
 
-// Appends a field of a PID, if it stands in a packet and is not there yet.
+// Appends a field of a PID, if it is in a packet and not noted yet.
 #[tactic(auto, unfolding(crate::specs::FieldsLeftOut::with_field))]
 fn note<A: Allocator>(
     pid: u16,
@@ -50,7 +50,8 @@ fn note<A: Allocator>(
     Ok(())
 }
 
-// Appends the indicators and the clock reference of an adaptation field, in a packet with which a unit begins or not.
+// Appends the indicators and the clock reference of an adaptation field; `begins` says whether a unit begins in its
+// packet.
 #[tactic(auto, unfolding(crate::specs::FieldsLeftOut::with_indicators))]
 fn note_indicators<A: Allocator>(
     pid: u16,
@@ -85,7 +86,7 @@ fn note_adaptation_data<A: Allocator>(
     note(pid, Field::AdaptationExtension, flags % 2 == 1, found)
 }
 
-// Appends what stands in an adaptation field.
+// Appends the fields of an adaptation field.
 fn note_adaptation<A: Allocator>(
     pid: u16,
     flags: u8,
@@ -98,7 +99,7 @@ fn note_adaptation<A: Allocator>(
     note_adaptation_data(pid, flags, found)
 }
 
-// Appends what the first flag byte of a PES header says.
+// Appends the fields of the first flag byte of a PES header.
 #[tactic(auto, unfolding(crate::specs::FieldsLeftOut::with_flags))]
 fn note_flags<A: Allocator>(
     pid: u16,
@@ -120,14 +121,14 @@ fn note_flags<A: Allocator>(
     note(pid, Field::Scrambling, flags / 16 % 4 != 0, found)
 }
 
-// Whether header data other than stamps and PES_private_data are announced.
+// Returns whether header data other than stamps and PES_private_data are announced.
 fn has_other_data(flags: u8, extension: u8) -> bool
     ensures { result ≡ fields.has_other_data flags extension }
 {
     flags / 2 % 32 != 0 || extension / 16 % 8 != 0 || extension % 2 == 1
 }
 
-// Appends what the header data of a PES header carry.
+// Appends the fields of the header data of a PES header.
 #[tactic(auto, unfolding(crate::specs::FieldsLeftOut::with_data))]
 fn note_data<A: Allocator>(
     pid: u16,
@@ -160,7 +161,7 @@ fn note_data<A: Allocator>(
     )
 }
 
-// Appends what the PES header at the front of a payload carries.
+// Appends the fields of the PES header at the front of a payload.
 #[tactic(auto, unfolding(crate::specs::FieldsLeftOut::with_header))]
 fn note_header<A: Allocator>(
     pid: u16,
@@ -182,7 +183,7 @@ fn note_header<A: Allocator>(
     note_data(pid, payload, found)
 }
 
-// Appends what stands in a packet.
+// Appends the fields of a packet.
 #[tactic(auto, unfolding(crate::specs::FieldsLeftOut::with_packet))]
 fn note_packet<A: Allocator>(
     packet: &[u8],
@@ -203,7 +204,7 @@ fn note_packet<A: Allocator>(
     note_header(pid, payload, found)
 }
 
-/// Appends what stands in the first `count` packets of bytes that stand in step, each field once of a PID.
+/// Appends the fields of the first `count` packets of bytes that are in step, each field once for a PID.
 pub(crate) fn note_packets<A: Allocator>(
     bytes: &[u8],
     count: usize,

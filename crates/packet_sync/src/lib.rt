@@ -5,7 +5,7 @@
 //! (`specs/Slips`); the bytes between slips are carried. `laws` say that a stream in step has no slip and is carried
 //! unchanged, and that nothing but the bytes of slips is left out. [`next_stretch`] returns the carried bytes while a
 //! stream arrives (`specs/Stretches`). [`StreamNotes`] keeps the notes about its packets (`specs/Notes`): its slips,
-//! and the fields of adaptation fields and PES headers that are not written again (`specs/Fields`), each once of a PID
+//! and the fields of adaptation fields and PES headers that are not written again (`specs/Fields`), each once for a PID
 //! (`specs/FieldsLeftOut`). [`other_packets`] knows packets of other sizes (`specs/OtherPackets`).
 #![tactic(auto)]
 

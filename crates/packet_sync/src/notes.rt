@@ -17,9 +17,9 @@ use std::marker::Model;
 pub struct StreamNotes<A: Allocator = Global> {
     pub slips: Vec<Slip, A>,
     pub fields: Vec<FieldLeftOut, A>,
-    /// The number of packets before the bytes that are to come.
+    /// The number of packets before the bytes still to come.
     packet: usize,
-    /// Where these begin.
+    /// The place where the bytes still to come begin.
     start: usize,
 }
 
@@ -37,7 +37,7 @@ impl<A: Allocator> Model for StreamNotes<A> {
     } };
 }
 
-// A number with so many more; a stream of 2^64 bytes or more is in no memory.
+// Returns the sum; an error instead of an overflow, as no memory holds a stream of 2^64 bytes.
 fn more(number: usize, by: usize) -> Result<usize, AllocError>
     ensures { IfOk result (λ sum. sum ≡ number + by) }
 {
@@ -48,7 +48,7 @@ fn more(number: usize, by: usize) -> Result<usize, AllocError>
 }
 
 impl<A: Allocator> StreamNotes<A> {
-    // Notes the packets in so many bytes that stand in step.
+    // Notes the packets in the first `size` bytes, which are in step.
     fn note_stretch(&mut self, bytes: &[u8], size: usize) -> Result<(), AllocError>
         requires { size ≤ length bytes.now }
         ensures { OnOk result (self.new ≡ spec.with_stretch size bytes.now self.old) }

@@ -18,7 +18,7 @@ pub enum OtherPackets {
     Corrected,
 }
 
-// Whether three packets of a size stand one after another, the first sync byte at this place.
+// Returns whether three packets of `size` bytes follow one another, with the first sync byte at `at`.
 #[tactic(auto, unfolding(crate::specs::OtherPackets::are_apart))]
 fn are_apart(bytes: &[u8], at: usize, size: usize) -> bool
     requires at { at ≤ 4 }
@@ -28,7 +28,7 @@ fn are_apart(bytes: &[u8], at: usize, size: usize) -> bool
     is_sync(bytes, at) && is_sync(bytes, at + size) && is_sync(bytes, at + 2 * size)
 }
 
-// What other packets than those of 188 bytes stand at the front.
+// Returns which packets, if not packets of 188 bytes, are at the front.
 #[tactic(auto, unfolding(crate::specs::OtherPackets::other_packets))]
 fn packets_at_front(bytes: &[u8]) -> Option<OtherPackets>
     ensures { result ≡ spec.other_packets bytes.now }

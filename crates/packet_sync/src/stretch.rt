@@ -1,4 +1,4 @@
-//! What of a stream is carried, while its bytes come.
+//! Which bytes of a stream are carried, while its bytes arrive.
 
 ghost use Rattle.std.specs.Prelude.{◌≡◌, ◌≤◌, ◌<◌, ◌+◌, true, length, if◌then◌else◌};
 ghost use Rattle.packet_sync.specs.Stretches as spec;
@@ -16,7 +16,7 @@ pub struct Stretch {
     pub slipped: usize,
 }
 
-// The number of bytes by which the packet at their front is decided.
+// Returns how many bytes decide whether the packet at their front is in step.
 fn decisive(ended: bool) -> usize
     ensures { result ≡ (if ended then 188 else 1128) }
 {

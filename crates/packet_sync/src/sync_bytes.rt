@@ -9,10 +9,10 @@ const SYNC_BYTE: u8 = 0x47;
 /// The size of a packet in bytes.
 pub(crate) const PACKET_SIZE: usize = 188;
 
-/// A new step is looked for in this number of bytes, those of four packets.
+/// A new step is searched for in this number of bytes, four packets.
 const SEARCHED: usize = 752;
 
-/// Returns whether a sync byte stands at this place.
+/// Returns whether there is a sync byte at this place.
 #[tactic(auto, unfolding(crate::specs::Slips::is_sync))]
 pub(crate) fn is_sync(bytes: &[u8], at: usize) -> bool
     ensures value { result ≡ spec.is_sync bytes.now at }
@@ -34,7 +34,7 @@ pub(crate) fn is_in_step(bytes: &[u8], at: usize) -> bool
     is_sync(bytes, at) && is_sync(bytes, at + PACKET_SIZE) && is_sync(bytes, at + 2 * PACKET_SIZE)
 }
 
-// Whether a packet begins at this place, or the stream ends before it.
+// Returns whether a packet begins at this place, or the stream ends before it.
 #[tactic(auto, unfolding(crate::specs::Slips::is_next))]
 fn is_next(bytes: &[u8], at: usize) -> bool
     ensures { result ≡ spec.is_next bytes.now at }
@@ -45,7 +45,8 @@ fn is_next(bytes: &[u8], at: usize) -> bool
     }
 }
 
-// Whether the step goes on after the packet at this place: with the next one, or with those after that.
+// Returns whether the step continues after the packet at this place: with the next packet, or with the packets after
+// it.
 #[tactic(auto, unfolding(crate::specs::Slips::goes_on))]
 fn goes_on(bytes: &[u8], at: usize) -> bool
     requires { at < 2 ^ 63 }
@@ -54,7 +55,7 @@ fn goes_on(bytes: &[u8], at: usize) -> bool
     is_next(bytes, at + PACKET_SIZE) || is_in_step(bytes, at + 2 * PACKET_SIZE)
 }
 
-// Whether a new step begins so many bytes after this place.
+// Returns whether a new step begins `size` bytes after this place.
 #[tactic(auto, unfolding(crate::specs::Slips::is_new_step))]
 fn is_new_step(bytes: &[u8], at: usize, size: usize) -> bool
     requires at { at < 2 ^ 63 }
@@ -65,7 +66,7 @@ fn is_new_step(bytes: &[u8], at: usize, size: usize) -> bool
     size % PACKET_SIZE != 0 && is_in_step(bytes, at + size)
 }
 
-// After how many bytes a new step begins.
+// Returns how many bytes later a new step begins.
 fn new_step(bytes: &[u8], at: usize) -> Option<usize>
     requires { at < 2 ^ 63 }
     ensures value { result ≡ spec.new_step bytes.now at 1 751 }
@@ -80,7 +81,7 @@ fn new_step(bytes: &[u8], at: usize) -> Option<usize>
     None
 }
 
-/// Returns how many bytes are left out before the step goes on, where it is lost after the packet at this place.
+/// Returns how many bytes are left out until a new step begins, if the step is lost after the packet at this place.
 #[tactic(auto, unfolding(crate::specs::Slips::slip_size))]
 pub(crate) fn slip_size(bytes: &[u8], at: usize) -> Option<usize>
     requires { at < 2 ^ 63 }

@@ -2,7 +2,7 @@
 use Rattle.std.specs.Prelude.{ℕ, ◌==◌, if◌then◌else◌, List, [], ◌++◌, codes, decimal, flat_map}
 use Rattle.events.specs.declared.pid_name.PidName.{PidName}
 use Rattle.events.specs.PidNames.{word}
-use Rattle.page_charts.specs.PidLabels.{LabelsState, program_number}
+use Rattle.page_curves.specs.PidLabels.{LabelsState, program_number}
 use Rattle.page_charts.specs.Stacks.{program_text}
 
 -- a PID and what it carries

@@ -1,14 +1,14 @@
 -- A picture of curves: their key, their lines beside their limits, and their numbers.
 use Rattle.std.specs.Prelude.{ℕ, ◌%◌, ◌==◌, nat_lt, Bool, if◌then◌else◌, List, [], ◌++◌, length, codes, decimal, flat_map, unwrap_or, Option}
 use Rattle.std.specs.List.{position}
-use Rattle.page_charts.specs.Slots as slots
-use Rattle.page_charts.specs.declared.frame.ChartUnit.{ChartUnit}
-use Rattle.page_charts.specs.declared.frame.Frame.{Frame}
-use Rattle.page_charts.specs.declared.pid_curves.PidCurve.{PidCurve}
-use Rattle.page_charts.specs.PidLabels.{LabelsState, pid_text}
-use Rattle.page_charts.specs.Scale.{height_of}
-use Rattle.page_charts.specs.Frames.{scales_text, top_value, unit_name, value_text}
-use Rattle.page_charts.specs.Paths.{low, numbered, numbered_back, over, point}
+use Rattle.page_curves.specs.Slots as slots
+use Rattle.page_curves.specs.declared.frame.ChartUnit.{ChartUnit}
+use Rattle.page_curves.specs.declared.frame.Frame.{Frame}
+use Rattle.page_curves.specs.declared.pid_curves.PidCurve.{PidCurve}
+use Rattle.page_curves.specs.PidLabels.{LabelsState, pid_text}
+use Rattle.page_curves.specs.Scale.{height_of}
+use Rattle.page_curves.specs.Frames.{scales_text, top_value, unit_name, value_text}
+use Rattle.page_curves.specs.Paths.{low, numbered, numbered_back, over, point}
 use Rattle.page_charts.specs.ValueTables as values
 
 -- a PID has the colour and the dashes of its place among these curves
@@ -28,7 +28,7 @@ sample_text class = codes "<span><svg class=\"sample\" viewBox=\"0 0 600 120\"><
 abbrev pub with_unit : ChartUnit → ℕ → List ℕ
 with_unit unit value = value_text unit value ++ (codes " " ++ (unit_name unit ++ codes "</span>\n"))
 
--- what a curve says, beside a piece of its line
+-- the key of a curve, after a piece of its line
 unfoldable pub key : ChartUnit → LabelsState → List PidCurve → PidCurve → List ℕ
 key unit labels order entry =
     sample_text (class_of order entry.pid)
@@ -51,7 +51,7 @@ unfoldable pub line : Frame → LabelsState → ℕ → PidCurve → List ℕ
 line f labels class entry =
     codes "<path class=\"line s" ++ (decimal class ++ (codes "\" d=\"M" ++ (numbered (point f entry.curve.span) 0 entry.curve.slots ++ title labels entry)))
 
--- what lies over a limit, and the limit
+-- the parts over a limit, and the limit
 unfoldable pub limit_head : ℕ → List ℕ
 limit_head y = codes "\"/><path class=\"limit\" d=\"M900 " ++ (decimal y ++ (codes "H9500\"/><text class=\"end\" x=\"9490\" y=\"" ++ (decimal y
     ++ codes "\" dy=\"-.4em\">limit ")))
@@ -67,7 +67,7 @@ limit f entry =
 abbrev pub limit_if : Frame → PidCurve → List ℕ
 limit_if f entry = if nat_lt 0 entry.limit then limit f entry else []
 
--- a curve; nothing where no value has come
+-- a curve; nothing if no value has come
 unfoldable pub values_text : Frame → LabelsState → ℕ → PidCurve → List ℕ
 values_text f labels class entry = band f class entry ++ (line f labels class entry ++ limit_if f entry)
 

@@ -1,15 +1,15 @@
--- A picture of the bit rates of programs, each on those after it: a curve's PID is the number of its program, 0 is none.
+-- A picture of the bit rates of programs, each stacked on the programs after it: a curve's PID is its program_number, or 0 for no program.
 use Rattle.std.specs.Prelude.{ℕ, ◌%◌, ◌==◌, nat_eq, if◌then◌else◌, List, ◌++◌, codes, decimal}
 use Rattle.std.specs.Map.{lookup}
-use Rattle.page_charts.specs.Slots as slots
-use Rattle.page_charts.specs.declared.frame.ChartUnit.TheVariants.{BitRate}
-use Rattle.page_charts.specs.declared.frame.Frame.{Frame}
-use Rattle.page_charts.specs.declared.pid_curves.PidCurve.{PidCurve}
+use Rattle.page_curves.specs.Slots as slots
+use Rattle.page_curves.specs.declared.frame.ChartUnit.TheVariants.{BitRate}
+use Rattle.page_curves.specs.declared.frame.Frame.{Frame}
+use Rattle.page_curves.specs.declared.pid_curves.PidCurve.{PidCurve}
 use Rattle.page_charts.specs.Charts.{picture_head, with_unit}
-use Rattle.page_charts.specs.Frames.{scales_text, slots_of}
-use Rattle.page_charts.specs.Paths.{numbered, point}
-use Rattle.page_charts.specs.PidLabels.{LabelsState, service_text}
-use Rattle.page_charts.specs.Scale.{across}
+use Rattle.page_curves.specs.Frames.{scales_text, slots_of}
+use Rattle.page_curves.specs.Paths.{numbered, point}
+use Rattle.page_curves.specs.PidLabels.{LabelsState, service_text}
+use Rattle.page_curves.specs.Scale.{across}
 use Rattle.page_charts.specs.ValueTables as values
 
 -- a piece of an area
@@ -25,7 +25,7 @@ abbrev pub program_text : LabelsState → ℕ → List ℕ
 program_text labels program = if program == 0 then codes "no program"
     else number_text program ++ service_text (lookup (nat_eq program) labels.services)
 
--- what the area of a number says, beside a piece of it
+-- the key of the area of a number, after a piece of it
 unfoldable pub key : LabelsState → ℕ → PidCurve → List ℕ
 key labels number entry =
     sample (number % 16)
@@ -42,7 +42,7 @@ unfoldable pub area : Frame → ℕ → PidCurve → List ℕ
 area f number entry = area_head (number % 16) (across (slots_of f entry.curve.span) 0)
     ++ (numbered (point f entry.curve.span) 0 entry.curve.slots ++ codes "h20V2200z\"/>\n")
 
--- each area is drawn over those before it, and the scales over all
+-- each area is drawn over the areas before it, and the scales over all
 unfoldable pub picture : List ℕ → Frame → List PidCurve → List ℕ
 picture name f sums = picture_head name ++ (numbered (area f) 0 sums ++ (scales_text f ++ codes "</svg>\n"))
 

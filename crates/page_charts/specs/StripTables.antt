@@ -3,18 +3,18 @@ use Rattle.std.specs.Prelude.{ℕ, ◌*◌, ◌/◌, ◌==◌, min, max, nat_eq,
 use Rattle.std.specs.List.{list_any}
 use Rattle.std.specs.Map.{lookup}
 use Rattle.events.specs.PidNames.{word}
-use Rattle.page_charts.specs.declared.frame.Frame.{Frame}
-use Rattle.page_charts.specs.declared.pid_curves.PidCurve.{PidCurve}
+use Rattle.page_curves.specs.declared.frame.Frame.{Frame}
+use Rattle.page_curves.specs.declared.pid_curves.PidCurve.{PidCurve}
 use Rattle.page_charts.specs.declared.strip.TheConstants.{STRIP}
 use Rattle.page_charts.specs.declared.strip_table.TheConstants.{STEP_COUNTS}
-use Rattle.page_charts.specs.declared.time_scale.TimeUnit.{TimeUnit}
-use Rattle.page_charts.specs.Frames.{length_of}
-use Rattle.page_charts.specs.Numbers.{grouped}
-use Rattle.page_charts.specs.Paths.{numbered}
-use Rattle.page_charts.specs.PidLabels.{LabelsState, program_number, service_text}
-use Rattle.page_charts.specs.Slots as slots
+use Rattle.page_curves.specs.declared.time_scale.TimeUnit.{TimeUnit}
+use Rattle.page_curves.specs.Frames.{length_of}
+use Rattle.page_curves.specs.Numbers.{grouped}
+use Rattle.page_curves.specs.Paths.{numbered}
+use Rattle.page_curves.specs.PidLabels.{LabelsState, program_number, service_text}
+use Rattle.page_curves.specs.Slots as slots
 use Rattle.page_charts.specs.Strips.{strip}
-use Rattle.page_charts.specs.TimeScale.{step_for, unit_millis, unit_name, unit_of}
+use Rattle.page_curves.specs.TimeScale.{step_for, unit_millis, unit_name, unit_of}
 
 -- 1. The scale of times
 
@@ -24,7 +24,7 @@ axis_line x = codes "<path class=\"grid\" d=\"M" ++ (decimal x ++ (codes " 0V160
 unfoldable pub axis_text : ℕ → ℕ → TimeUnit → List ℕ
 axis_text x moment unit = axis_line x ++ (decimal (moment / unit_millis unit) ++ (codes " " ++ (unit_name unit ++ codes "</text>")))
 
--- the end of so many steps, if it lies in the scale
+-- the mark of a moment on the scale, if it lies on the scale
 abbrev pub axis_at : Frame → ℕ → List ℕ
 axis_at f moment = if nat_lt (length_of f) moment then []
     else axis_text (STRIP * moment / max (length_of f) 1) moment (unit_of (step_for (length_of f)))

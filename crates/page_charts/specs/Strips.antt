@@ -1,19 +1,19 @@
 -- How full a buffer was over time, as a strip.
 use Rattle.std.specs.Prelude.{ℕ, ◌+◌, ◌-◌, ◌*◌, ◌/◌, ◌^◌, ◌==◌, min, max, nat_lt, if◌then◌else◌, List, [], ◌++◌, codes, decimal, flat_map, Option, Some, None}
-use Rattle.page_charts.specs.declared.bounds.Bounds.{Bounds}
-use Rattle.page_charts.specs.declared.frame.Frame.{Frame}
-use Rattle.page_charts.specs.declared.pid_curves.PidCurve.{PidCurve}
+use Rattle.page_curves.specs.declared.bounds.Bounds.{Bounds}
+use Rattle.page_curves.specs.declared.frame.Frame.{Frame}
+use Rattle.page_curves.specs.declared.pid_curves.PidCurve.{PidCurve}
 use Rattle.page_charts.specs.declared.strip.TheConstants.{LEVELS, STRIP}
-use Rattle.page_charts.specs.Frames.{window_count}
-use Rattle.page_charts.specs.Paths.{numbered}
-use Rattle.page_charts.specs.Slots.{CurveView, slot_at}
+use Rattle.page_curves.specs.Frames.{window_count}
+use Rattle.page_curves.specs.Paths.{numbered}
+use Rattle.page_curves.specs.Slots.{CurveView, slot_at}
 
 -- how full a buffer is by the most bytes in it: 0 if nothing is known, 1 to 5 by fifths of its size, 6 over it
 unfoldable pub fullness : ℕ → Option Bounds → ℕ
 fullness size None = 0
 fullness size (Some b) = if nat_lt size b.greatest then 6 else 1 + min b.greatest (2 ^ 50) * 5 / (min size (2 ^ 50) + 1)
 
--- of the slot before one, and of the one after it; before the first one and past the last one nothing is known
+-- the fullness of the slot before a slot, and of the slot after it; none before the first slot and past the last one
 abbrev pub fullness_before : PidCurve → ℕ → ℕ
 fullness_before entry slot = if slot == 0 then 0 else fullness entry.limit (slot_at entry.curve.slots (slot - 1))
 

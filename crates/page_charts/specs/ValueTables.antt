@@ -1,15 +1,15 @@
 -- The numbers of curves as a table.
 use Rattle.std.specs.Prelude.{ℕ, ◌-◌, ◌*◌, ◌/◌, ◌^◌, ◌==◌, ◌&&◌, min, nat_lt, Bool, true, false, if◌then◌else◌, List, [], ◌++◌, codes, decimal, flat_map}
 use Rattle.std.specs.Prelude.{length, Option, Some, None}
-use Rattle.page_charts.specs.declared.bounds.Bounds.{Bounds}
-use Rattle.page_charts.specs.declared.frame.ChartUnit.{ChartUnit}
-use Rattle.page_charts.specs.declared.frame.ChartUnit.TheVariants.{BitRate, Bytes, Time, Nanoseconds, Offset}
-use Rattle.page_charts.specs.declared.frame.Frame.{Frame}
-use Rattle.page_charts.specs.declared.pid_curves.PidCurve.{PidCurve}
-use Rattle.page_charts.specs.Numbers.{tenths}
-use Rattle.page_charts.specs.Frames.{shown, slots_of, unit_name, value_text}
-use Rattle.page_charts.specs.Paths.{numbered}
-use Rattle.page_charts.specs.Slots.{CurveView, slot_at}
+use Rattle.page_curves.specs.declared.bounds.Bounds.{Bounds}
+use Rattle.page_curves.specs.declared.frame.ChartUnit.{ChartUnit}
+use Rattle.page_curves.specs.declared.frame.ChartUnit.TheVariants.{BitRate, Bytes, Time, Nanoseconds, Offset}
+use Rattle.page_curves.specs.declared.frame.Frame.{Frame}
+use Rattle.page_curves.specs.declared.pid_curves.PidCurve.{PidCurve}
+use Rattle.page_curves.specs.Numbers.{tenths}
+use Rattle.page_curves.specs.Frames.{shown, slots_of, unit_name, value_text}
+use Rattle.page_curves.specs.Paths.{numbered}
+use Rattle.page_curves.specs.Slots.{CurveView, slot_at}
 
 -- when a slot begins, in ms; numbers stop at 2^64 - 1
 abbrev pub begin_of : Frame → ℕ → ℕ → ℕ
@@ -33,7 +33,7 @@ is_same step None (Some b) = false
 is_same step (Some a) None = false
 is_same step (Some a) (Some b) = is_alike step a b
 
--- what is drawn of the slot before a slot; before the first one nothing
+-- the drawn bounds of the slot before a slot; none before the first slot
 abbrev pub shown_before : Frame → CurveView → ℕ → Option Bounds
 shown_before f curve slot = if slot == 0 then None else shown f curve.span (slot - 1) (slot_at curve.slots (slot - 1))
 
@@ -48,12 +48,12 @@ values_or unit (Some b) = values unit b
 unfoldable pub row_of : Frame → ℕ → ℕ → Option Bounds → List ℕ
 row_of f pid begin b = codes "<tr><td>" ++ (decimal pid ++ (codes "<td>" ++ (tenths begin 1000 ++ values_or f.unit b)))
 
--- the row of a slot, unless its values are those of the slot before
+-- the row of a slot, unless it has the same values as the slot before
 abbrev pub row : Frame → PidCurve → ℕ → Option Bounds → List ℕ
 row f entry slot b = if is_same (step_of f.unit) (shown_before f entry.curve slot) (shown f entry.curve.span slot b) then []
     else row_of f entry.pid (begin_of f entry.curve.span slot) (shown f entry.curve.span slot b)
 
--- and of what follows the last slot, if windows do
+-- the row after the last slot, if further windows follow
 abbrev pub last_row : Frame → PidCurve → List ℕ
 last_row f entry = if nat_lt (length entry.curve.slots) (slots_of f entry.curve.span) then row f entry (length entry.curve.slots) None else []
 
@@ -65,6 +65,6 @@ head owner unit = codes
     "<details><summary>These numbers</summary><table><caption>A row is left out if its values are those of the row above.</caption><tr><th scope=col>"
     ++ (owner ++ (codes "<th scope=col>from, s<th scope=col>least, " ++ (unit ++ (codes "<th scope=col>greatest, " ++ (unit ++ codes "\n")))))
 
--- after the name of what the curves are of
+-- a table of the values of curves; `owner` heads its first column
 unfoldable pub table : List ℕ → Frame → List PidCurve → List ℕ
 table owner f curves = head owner (unit_name f.unit) ++ (flat_map (rows f) curves ++ codes "</table></details>\n")

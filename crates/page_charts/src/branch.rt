@@ -2,9 +2,9 @@
 ghost use Rattle.std.specs.Prelude.{◌≡◌, ◌++◌, OnOk, flat_map, string_bytes};
 ghost use Rattle.page_charts.specs.Branches as spec;
 
-use crate::pid_labels::PidLabels;
 use crate::stack::write_program;
 use events::PidName;
+use page_curves::PidLabels;
 use std::alloc::AllocError;
 use std::fmt::Write;
 

@@ -2,17 +2,15 @@
 ghost use Rattle.std.specs.Prelude.{◌≡◌, ◌++◌, ◌<◌, ◌≤◌, OnOk, flat_map, string_bytes};
 ghost use Rattle.page_charts.specs.Charts as spec;
 
-use crate::frame::{ChartUnit, Frame};
-use crate::frame_text::{unit_name, write_value};
-use crate::paths::{write_lows_back, write_overs, write_points};
-use crate::pid_curves::PidCurve;
-use crate::pid_labels::{PidLabels, write_pid};
-use crate::scale::height_of;
 use crate::value_table::write_value_table;
+use page_curves::{
+    ChartUnit, Frame, PidCurve, PidLabels, height_of, unit_name, write_lows_back, write_overs,
+    write_pid, write_points, write_value,
+};
 use std::alloc::AllocError;
 use std::fmt::Write;
 
-// Whether a curve is that of a PID.
+// Whether a curve belongs to a PID.
 fn is_of_pid(pid: u16, entry: &PidCurve) -> bool
     ensures { result ≡ spec.is_of_pid pid entry.now }
 {

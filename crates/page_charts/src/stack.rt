@@ -1,15 +1,11 @@
-//! A picture of the bit rates of programs, each on those after it.
+//! A picture of the bit rates of programs, one upon another.
 ghost use Rattle.std.specs.Prelude.{◌≡◌, ◌++◌, OnOk, string_bytes};
-ghost use Rattle.page_charts.specs.Paths.{numbered};
+ghost use Rattle.page_curves.specs.Paths.{numbered};
 ghost use Rattle.page_charts.specs.Stacks as spec;
 
 use crate::chart::{write_picture_head, write_with_unit};
-use crate::frame::{ChartUnit, Frame};
-use crate::paths::write_points;
-use crate::pid_curves::PidCurve;
-use crate::pid_labels::{PidLabels, write_service};
-use crate::scale::across;
 use crate::value_table::write_value_table;
+use page_curves::{ChartUnit, Frame, PidCurve, PidLabels, across, write_points, write_service};
 use std::alloc::AllocError;
 use std::fmt::Write;
 
@@ -110,7 +106,7 @@ fn write_area(
     text.push_str("h20V2200z\"/>\n")
 }
 
-// The areas of all curves: each is drawn over those before it.
+// The areas of all curves, each drawn over the areas before it.
 fn write_areas(text: &mut String, frame: &Frame, curves: &[PidCurve]) -> Result<(), AllocError>
     ensures { OnOk result (string_bytes text.new
         ≡ string_bytes text.old ++ numbered (spec.area frame.now) 0 curves.now) }
@@ -137,9 +133,9 @@ fn write_picture(
     text.push_str("</svg>\n")
 }
 
-/// Appends a picture of bit rates by program: their key, an area for each program on those of all programs after it,
-/// up to the greatest of its sums, and the numbers of its rates as a table. A curve's PID is the number of its program;
-/// program 0 is none.
+/// Appends a picture of bit rates by program: their key, an area for each program on the areas of all programs after
+/// it, up to the greatest of its sums, and its rates as a table. A curve's PID is the number of its program, 0 for no
+/// program.
 #[tactic(auto, unfolding(crate::specs::Stacks::stack))]
 pub fn write_stack(
     text: &mut String,

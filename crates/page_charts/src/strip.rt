@@ -1,20 +1,16 @@
 //! How full a buffer was over time, as a strip.
 ghost use Rattle.std.specs.Prelude.{◌≡◌, ◌++◌, ◌<◌, ◌≤◌, OnOk, flat_map, length, string_bytes};
-ghost use Rattle.page_charts.specs.Paths.{numbered};
+ghost use Rattle.page_curves.specs.Paths.{numbered};
 ghost use Rattle.page_charts.specs.Strips as spec;
 
-use crate::bounds::Bounds;
-use crate::curve::Curve;
-use crate::frame::Frame;
-use crate::pid_curves::PidCurve;
-use crate::slots::slot_at;
+use page_curves::{Bounds, Curve, Frame, PidCurve, slot_at};
 use std::alloc::AllocError;
 use std::fmt::Write;
 
 /// The width of a strip, in its units.
 pub(crate) const STRIP: u64 = 4_000;
 
-// What a strip is drawn of: five fifths of the buffer's size, and what is over it.
+// The levels of a strip: five fifths of the buffer's size, and more than its size.
 const LEVELS: [u64; 6] = [1, 2, 3, 4, 5, 6];
 
 // How full a buffer is: 0 if nothing is known, 1 to 5 by fifths of its size, 6 over it.
@@ -29,7 +25,7 @@ fn fullness(size: u64, bounds: Option<Bounds>) -> u64
     }
 }
 
-// That of the slot before one; before the first one nothing is known.
+// How full the buffer is in the slot before a slot; before the first slot nothing is known.
 fn fullness_before(entry: &PidCurve, slot: usize) -> u64
     ensures { result ≡ spec.fullness_before entry.now slot }
 {
@@ -40,7 +36,7 @@ fn fullness_before(entry: &PidCurve, slot: usize) -> u64
     }
 }
 
-// That of the slot after one.
+// How full the buffer is in the slot after a slot.
 fn fullness_after(entry: &PidCurve, slot: usize) -> u64
     requires { slot < 512 }
     ensures { result ≡ spec.fullness_after entry.now slot }

@@ -1,19 +1,15 @@
 //! A table of strips: how full each buffer was, by program, on one scale of times.
 ghost use Rattle.std.specs.Prelude.{◌≡◌, ◌++◌, ◌<◌, OnOk, flat_map, length, string_bytes};
 ghost use Rattle.std.specs.List.{list_any};
-ghost use Rattle.page_charts.specs.Paths.{numbered};
+ghost use Rattle.page_curves.specs.Paths.{numbered};
 ghost use Rattle.page_charts.specs.StripTables as spec;
 
-use crate::frame::Frame;
-use crate::numbers::write_grouped;
-use crate::pid_curves::PidCurve;
-use crate::pid_labels::{PidLabels, write_service};
 use crate::strip::{STRIP, write_strip};
-use crate::time_scale::{TimeUnit, step_for};
+use page_curves::{Frame, PidCurve, PidLabels, TimeUnit, step_for, write_grouped, write_service};
 use std::alloc::AllocError;
 use std::fmt::Write;
 
-// How many steps of the scale of times from its begin on have a line: each of these that lies in it.
+// The numbers of steps of the scale of times that have a line, if the scale is that long.
 const STEP_COUNTS: [u64; 7] = [0, 1, 2, 3, 4, 5, 6];
 
 #[tactic(auto, unfolding(crate::specs::StripTables::axis_line))]
@@ -37,7 +33,7 @@ fn write_axis_text(text: &mut String, x: u64, moment: u64, unit: TimeUnit) -> Re
     write!(text, "{count} {name}</text>")
 }
 
-// The end of so many steps of the scale of times, if it lies in it.
+// The line after a number of steps of the scale of times, if the scale is that long.
 fn write_axis_step(text: &mut String, frame: &Frame, count: u64) -> Result<(), AllocError>
     ensures { OnOk result (string_bytes text.new ≡ string_bytes text.old ++ spec.axis_step frame.now count) }
 {
@@ -84,7 +80,7 @@ fn most_head(over: bool) -> &'static str
     }
 }
 
-// The most bytes of a buffer; marked if that is over its size.
+// The most bytes of a buffer, marked if they exceed its size.
 fn write_most(text: &mut String, most: u64, size: u64) -> Result<(), AllocError>
     ensures { OnOk result (string_bytes text.new ≡ string_bytes text.old ++ spec.most_cells most size) }
 {
@@ -209,14 +205,14 @@ fn write_program(text: &mut String, labels: &PidLabels, program: u16) -> Result<
     text.push_str("\n")
 }
 
-// Whether a stream is of a program.
+// Whether a stream belongs to a program.
 fn is_of(labels: &PidLabels, program: u16, entry: &PidCurve) -> bool
     ensures { result ≡ spec.is_of labels.now program entry.now }
 {
     labels.program_number(entry.pid) == program
 }
 
-// Whether one of these streams is of a program.
+// Whether a stream of a list belongs to a program.
 fn has_program(labels: &PidLabels, transports: &[PidCurve], program: u16) -> bool
     ensures { result ≡ list_any (spec.is_of labels.now program) transports.now }
 {

@@ -1,15 +1,11 @@
 //! The numbers of curves as a table.
 ghost use Rattle.std.specs.Prelude.{◌≡◌, ◌++◌, ◌<◌, ◌≤◌, OnOk, flat_map, length, string_bytes};
 ghost use Rattle.page_charts.specs.ValueTables as spec;
-ghost use Rattle.page_charts.specs.Paths.{numbered};
+ghost use Rattle.page_curves.specs.Paths.{numbered};
 
-use crate::bounds::Bounds;
-use crate::curve::Curve;
-use crate::frame::{ChartUnit, Frame};
-use crate::frame_text::{unit_name, write_value};
-use crate::numbers::write_tenths;
-use crate::pid_curves::PidCurve;
-use crate::slots::slot_at;
+use page_curves::{
+    Bounds, ChartUnit, Curve, Frame, PidCurve, slot_at, unit_name, write_tenths, write_value,
+};
 use std::alloc::AllocError;
 use std::fmt::Write;
 
@@ -69,7 +65,7 @@ fn is_same(step: u64, a: Option<Bounds>, b: Option<Bounds>) -> bool
     }
 }
 
-// What is drawn of the slot before a slot; before the first one nothing.
+// The bounds that are drawn for the slot before a slot; none before the first slot.
 fn shown_before(frame: &Frame, curve: &Curve, slot: usize) -> Option<Bounds>
     ensures { result ≡ spec.shown_before frame.now curve.now slot }
 {
@@ -114,7 +110,7 @@ fn write_row_of(
     write_values_or(text, frame.unit, shown)
 }
 
-// The row of a slot, unless its values are those of the slot before.
+// The row of a slot, unless the slot before has the same values.
 fn write_slot(
     text: &mut String,
     frame: &Frame,

@@ -1,5 +1,5 @@
--- What is written (ISO/IEC 13818-1, 2.4.3.6 and 2.4.3.7): the flags of a unit in the first flag byte, then 80 and a PTS, or C0,
--- a PTS and a DTS, and one more with a PES extension of PES_private_data; 45 bytes where the unit asks for a long header.
+-- The written bytes (ISO/IEC 13818-1, 2.4.3.6 and 2.4.3.7): the flags of a unit in the first flag byte, then 80 and a PTS, or C0, a
+-- PTS and a DTS, and one more with a PES extension of PES_private_data; 45 bytes if the unit asks for a long header.
 use Rattle.std.specs.Prelude.{ℕ, ◌+◌, ◌*◌, ◌/◌, ◌%◌, ◌^◌, ◌==◌, nat_le, if◌then◌else◌, is_some, List, [], ◌∷◌, ◌++◌, length}
 use Rattle.bit_fields.specs.Fields.{bit}
 use Rattle.pes_packet.specs.AccessUnits.{AccessUnit}
@@ -40,7 +40,7 @@ pts_header id size marks pts = header_with id size marks 0x80 (stamp_bytes 2 pts
 unfoldable pub pts_dts_header : ℕ → ℕ → Marks → ℕ → ℕ → List ℕ
 pts_dts_header id size marks pts dts = header_with id size marks 0xC0 (stamp_bytes 3 pts ++ stamp_bytes 1 dts)
 
--- the header of a unit: a DTS exactly where the two stamps on the wire differ
+-- the header of a unit: a DTS exactly if the two stamps on the wire differ
 unfoldable pub pes_header_bytes : ℕ → ℕ → Marks → ℕ → ℕ → List ℕ
 pes_header_bytes id size marks pts dts =
     if on_wire pts == on_wire dts then pts_header id size marks (on_wire pts)

@@ -1,4 +1,4 @@
--- The marks that a PES header says.
+-- The marks that a PES header carries.
 use Rattle.std.specs.Prelude.{◌==◌, Bool, option_map}
 use Rattle.pes_packet.specs.Marks.{sixteen}
 use Rattle.pes_packet.specs.declared.marks.Marks.{Marks}

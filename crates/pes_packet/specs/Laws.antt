@@ -14,7 +14,7 @@ use Rattle.pes_packet.specs.declared.time_stamps.Stamps.TheVariants.{Pts, PtsDts
 use Rattle.pes_packet.specs.declared.reading.PesHeader.{PesHeader}
 use Rattle.pes_packet.specs.declared.marks.Marks.{Marks}
 
--- the header that is written for a unit, as it is read: a DTS exactly where the stamps on the wire differ
+-- the header that is written for a unit, as it is read: a DTS exactly if the stamps on the wire differ
 unfoldable pub written_header : ℕ → ℕ → Marks → ℕ → ℕ → PesHeader
 written_header id size marks pts dts =
     if on_wire pts == on_wire dts
@@ -62,11 +62,11 @@ MarksAreRead =
 abbrev pub MarksHaveSixteen : Type 0
 MarksHaveSixteen = (access : Bool) (header : PesHeader) → HasSixteen (header_marks access header)
 
--- a written header has 45 bytes where it is long, else 14, or 19 with a DTS, and 17 more with PES_private_data
+-- a written header has 45 bytes if it is long, otherwise 14, or 19 with a DTS, and 17 more with PES_private_data
 abbrev pub HeaderSizes : Type 0
 HeaderSizes = (id size : ℕ) (marks : Marks) (pts dts : ℕ) → length (pes_header_bytes id size marks pts dts) ≡ header_size marks pts dts
 
--- PES_packet_length counts the rest of the packet where the unit and what its marks take have at most 65,522 bytes
+-- PES_packet_length counts the rest of the packet if the unit and what its marks take have at most 65,522 bytes
 abbrev pub HeaderCounts : Type 0
 HeaderCounts =
     (id size : ℕ) (marks : Marks) (pts dts : ℕ) → size + marks_size marks ≤ 65_522
@@ -79,7 +79,7 @@ plain_header id size pts dts =
     then pes_start_bytes id (packet_length (8 + size)) ++ (0x80 ∷ 0x80 ∷ 5 ∷ []) ++ stamp_bytes 2 (on_wire pts)
     else pes_start_bytes id (packet_length (13 + size)) ++ (0x80 ∷ 0xC0 ∷ 10 ∷ []) ++ stamp_bytes 3 (on_wire pts) ++ stamp_bytes 1 (on_wire dts)
 
--- that is what is written for a unit without marks
+-- the header bytes of a unit without marks are the plain header
 abbrev pub WithoutMarks : Type 0
 WithoutMarks = (id size pts dts : ℕ) → pes_header_bytes id size no_marks pts dts ≡ plain_header id size pts dts
 

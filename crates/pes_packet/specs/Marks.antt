@@ -1,4 +1,4 @@
--- What the packets of a unit say of it beside its stamps (ISO/IEC 13818-1, 2.4.3.6 and 2.4.3.7).
+-- The marks that the packets of a unit carry in addition to its stamps (ISO/IEC 13818-1, 2.4.3.6 and 2.4.3.7).
 use Rattle.std.specs.Prelude.{ℕ, ◌+◌, ◌-◌, ◌*◌, nat_lt, Bool, false, if◌then◌else◌, Option, Some, None, is_some, List, [], ◌∷◌, ◌++◌, length, take, replicate}
 use Rattle.bit_fields.specs.Fields.{bit, flag}
 use Rattle.pes_packet.specs.declared.marks.PesFlags.{PesFlags}
@@ -8,7 +8,7 @@ use Rattle.pes_packet.specs.declared.marks.Marks.{Marks}
 abbrev pub no_flags : PesFlags
 no_flags = record { priority = false; aligned = false; copyright = false; original = false }
 
--- nothing beside the stamps
+-- no marks: the stamps alone
 abbrev pub no_marks : Marks
 no_marks = record { random_access = false; flags = no_flags; long = false; private_data = None }
 
@@ -16,7 +16,7 @@ no_marks = record { random_access = false; flags = no_flags; long = false; priva
 abbrev pub flags_in : ℕ → PesFlags
 flags_in byte = record { priority = flag byte 8; aligned = flag byte 4; copyright = flag byte 2; original = flag byte 1 }
 
--- the same flags as the number that those bits make
+-- the same flags as the number that their bits make
 abbrev pub flag_bits : PesFlags → ℕ
 flag_bits flags = bit flags.priority * 8 + bit flags.aligned * 4 + bit flags.copyright * 2 + bit flags.original
 
@@ -24,11 +24,11 @@ flag_bits flags = bit flags.priority * 8 + bit flags.aligned * 4 + bit flags.cop
 abbrev pub sixteen : List ℕ → List ℕ
 sixteen bytes = take 16 (bytes ++ replicate 16 0)
 
--- the first 16 bytes, if there are so many
+-- the first 16 bytes, if there are at least 16
 unfoldable pub first_sixteen : List ℕ → Option (List ℕ)
 first_sixteen bytes = if nat_lt (length bytes) 16 then None else Some (take 16 bytes)
 
--- a PES extension of PES_private_data alone: its flags, of which the first is PES_private_data_flag, and the 16 bytes (2.4.3.6)
+-- a PES extension of PES_private_data alone: its flags, the first being PES_private_data_flag, and the 16 bytes (2.4.3.6)
 abbrev pub extension : Option (List ℕ) → List ℕ
 extension None = []
 extension (Some private_data) = 0x8E ∷ sixteen private_data

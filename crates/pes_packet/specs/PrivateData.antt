@@ -10,11 +10,11 @@ before_extension flags =
     bit (flag flags 128) * 5 + bit (flag flags 64) * 5 + bit (flag flags 32) * 6 + bit (flag flags 16) * 3
     + bit (flag flags 8) + bit (flag flags 4) + bit (flag flags 2) * 2
 
--- that of a PES extension: 16 bytes after its flags, if PES_private_data_flag is set
+-- the PES_private_data of a PES extension: 16 bytes after its flags, if PES_private_data_flag is set
 unfoldable pub private_in : List ℕ → Option (List ℕ)
 private_in [] = None
 private_in (flags ∷ bytes) = if flag flags 128 then first_sixteen bytes else None
 
--- that of header data after this second flag byte, if PES_extension_flag is set
+-- the PES_private_data of header data after this second flag byte, if PES_extension_flag is set
 unfoldable pub private_at : ℕ → List ℕ → Option (List ℕ)
 private_at flags bytes = if flag flags 1 then private_in (drop (before_extension flags) bytes) else None

@@ -86,7 +86,7 @@ start_at (_ ∷ _ ∷ _ ∷ id ∷ high ∷ low ∷ bytes) =
     else Ok (record { id = id; len = high * 256 + low; stamps = Absent; flags = no_flags; data_length = 0; private_data = None }, 6)
 start_at bytes = Err Short
 
--- a byte at hand is not that of packet_start_code_prefix
+-- a byte at hand differs from packet_start_code_prefix
 abbrev pub misses_prefix : List ℕ → Bool
 misses_prefix bytes = list_any (λ p. not (p.0 == p.1)) (zip (0x00 ∷ 0x00 ∷ 0x01 ∷ []) bytes)
 

@@ -1,4 +1,4 @@
--- What a stream_id says (ISO/IEC 13818-1, 2.4.3.7, table 2-22).
+-- The meaning of stream_id (ISO/IEC 13818-1, 2.4.3.7, table 2-22).
 use Rattle.std.specs.Prelude.{ℕ, ◌==◌, ◌&&◌, ◌||◌, not, nat_le, Bool, if◌then◌else◌}
 
 -- flag bytes and stamps follow PES_packet_length, but not for program_stream_map, padding_stream, private_stream_2, ECM,

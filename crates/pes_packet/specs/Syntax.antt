@@ -58,7 +58,7 @@ pub record IsFlags (bytes : List ℕ) (flags : PesFlags) (stamps : Stamps) (data
   pub parts_fit : parts < 2 ^ 6
   pub length_fits : data_length < 2 ^ 8
 
--- the flag bytes, the stamps, and header data of which PES_private_data alone is read; PES_packet_length is 0 or counts them
+-- the flag bytes, the stamps, and header data, whose PES_private_data alone is read; PES_packet_length is 0 or counts them
 pub record IsFlagged (bytes : List ℕ) (header : PesHeader) : Type 0 where
   pub flags : List ℕ
   pub stamps : List ℕ

@@ -12,7 +12,7 @@ pub struct Unit<A: Allocator = Global> {
     pub dts: u64,
     /// When the unit is presented.
     pub pts: u64,
-    /// What its packets say of it beside the stamps.
+    /// The marks that its packets carry in addition to the stamps.
     pub marks: Marks,
     /// The coded bytes.
     pub bytes: Vec<u8, A>,

@@ -14,23 +14,23 @@ pub fn written_is_header()
     ensures { WrittenIsHeader }
 {}
 
-/// States that a header that `write_header` writes says the marks of its unit.
+/// States that a header that `write_header` writes carries the marks of its unit.
 pub fn marks_are_read()
     ensures { MarksAreRead }
 {}
 
-/// States that PES_private_data of the marks that a header says has 16 bytes.
+/// States that PES_private_data of the marks that a header carries has 16 bytes.
 pub fn marks_have_sixteen()
     ensures { MarksHaveSixteen }
 {}
 
-/// States that a header that `write_header` writes has 45 bytes where it is long, else 14, or 19 with a DTS, and 17
+/// States that a header that `write_header` writes has 45 bytes if it is long, otherwise 14, or 19 with a DTS, and 17
 /// more with PES_private_data.
 pub fn header_sizes()
     ensures { HeaderSizes }
 {}
 
-/// States that PES_packet_length counts the packet where its unit and what the unit's marks take have at most
+/// States that PES_packet_length counts the packet if its unit and what the unit's marks take have at most
 /// 65,522 bytes.
 pub fn header_counts()
     ensures { HeaderCounts }
@@ -51,8 +51,8 @@ pub fn payloads_join()
     ensures { (bytes : List ℕ) → PayloadsJoin bytes }
 {}
 
-/// States that the payloads of a unit have 184 bytes each, less the two in front of a unit with which a decoder may
-/// begin, and that joined they are its PES packet.
+/// States that the payloads of a unit have 184 bytes each (182 in the first, if a decoder may begin with the unit),
+/// and that joined they are its PES packet.
 pub fn unit_pieces_join()
     ensures { (access : Bool) (pes : List ℕ) → UnitPiecesJoin access pes }
 {}

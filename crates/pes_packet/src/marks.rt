@@ -1,4 +1,4 @@
-//! What the packets of a unit say of it beside its stamps (ISO/IEC 13818-1, 2.4.3.6 and 2.4.3.7).
+//! The marks that the packets of a unit carry in addition to its stamps (ISO/IEC 13818-1, 2.4.3.6 and 2.4.3.7).
 
 ghost use Rattle.std.specs.Prelude.{◌≡◌, ◌≤◌, ◌<◌, ◌+◌, ◌*◌, length};
 ghost use Rattle.bit_fields.specs.Fields.{bit};
@@ -50,7 +50,7 @@ impl PesFlags {
     }
 }
 
-/// What the packets of a unit say of it beside its stamps.
+/// The marks that the packets of a unit carry in addition to its stamps.
 #[derive(Clone, Copy, Debug, PartialEq, Eq)]
 pub struct Marks {
     /// random_access_indicator: a decoder may begin with the unit (2.4.3.5).
@@ -64,7 +64,7 @@ pub struct Marks {
 }
 
 impl Marks {
-    /// Nothing beside the stamps.
+    /// No marks: the stamps alone.
     pub const NONE: Marks = Marks {
         random_access: false,
         flags: PesFlags::NONE,

@@ -12,7 +12,7 @@ use bit_fields::append;
 /// PES_private_data_flag, no other part, the three reserved bits, no second extension flag.
 const EXTENSION_FLAGS: u8 = 0x8e;
 
-/// Returns the first 16 bytes, if there are so many.
+/// Returns the first 16 bytes, if there are at least 16.
 #[tactic(auto, unfolding(crate::specs::Marks::first_sixteen))]
 pub fn first_sixteen(bytes: &[u8]) -> Option<[u8; 16]>
     ensures { result ≡ first_sixteen bytes.now }
@@ -51,7 +51,7 @@ pub(crate) fn exactly(private_data: Option<[u8; 16]>) -> Option<[u8; 16]>
     }
 }
 
-// A part of header data of this size, where its flag is set.
+// Returns the size of a part of header data, 0 if its flag is not set.
 fn part_size(is_there: bool, size: usize) -> usize
     requires { size ≤ 6 }
     ensures value { result ≡ bit is_there * size }
@@ -60,7 +60,7 @@ fn part_size(is_there: bool, size: usize) -> usize
     if is_there { size } else { 0 }
 }
 
-// The bytes of header data before a PES extension, by the second flag byte.
+// Returns the number of bytes of header data before a PES extension, by the second flag byte.
 fn before_extension(flags: u8) -> usize
     ensures { result ≡ before_extension flags }
 {
@@ -70,7 +70,7 @@ fn before_extension(flags: u8) -> usize
     stamps + clocks + modes + part_size(flags >> 1 & 1 == 1, 2)
 }
 
-// PES_private_data of a PES extension.
+// Returns PES_private_data of a PES extension.
 #[tactic(auto, unfolding(crate::specs::PrivateData::private_in))]
 fn private_in(extension: &[u8]) -> Option<[u8; 16]>
     ensures { result ≡ private_in extension.now }

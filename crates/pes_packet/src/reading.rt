@@ -21,7 +21,7 @@ const START_CODE_PREFIX: [u8; 3] = [0x00, 0x00, 0x01];
 pub struct PesHeader {
     /// stream_id.
     pub id: u8,
-    /// PES_packet_length: the bytes after it, or 0 where it does not count them.
+    /// PES_packet_length: the bytes after it, or 0 if it does not count them.
     pub len: u16,
     /// The stamps, in units of 90 kHz modulo 2^33.
     pub stamps: Stamps,
@@ -54,7 +54,7 @@ impl PesHeader {
 /// `Prefix` as soon as one byte at hand differs from 00 00 01. PES_packet_length 0 is accepted for each
 /// stream_id, and the four bits before a stamp are not looked at.
 pub fn read_header(bytes: &[u8]) -> Result<(PesHeader, usize), PesError>
-    // What is read is what the bytes say, by the standard's table of fields.
+    // The bytes encode this header by the standard's table of fields.
     ensures found { IfOk result (λ read. IsPesHeader bytes.now read.0 read.1) }
     // What the bytes say is read.
     ensures only { (header : PesHeader) (size : ℕ) → IsPesHeader bytes.now header size → result ≡ Ok (header, size) }
@@ -64,7 +64,7 @@ pub fn read_header(bytes: &[u8]) -> Result<(PesHeader, usize), PesError>
     header_at(bytes)
 }
 
-// Whether a byte at hand is not that of packet_start_code_prefix.
+// Returns whether a byte at hand differs from packet_start_code_prefix.
 fn misses_prefix(bytes: &[u8]) -> bool
     ensures { result ≡ misses_prefix bytes.now }
 {
@@ -84,7 +84,7 @@ fn header_at(bytes: &[u8]) -> Result<(PesHeader, usize), PesError>
     start_at(bytes)
 }
 
-// packet_start_code_prefix, stream_id, PES_packet_length.
+// Reads packet_start_code_prefix, stream_id, PES_packet_length.
 #[tactic(auto, unfolding(crate::specs::Reading::start_at))]
 fn start_at(bytes: &[u8]) -> Result<(PesHeader, usize), PesError>
     ensures { result ≡ start_at bytes.now }
@@ -111,7 +111,7 @@ fn start_at(bytes: &[u8]) -> Result<(PesHeader, usize), PesError>
     }
 }
 
-// Two flag bytes, PES_header_data_length, and that many bytes at hand.
+// Reads two flag bytes, PES_header_data_length, and that many bytes at hand.
 #[tactic(auto, unfolding(crate::specs::Reading::flags_at))]
 fn flags_at(id: u8, len: u16, bytes: &[u8]) -> Result<(PesHeader, usize), PesError>
     ensures { result ≡ flags_at id len bytes.now }
@@ -127,21 +127,21 @@ fn flags_at(id: u8, len: u16, bytes: &[u8]) -> Result<(PesHeader, usize), PesErr
     }
 }
 
-// Whether the flag bytes do not begin with bits 10, or PTS_DTS_flags are 01.
+// Returns whether the flag bytes do not begin with bits 10, or PTS_DTS_flags are 01.
 fn is_bad_flags(first: u8, second: u8) -> bool
     ensures { result ≡ is_bad_flags first second }
 {
     first >> 6 != 2 || second >> 6 == 1
 }
 
-// Whether PES_packet_length is not 0 and counts less than the rest of the header.
+// Returns whether PES_packet_length is not 0 and counts less than the rest of the header.
 fn is_too_short(len: u16, size: u8) -> bool
     ensures { result ≡ is_too_short len size }
 {
     len != 0 && len < 3 + size as u16
 }
 
-// The header data, all at hand, after flags and lengths.
+// Reads the header data, all at hand, after flags and lengths.
 #[tactic(auto, unfolding(crate::specs::Reading::data_at))]
 fn data_at(
     id: u8,

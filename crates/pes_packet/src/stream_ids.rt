@@ -1,4 +1,4 @@
-//! What a stream_id says of its packets (ISO/IEC 13818-1, 2.4.3.7, table 2-22).
+//! The meaning of a stream_id for its packets (ISO/IEC 13818-1, 2.4.3.7, table 2-22).
 
 ghost use Rattle.std.specs.Prelude.{◌≡◌};
 ghost use Rattle.pes_packet.specs.StreamIds.{has_flags, is_video, is_unit_id, greatest_size, fits_packet};
@@ -13,7 +13,7 @@ pub fn has_flags(id: u8) -> bool
     !matches!(id, 0xbc | 0xbe | 0xbf | 0xf0 | 0xf1 | 0xf2 | 0xf8 | 0xff)
 }
 
-// A video stream, 1110 xxxx.
+// Returns whether a stream_id is a video stream, 1110 xxxx.
 fn is_video(id: u8) -> bool
     ensures { result ≡ is_video id }
 {
@@ -27,8 +27,8 @@ pub fn is_unit_id(id: u8) -> bool
     id == 189 || 192 <= id && id <= 239
 }
 
-/// Returns the greatest size in bytes of a unit with this stream_id: 4,000,000 for video, and for
-/// others what PES_packet_length, of 16 bits, still counts.
+/// Returns the greatest size in bytes of a unit with this stream_id: 4,000,000 for video, otherwise the greatest size
+/// that PES_packet_length, of 16 bits, can express.
 pub fn greatest_size(id: u8) -> usize
     ensures { result ≡ greatest_size id }
 {

@@ -18,7 +18,7 @@ pub enum Stamps {
     PtsDts { pts: u64, dts: u64 },
 }
 
-// Whether the three marker bits of a stamp are 1.
+// Returns whether the three marker bits of a stamp are 1.
 fn marked(bytes: &[u8; 5]) -> bool
     ensures { result ≡ marked bytes.now }
 {
@@ -40,7 +40,7 @@ fn stamp_at(bytes: &[u8; 5]) -> Result<u64, PesError>
     Ok(upper << 15 | low)
 }
 
-// Five bytes of header data and the rest.
+// Returns five bytes of header data and the rest.
 #[tactic(auto, unfolding(crate::specs::Reading::five_at))]
 fn five_at(bytes: &[u8]) -> Result<(&[u8; 5], &[u8]), PesError>
     ensures { Gives (λ five. (five.0.now, five.1.now)) result (five_at bytes.now) }
@@ -84,7 +84,7 @@ pub(crate) fn stamps_at(flags: u8, bytes: &[u8]) -> Result<Stamps, PesError>
     }
 }
 
-// Fifteen bits or three, and the marker bit after them.
+// Returns fifteen bits or three, and the marker bit after them.
 fn with_marker(bits: u16) -> u16
     requires { bits < 2 ^ 15 }
     ensures { result ≡ bits * 2 + 1 }

@@ -44,8 +44,8 @@ pub fn packet_size<A: Allocator>(base0: u64, unit: &Unit<A>) -> u64
 }
 
 /// Writes the header of a PES packet: stream_id `id`, a unit of `size` bytes with its marks, its stamps in units of 90
-/// kHz, each modulo 2^33. A DTS is written exactly where the two stamps on the wire differ, so the header has 14 bytes
-/// or 19, and 17 more with PES_private_data, or 45 where the marks ask for a long one. PES_packet_length is 0 where 16
+/// kHz, each modulo 2^33. A DTS is written exactly if the two stamps on the wire differ, so the header has 14 bytes
+/// or 19, and 17 more with PES_private_data, or 45 if the marks ask for a long one. PES_packet_length is 0 if 16
 /// bits do not count the packet: if the unit and what its marks take have at most 65,522 bytes, they do. `fits_packet`
 /// tests the requirements.
 #[tactic(auto, unfolding(crate::specs::Encoding::pes_header_bytes))]
@@ -62,7 +62,7 @@ pub fn write_header(id: u8, size: usize, marks: Marks, pts: u64, dts: u64) -> Ar
     }
 }
 
-// PES_packet_length of a number of bytes, 0 if 16 bits can't count them.
+// Returns PES_packet_length of a number of bytes, 0 if 16 bits can't count them.
 #[tactic(auto, unfolding(crate::specs::Encoding::packet_length))]
 fn packet_length(count: usize) -> u16
     ensures { result ≡ packet_length count }
@@ -70,7 +70,7 @@ fn packet_length(count: usize) -> u16
     u16::try_from(count).unwrap_or(0)
 }
 
-// packet_start_code_prefix, stream_id, PES_packet_length.
+// Returns packet_start_code_prefix, stream_id, PES_packet_length.
 #[tactic(auto, unfolding(crate::specs::Encoding::pes_start_bytes))]
 fn pes_start_bytes(id: u8, len: u16) -> [u8; 6]
     ensures { result ≡ pes_start_bytes id len }
@@ -92,7 +92,7 @@ fn append_stuffing(header: &mut ArrayVec<u8, 45>, count: usize)
     append(header, &STUFFING[..count]);
 }
 
-// A header with these bytes of stamps and the PES extension; if it is long, with the stuffing after them.
+// Returns a header with these bytes of stamps and the PES extension; if it is long, with the stuffing after them.
 #[tactic(auto, unfolding(crate::specs::Encoding::header_with))]
 fn header_with(id: u8, size: usize, marks: Marks, second: u8, stamps: &[u8]) -> ArrayVec<u8, 45>
     requires size { size ≤ 4_000_000 }
@@ -124,7 +124,7 @@ fn header_with(id: u8, size: usize, marks: Marks, second: u8, stamps: &[u8]) -> 
     header
 }
 
-// A header with a PTS alone.
+// Returns a header with a PTS alone.
 #[tactic(auto, unfolding(crate::specs::Encoding::pts_header, crate::specs::Encoding::stamp_bytes))]
 fn pts_header(id: u8, size: usize, marks: Marks, pts: u64) -> ArrayVec<u8, 45>
     requires size { size ≤ 4_000_000 }
@@ -135,7 +135,7 @@ fn pts_header(id: u8, size: usize, marks: Marks, pts: u64) -> ArrayVec<u8, 45>
     header_with(id, size, marks, 0x80, &stamps)
 }
 
-// A header with a PTS and a DTS.
+// Returns a header with a PTS and a DTS.
 #[tactic(auto, unfolding(crate::specs::Encoding::pts_dts_header, crate::specs::Encoding::stamp_bytes))]
 fn pts_dts_header(id: u8, size: usize, marks: Marks, pts: u64, dts: u64) -> ArrayVec<u8, 45>
     requires size { size ≤ 4_000_000 }

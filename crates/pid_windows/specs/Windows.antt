@@ -1,6 +1,6 @@
 -- Packets by window of time and by PID.
 --
--- Packets come in the order of their windows. What is kept are the counts of one window, the last one.
+-- Packets arrive in the order of their windows. Only the counts of the last window are kept.
 use Rattle.std.specs.Prelude.{ℕ, ◌+◌, ◌^◌, ◌-◌, ◌==◌, min, Bool, if◌then◌else◌, List, [], nat_eq, Option, Some, None}
 use Rattle.std.specs.Map.{lookup}
 use Rattle.indexmap.specs.IndexMap.{insert_entry}
@@ -18,14 +18,14 @@ counts_or_zero (Some counts) = counts
 abbrev pub counts_of : ℕ → List (ℕ × PidCounts) → PidCounts
 counts_of pid entries = counts_or_zero (lookup (nat_eq pid) entries)
 
--- with one packet more, that has a program_clock_reference or not
+-- the counts with one more packet, with or without a program_clock_reference
 unfoldable pub with_one : PidCounts → Bool → PidCounts
 with_one counts pcr = record { packets = one_more counts.packets; pcrs = if pcr then one_more counts.pcrs else counts.pcrs }
 
 abbrev pub with_packet : List (ℕ × PidCounts) → ℕ → Bool → List (ℕ × PidCounts)
 with_packet entries pid pcr = insert_entry nat_eq entries pid (with_one (counts_of pid entries) pcr)
 
--- a window by its number, and the counts of the PIDs that have a packet in it, in the order in which these are first seen
+-- a window by its number, and the counts of the PIDs that have a packet in it, in the order of their first packets
 pub record WindowView : Type 0 where
   pub number : ℕ
   pub counts : List (ℕ × PidCounts)
@@ -34,10 +34,10 @@ pub record WindowView : Type 0 where
 abbrev pub no_packet : WindowView
 no_packet = record { number = 0; counts = [] }
 
--- the counts of a window so far: another one than that of the last packet has none
+-- the counts of a window so far: empty if it is not the window of the last packet
 unfoldable pub counts_in : WindowView → ℕ → List (ℕ × PidCounts)
 counts_in state window = if state.number == window then state.counts else []
 
--- after a packet of a window
+-- the state after a packet of a window
 abbrev pub taken : WindowView → ℕ → ℕ → Bool → WindowView
 taken state window pid pcr = record { number = window; counts = with_packet (counts_in state window) pid pcr }

@@ -32,7 +32,7 @@ impl<A: Allocator> Model for PidWindow<A> {
     ghost view = { λ w. record { number = w.number; counts = w.counts.entries } };
 }
 
-// These counts with one packet more. They stop at 2^64 - 1.
+// Returns these counts with one more packet. They stop at 2^64 - 1.
 #[tactic(auto, unfolding(crate::specs::Windows::with_one))]
 fn with_one(counts: PidCounts, pcr: bool) -> PidCounts
     ensures { result ≡ with_one counts pcr }

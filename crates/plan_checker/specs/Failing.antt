@@ -1,4 +1,4 @@
--- The conditions that a plan does not keep, and the search for those from a number on.
+-- The conditions that a plan does not keep, and the search for such conditions from a number on.
 use Rattle.std.specs.Prelude.{ℕ, ◌-◌, ◌==◌, Bool, List, [], ◌∷◌, ◌++◌, filter, is_none, length, map, nat_le, not, if◌then◌else◌}
 use Rattle.description_parts.specs.Described.{Described}
 use Rattle.slot_plan.specs.Planned.{Planned}
@@ -19,13 +19,13 @@ failing_of es = filter fails es
 abbrev pub failing : Described → Planned → List Entry
 failing d p = failing_of (entries d p)
 
--- those that are asked for it: the shape, or, where it holds, the timing
+-- the conditions that the plan is checked for: its shape, or, if the shape holds, its timing
 abbrev pub asked_entries : Described → Planned → List Entry
 asked_entries d p = if is_none (first_failing (shape_entries d p)) then timing_entries d p else shape_entries d p
 
--- 2. The search for those from a number on
+-- 2. The search for the failing conditions from a number on
 
--- how many have still to fail before the first that is kept, how many are kept at most, and those that are kept
+-- how many conditions have still to fail before the first that is kept, how many are kept at most, and the conditions kept
 pub record Search : Type 0 where
   pub left : ℕ
   pub most : ℕ

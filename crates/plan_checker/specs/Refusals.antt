@@ -12,7 +12,7 @@ abbrev pub failed : {V : Type 0} → Result V Refusal → Option Entry
 failed (Ok v) = None
 failed (Err r) = Some (entry_of r)
 
--- the same of an answer that hands back what it was given
+-- the same for an answer that hands its inputs back
 abbrev pub refusal_of : {V D P : Type 0} → Result V (Refusal × D × P) → Option Entry
 refusal_of (Ok v) = None
 refusal_of (Err e) = Some (entry_of e.0)

@@ -27,8 +27,8 @@ use std::alloc::Allocator;
 use unit_timing::buffers::{BSYS_DRAIN, BSYS_SIZE, SYSTEM_TB_DRAIN, TB_SIZE};
 use unit_timing::multiplexing_buffer::MultiplexingBuffer;
 
-/// The three parts of a buffer: a packet finds `room`, the work after it is at most `peak`, and a period leaves at most
-/// the work `start` with which it began.
+/// Checks the three parts of a buffer: a packet finds `room`, the work after it is at most `peak`, and a period
+/// leaves at most the work `start` that it began with.
 fn buffer(
     condition: Condition,
     item: u32,
@@ -49,8 +49,8 @@ fn buffer(
     at_most(condition, 3, item, work.left as u128, start as u128, search);
 }
 
-/// Two parts more of the buffer of stream number `i`, if it has to be empty at least once a second: a period has a slot
-/// in which it becomes empty, and the longest time from one of them to the next is at most a second.
+/// Checks two parts more of the buffer of stream number `i`, if it has to be empty at least once a second: it becomes
+/// empty in some slot of a period, and the longest time from one such slot to the next is at most a second.
 fn emptied(
     condition: Condition,
     i: usize,
@@ -93,7 +93,7 @@ impl<A: Allocator> ItemCondition<ShapedPlan<'_, A>> for StreamBuffers {
     }
 }
 
-/// The transport buffer of one stream.
+/// Checks the transport buffer of one stream.
 fn stream_buffer<A: Allocator>(
     plans: &ShapedPlan<'_, A>,
     i: usize,
@@ -110,7 +110,7 @@ fn stream_buffer<A: Allocator>(
     stream_emptied(plans, i, stream, search);
 }
 
-/// Whether it has room for each packet.
+/// Checks whether it has room for each packet.
 fn stream_overflow<A: Allocator>(
     plans: &ShapedPlan<'_, A>,
     i: usize,
@@ -146,7 +146,7 @@ fn stream_overflow<A: Allocator>(
     );
 }
 
-/// Whether it is empty at least once a second, if there is a multiplexing buffer after it.
+/// Checks whether it is empty at least once a second, if there is a multiplexing buffer after it.
 fn stream_emptied<A: Allocator>(
     plans: &ShapedPlan<'_, A>,
     i: usize,
@@ -259,7 +259,7 @@ impl<A: Allocator> ItemCondition<ShapedPlan<'_, A>> for MultiplexingBuffers {
     }
 }
 
-/// The multiplexing buffer of one stream, where it has one.
+/// Checks the multiplexing buffer of one stream, if it has one.
 fn multiplexing_buffer<A: Allocator>(
     plans: &ShapedPlan<'_, A>,
     i: usize,
@@ -278,7 +278,7 @@ fn multiplexing_buffer<A: Allocator>(
     leaking_buffer(plans, i, stream, buffered, search);
 }
 
-/// A multiplexing buffer.
+/// Checks a multiplexing buffer.
 #[tactic(auto, using(crate::proofs::Leaks::leak_most, crate::proofs::Leaks::size_most))]
 fn leaking_buffer<A: Allocator>(
     plans: &ShapedPlan<'_, A>,

@@ -15,8 +15,8 @@ use arrayvec::ArrayVec;
 use slot_plan::{Description, Plan};
 use std::alloc::{AllocError, Allocator};
 
-/// Goes on with a search through the conditions of a plan for a description: those of its shape, or those of its timing
-/// where it has its shape.
+/// Continues a search through the conditions of a plan for a description: the conditions of its shape, or, if these
+/// hold, the conditions of its timing.
 fn search_conditions<A: Allocator>(
     description: &Description,
     plan: &Plan<A>,

@@ -1,4 +1,4 @@
-//! What a plan claims of an item.
+//! A plan's claims for an item.
 
 ghost use Rattle.std.specs.Prelude.{◌≡◌, ◌^◌, ◌<◌, length, true};
 ghost use Rattle.slot_plan.specs.Claims.{stream_claim, program_claim, claimed_multiplexing, multiplexing_claim};
@@ -29,7 +29,7 @@ pub fn claim_of_program<A: Allocator>(plan: &Plan<A>, i: usize) -> ProgramEntry
     plan.certificate().programs[i]
 }
 
-/// Returns a claim on a multiplexing buffer; no claim is one of no work.
+/// Returns a claim on a multiplexing buffer; no claim means no work.
 fn claimed_multiplexing(claim: Option<MultiplexingEntry>) -> MultiplexingEntry
     requires { is_small_multiplexing claim ≡ true }
     ensures claim { result ≡ claimed_multiplexing claim }

@@ -26,7 +26,7 @@ pub fn rate_given(count: u64, time: u64, rate: u64) -> u128
 }
 
 /// Returns the latest time at which the last of the packets that take `slots` slots has left a
-/// buffer, where `count` is the product of the own slots of the periods.
+/// buffer, if `count` is the product of the own slots of the periods.
 pub fn time_needed(slots: u128, count: u128, rx: u64, peak: u64) -> u128
     requires slots { slots < 2 ^ 60 }
     requires count { count ≤ 2 ^ 32 }

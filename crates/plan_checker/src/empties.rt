@@ -1,4 +1,4 @@
-//! The slots of a period in which a buffer becomes empty (ISO/IEC 13818-1, 2.4.2.6).
+//! The slots of a period where a buffer becomes empty (ISO/IEC 13818-1, 2.4.2.6).
 
 ghost use Rattle.std.specs.Prelude.{◌≡◌, ◌+◌, ◌*◌, ◌^◌, ◌<◌, ◌≤◌, length};
 ghost use Rattle.own_slots.specs.Period.{per_period, position, back};
@@ -10,31 +10,31 @@ ghost use Rattle.plan_checker.specs.EmptyWalks.{passed, rounded};
 
 use slot_plan::{Item, Slot};
 
-/// The slots of a period in which a buffer becomes empty, in numbers.
+/// The slots of a period where a buffer becomes empty, in numbers.
 #[derive(Clone, Copy, PartialEq, Eq)]
 pub struct EmptySlots {
     /// How many there are.
     pub count: u64,
-    /// The first of them, 0 if there is none.
+    /// The first such slot, 0 if there is none.
     pub first: u64,
-    /// The slots from the last of them to the period's end, the whole period if there is none.
+    /// The slots from the last such slot to the period's end, the whole period if there is none.
     pub back: u64,
-    /// The greatest distance in slots from one of them to the next, round the period's end too.
+    /// The greatest distance in slots from one such slot to the next, also across the period's end.
     pub gap: u64,
 }
 
-/// Such slots among those that a walk over a period has passed.
+/// The slots where a buffer becomes empty, among the slots that a walk over a period has passed.
 #[derive(Clone, Copy, PartialEq, Eq)]
 pub struct EmptyWalk {
     pub count: u64,
     pub first: u64,
     pub last: u64,
-    /// The greatest distance from one of them to the next.
+    /// The greatest distance from one such slot to the next.
     pub longest: u64,
 }
 
 impl EmptyWalk {
-    /// Returns the walk past slot `at`, in which the buffer becomes empty or not.
+    /// Returns the walk past slot `at`; `is_empty` says whether the buffer becomes empty there.
     fn passed(self, at: u64, is_empty: bool) -> EmptyWalk
         requires count { self.count < 2 ^ 32 }
         requires later { self.last ≤ at }
@@ -102,7 +102,7 @@ fn is_emptied(drain: u64, work: u64, owns: bool) -> bool
     !owns && work.saturating_sub(drained) < drained
 }
 
-/// Returns the slots of a period in which the buffer of an item becomes empty, if the period begins with the work
+/// Returns the slots of a period where the buffer of an item becomes empty, if the period begins with the work
 /// `start`.
 pub fn empty_slots(slots: &[Slot], item: Item, rate: u64, drain: u64, start: u64) -> EmptySlots
     requires short { length slots.now ≤ 65536 }

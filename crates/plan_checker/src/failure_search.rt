@@ -24,7 +24,7 @@ impl FailureSearch {
     ghost use Rattle.plan_checker.specs.Failing.{after_failure, is_full, search_of, start};
     ghost use Rattle.plan_checker.specs.Refusals.{entry_of};
 
-    /// Returns the search for the failing conditions from that number on, of which it keeps so many at most.
+    /// Returns the search for the failing conditions from that number on, which keeps at most `most` of them.
     pub fn new(number: usize, most: usize) -> FailureSearch
         requires { most ≤ 1024 }
         ensures { search_of result ≡ start number most }

@@ -36,7 +36,7 @@ pub fn left_of_unit(framing: Framing, gone: u8) -> u128
     framing.frames.saturating_sub(gone) as u128 * framing.frame_size as u128
 }
 
-/// Returns what waits when `gone` access units of a unit have been removed.
+/// Returns the bytes that wait when `gone` access units of a unit have been removed.
 fn framed_waiting<A: Allocator>(
     plans: &ShapedPlan<'_, A>,
     i: usize,
@@ -79,7 +79,7 @@ pub fn frame_rooms<A: Allocator>(
     framed_rooms(plans, i, stream, framing, search);
 }
 
-/// One access unit removed, and up to all but one.
+/// Checks the room when one access unit has been removed, and so on up to all but one.
 fn framed_rooms<A: Allocator>(
     plans: &ShapedPlan<'_, A>,
     i: usize,
@@ -99,7 +99,7 @@ fn framed_rooms<A: Allocator>(
     }
 }
 
-/// So many access units removed.
+/// Checks the room of the main buffer when `gone` access units of a unit have been removed.
 fn frame_room<A: Allocator>(
     plans: &ShapedPlan<'_, A>,
     i: usize,

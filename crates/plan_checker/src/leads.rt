@@ -46,7 +46,7 @@ pub fn packets_in_row(stream: &StreamDescription, units: u8) -> u64
     }
 }
 
-/// Returns the part of a condition on `units` units in a row: 0 where the stream has no groups.
+/// Returns the part of a condition on `units` units in a row: 0 if the stream has no groups.
 pub fn group_part(stream: &StreamDescription, units: u8) -> u8
     ensures { result ≡ group_part stream.now units }
 {
@@ -85,7 +85,7 @@ impl<A: Allocator> ItemCondition<ShapedPlan<'_, A>> for StreamLeads {
     }
 }
 
-/// The units of one stream.
+/// Checks the units of one stream.
 fn stream_lead<A: Allocator>(
     plans: &ShapedPlan<'_, A>,
     i: usize,
@@ -127,7 +127,7 @@ impl<A: Allocator> ItemCondition<ShapedPlan<'_, A>> for ElementaryLeads {
     }
 }
 
-/// The units of one stream, where it has a multiplexing buffer.
+/// Checks the units of one stream, if it has a multiplexing buffer.
 #[tactic(auto, using(crate::proofs::Leaks::leak_most))]
 fn elementary_lead<A: Allocator>(
     plans: &ShapedPlan<'_, A>,
@@ -152,7 +152,7 @@ fn elementary_lead<A: Allocator>(
     row_leads(Condition::ElementaryLead, plans, i, stream, way, search);
 }
 
-/// The units of one stream on one way.
+/// Checks the units of one stream on one way.
 fn row_leads<A: Allocator>(
     condition: Condition,
     plans: &ShapedPlan<'_, A>,
@@ -176,7 +176,7 @@ fn row_leads<A: Allocator>(
     }
 }
 
-/// `units` units in a row of stream number `i`, which has `count` own slots a period, on one way.
+/// Checks `units` units in a row of stream number `i`, which has `count` own slots a period, on one way.
 #[tactic(auto, using(description::proofs::Allowed::rows_most))]
 fn units_lead<A: Allocator>(
     condition: Condition,

@@ -1,4 +1,4 @@
-//! What waits for its decoding time finds room in the main buffer (ISO/IEC 13818-1, 2.4.2.3).
+//! The bytes that wait for their decoding time find room in the main buffer (ISO/IEC 13818-1, 2.4.2.3).
 
 ghost use Rattle.std.specs.Prelude.{◌≡◌, ◌^◌, ◌<◌, ◌≤◌, ◌∷◌, [], length};
 ghost use Rattle.description_parts.specs.Ranges.{IsStream};
@@ -61,7 +61,7 @@ pub fn sent_within<A: Allocator>(
     184 * slots_within(count, slots.len() as u64, spread, window)
 }
 
-/// Returns the bytes that can wait at once where units are sent at most `lead` units of 90 kHz before their
+/// Returns the bytes that can wait at once if units are sent at most `lead` units of 90 kHz before their
 /// decoding times.
 pub fn bytes_waiting<A: Allocator>(
     plans: &ShapedPlan<'_, A>,
@@ -103,7 +103,7 @@ impl<A: Allocator> ItemCondition<ShapedPlan<'_, A>> for MainBuffers {
     }
 }
 
-/// The main buffer of one stream, for whole units and for their access units one by one.
+/// Checks the main buffer of one stream, for whole units and for their access units one by one.
 fn main_rooms<A: Allocator>(
     plans: &ShapedPlan<'_, A>,
     i: usize,
@@ -121,7 +121,7 @@ fn main_rooms<A: Allocator>(
     frame_rooms(plans, i, stream, search);
 }
 
-/// The main buffer of one stream, for whole units.
+/// Checks the main buffer of one stream, for whole units.
 fn main_room<A: Allocator>(
     plans: &ShapedPlan<'_, A>,
     i: usize,

@@ -44,7 +44,7 @@ pub fn is_shaped<A: Allocator>(description: &Description, plan: &Plan<A>) -> boo
     !search.is_done()
 }
 
-/// A period has slots, and at most 65,536.
+/// Checks that a period has slots, and at most 65,536.
 fn period<A: Allocator>(plan: &Plan<A>, search: &mut FailureSearch)
     ensures { search_of search.new ≡ after (search_of search.old) (length_entries plan.now) }
 {
@@ -78,7 +78,7 @@ impl<A: Allocator> ItemCondition<AnyPlan<'_, A>> for Names {
     }
 }
 
-/// An item has a slot.
+/// Checks that an item has a slot.
 fn owner<A: Allocator>(plan: &Plan<A>, number: usize, item: Item, search: &mut FailureSearch)
     requires { number < 100000 }
     ensures { search_of search.new ≡ after (search_of search.old) (owner_entry plan.now number item ∷ []) }
@@ -154,7 +154,7 @@ impl<A: Allocator> ItemCondition<AnyPlan<'_, A>> for TableOwners {
     }
 }
 
-/// The certificate has an entry for each stream and for each program.
+/// Checks that the certificate has an entry for each stream and for each program.
 fn claims<A: Allocator>(description: &Description, plan: &Plan<A>, search: &mut FailureSearch)
     ensures { search_of search.new ≡ after (search_of search.old) (claim_entries description.now plan.now) }
 {

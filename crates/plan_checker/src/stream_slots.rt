@@ -74,7 +74,7 @@ pub fn steady_time(stream: &StreamDescription) -> u64
     }
 }
 
-/// Each stream has slots enough for what its units have in the long run.
+/// Each stream has slots enough for the packets of its units in the long run.
 pub struct StreamRates;
 
 impl<A: Allocator> ItemCondition<ShapedPlan<'_, A>> for StreamRates {

@@ -10,7 +10,7 @@ use clock27::SLOT_UNITS_AT_1BPS;
 use slot_plan::StreamDescription;
 use unit_timing::allowance::Allowance;
 
-/// Returns the units that can wait at once where they are sent at most `lead` units of 90 kHz before their decoding
+/// Returns the units that can wait at once if they are sent at most `lead` units of 90 kHz before their decoding
 /// times, rounded up.
 fn waiting_units(stream: &StreamDescription, lead: u64) -> u64
     requires ranges { IsStream stream.now }

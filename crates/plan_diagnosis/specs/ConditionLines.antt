@@ -69,7 +69,7 @@ table_gap_line d e = table_name d e.item ++ claim_words (codes "limit") (e.right
 abbrev pub spread_line : Described → Entry → List ℕ
 spread_line d e = stream_name d e.item ++ claim_words (codes "spread") e.right e.left
 
--- what one slot of a period gives
+-- the share that one slot of a period gives
 abbrev pub slot_share : ℕ → DescribedStream → ℕ
 slot_share rate s = max (steady_time s.allowance s.interval * rate) 1
 
@@ -91,7 +91,7 @@ size_words buffer room wanted = buffer ++ decimal room ++ codes " is less than "
 abbrev pub room_words : List ℕ → ℕ → Entry → List ℕ
 room_words buffer rate e = size_words buffer (e.right / rate) (div_ceil e.left rate)
 
--- it is never empty; or the slots from one in which it becomes empty to the next are more than a second has
+-- a buffer is never empty; or there are more slots than a second has between two slots when it becomes empty
 unfoldable pub never_empty_words : List ℕ → List ℕ
 never_empty_words buffer = buffer ++ codes "is never empty\n"
 
@@ -131,11 +131,11 @@ units_in_row e = max e.part 1
 abbrev pub time_of_row : Entry → DescribedStream → ℕ
 time_of_row e s = (units_in_row e - 1) * s.interval
 
--- what a unit of 90 kHz gives
+-- the share that a unit of 90 kHz gives
 abbrev pub lead_share : Entry → DescribedStream → ℕ
 lead_share e s = max (e.right / max (s.lead + time_of_row e s) 1) 1
 
--- the least lead with which the condition is kept
+-- the least lead that keeps the condition
 abbrev pub lead_for : Entry → DescribedStream → ℕ
 lead_for e s = div_ceil e.left (lead_share e s) - time_of_row e s
 

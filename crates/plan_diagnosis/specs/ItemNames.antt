@@ -1,11 +1,11 @@
--- How the items of a description are named: a stream by its PID, a program by its program_number, a table by what it is.
+-- How the items of a description are named: a stream by its PID, a program by its program_number, a table by its kind.
 use Rattle.std.specs.Prelude.{ℕ, List, ◌++◌, Option, Some, None, codes, decimal, slice_get}
 use Rattle.description_parts.specs.Described.{Described, DescribedProgram, DescribedStream}
 use Rattle.description_parts.specs.Tables.{table_kind}
 use Rattle.description_parts.specs.declared.table_kind.TableKind.{TableKind}
 use Rattle.description_parts.specs.declared.table_kind.TableKind.TheVariants.{Pat, Pmt, Nit, Sdt, Eit, Tdt, Private}
 
--- a number that names nothing stands for itself
+-- a number that names nothing is its own name
 unfoldable pub name_of_stream : ℕ → Option DescribedStream → List ℕ
 name_of_stream i (Some s) = codes "pid " ++ decimal s.pid
 name_of_stream i None = codes "stream " ++ decimal i

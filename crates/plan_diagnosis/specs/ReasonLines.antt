@@ -29,32 +29,32 @@ greatest_main = 10000000
 abbrev pub key_words : List ℕ → ℕ → List ℕ
 key_words key value = codes " " ++ key ++ codes " " ++ decimal value
 
--- the least that would do; where it is over the greatest of the key, none would
+-- the least sufficient value; if it exceeds the greatest value of the key, none is sufficient
 abbrev pub least_words : ℕ → ℕ → List ℕ
 least_words least greatest = if nat_lt greatest least then codes ": none is enough" else codes " is less than " ++ decimal least
 
--- a value that is less than the least that would do, and what asks for that
+-- a value that is less than the least sufficient value, and what asks for that value
 abbrev pub less_words : List ℕ → ℕ → ℕ → ℕ → List ℕ → List ℕ
 less_words key value least greatest cause = key_words key value ++ (least_words least greatest ++ cause)
 
--- what asks for it: a slot; what comes within the lead
+-- the causes that ask for it: a slot; the units within the lead
 unfoldable pub slot_cause : List ℕ
 slot_cause = codes " for a slot\n"
 
 unfoldable pub within_lead_cause : List ℕ
 within_lead_cause = codes " for what comes within its lead\n"
 
--- by what units ask for slots and for a drain in the long run
+-- the numbers that make units ask for slots and for a drain in the long run
 unfoldable pub steady_cause : Allowance → List ℕ
 steady_cause (Groups units packets) = if units == 1 then codes " for its size and interval\n" else codes " for its group_packets and interval\n"
 steady_cause (Pace burst pace) = codes " for its pace\n"
 
--- by what units ask for slots at once
+-- the numbers that make units ask for slots at once
 unfoldable pub row_cause : Allowance → List ℕ
 row_cause (Groups units packets) = if units == 1 then codes " for its size\n" else codes " for its group_packets\n"
 row_cause (Pace burst pace) = codes " for its burst_packets\n"
 
--- what is said of the limit of a program's clock references
+-- the words for the limit of a program's clock references
 abbrev pub pcr_words : ℕ → DescribedProgram → ℕ → List ℕ → List ℕ
 pcr_words i p least cause = name_of_program i (Some p) ++ less_words (codes "pcr_limit") p.pcr_limit least greatest_pcr_limit cause
 
@@ -70,7 +70,7 @@ key_of Rbx = codes "rbx"
 key_of Lead = codes "lead"
 key_of Main = codes "main"
 
--- the rate of a leak; 0 where there is none
+-- the rate of a leak; 0 if there is none
 abbrev pub rbx_of : Option MultiplexingBuffer → ℕ
 rbx_of None = 0
 rbx_of (Some b) = b.rbx
@@ -93,7 +93,7 @@ cause_of Rbx allowance = steady_cause allowance
 cause_of Lead allowance = row_cause allowance
 cause_of Main allowance = within_lead_cause
 
--- one of them is too small
+-- the line for a number of a stream that is too small
 unfoldable pub stream_line : StreamNumber → ℕ → ℕ → Option DescribedStream → List ℕ
 stream_line number i least None = []
 stream_line number i least (Some s) =

@@ -15,7 +15,7 @@ use plan_checker::Refusal;
 use std::alloc::AllocError;
 use std::fmt::Write;
 
-// Appends the room of a buffer, and what is wanted.
+// Appends the room of a buffer, and the room that its slots need.
 fn write_sizes(buffer: &str, room: u128, wanted: u128, text: &mut String) -> Result<(), AllocError>
     ensures { OnOk result (string_bytes text.new
         ≡ string_bytes text.old ++ spec.size_words buffer.now room wanted) }
@@ -158,7 +158,7 @@ pub fn write_multiplexing(
     )
 }
 
-// The time from the first to the last of the units in a row, in units of 90 kHz.
+// Returns the time from the first to the last of the units in a row, in units of 90 kHz.
 fn time_of_row(refusal: Refusal, stream: &StreamDescription) -> u128
     ensures time { result ≡ spec.time_of_row (entry_of refusal) stream.now }
     ensures bound { result < 2 ^ 64 }
@@ -166,7 +166,7 @@ fn time_of_row(refusal: Refusal, stream: &StreamDescription) -> u128
     u128::from(refusal.part.max(1) - 1) * u128::from(stream.interval)
 }
 
-// The least lead with which the condition is kept, in units of 90 kHz.
+// Returns the least lead that keeps the condition, in units of 90 kHz.
 fn lead_for(refusal: Refusal, stream: &StreamDescription) -> u128
     ensures { result ≡ spec.lead_for (entry_of refusal) stream.now }
 {
@@ -192,14 +192,14 @@ fn write_least_lead(lead: u128, least: u128, text: &mut String) -> Result<(), Al
     write_least(least, GREATEST_LEAD, text)
 }
 
-// The units in a row of a condition.
+// Returns the units in a row of a condition.
 fn units_in_row(refusal: Refusal) -> u8
     ensures { result ≡ spec.units_in_row (entry_of refusal) }
 {
     refusal.part.max(1)
 }
 
-// Appends the lead of a stream and the least with which a condition is kept.
+// Appends the lead of a stream and the least lead that keeps a condition.
 fn write_lead_words(
     refusal: Refusal,
     stream: &StreamDescription,

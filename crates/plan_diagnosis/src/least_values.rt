@@ -13,7 +13,7 @@ pub fn write_key(key: &str, value: u128, text: &mut String) -> Result<(), AllocE
     write!(text, " {key} {value}")
 }
 
-/// Appends the least that would do; where it is over the greatest of the key, none would.
+/// Appends the least sufficient value; if it exceeds the greatest value of the key, none is sufficient.
 pub fn write_least(least: u128, greatest: u128, text: &mut String) -> Result<(), AllocError>
     ensures { OnOk result (string_bytes text.new ≡ string_bytes text.old ++ spec.least_words least greatest) }
 {
@@ -24,7 +24,7 @@ pub fn write_least(least: u128, greatest: u128, text: &mut String) -> Result<(),
     }
 }
 
-/// Appends a value that is less than the least that would do, and what asks for that.
+/// Appends a value that is less than the least sufficient value, and what asks for that value.
 pub fn write_less(
     key: &str,
     value: u128,

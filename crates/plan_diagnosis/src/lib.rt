@@ -1,10 +1,10 @@
-//! What is wrong with a plan, or why none serves, in words.
+//! Explains in words which conditions a plan breaks, or why no plan serves a description.
 //!
-//! `reasons` has a line for each number of a description that no plan can keep, with the least that would do
+//! `reasons` has a line for each number of a description that no plan can keep, with the least sufficient value
 //! (`specs/ReasonLines`); `conditions` a line for each condition that a plan does not keep, with both its numbers in
 //! the units of keys (`specs/ConditionLines`), by `shape_conditions`, `slot_conditions` and `buffer_conditions`.
-//! `item_names` names streams, programs and tables, `stream_numbers` has what both say of the numbers of a stream,
-//! `program_limits` of the limit of clock references, `least_values` the words for a value that is too small.
+//! `item_names` names streams, programs and tables; `stream_numbers` has the words of both for the numbers of a stream,
+//! `program_limits` for the limit of clock references, `least_values` for a value that is too small.
 #![tactic(auto)]
 
 mod buffer_conditions;

@@ -1,4 +1,4 @@
-//! The limit of a program's clock references, where it is too small.
+//! The limit of a program's clock references, if it is too small.
 
 ghost use Rattle.std.specs.Prelude.{◌≡◌, ◌++◌, OnOk, option_map, string_bytes};
 ghost use Rattle.plan_diagnosis.specs.ReasonLines as spec;

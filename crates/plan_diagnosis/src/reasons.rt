@@ -13,7 +13,7 @@ use plan_maker::{Reason, reasons};
 use std::alloc::{AllocError, Global};
 use std::fmt::Write;
 
-// A slot asks for it.
+// Returns the words for a slot as the cause.
 #[tactic(auto, unfolding(crate::specs::ReasonLines::slot_cause))]
 fn slot_cause() -> &'static str
     ensures { result.now ≡ spec.slot_cause }

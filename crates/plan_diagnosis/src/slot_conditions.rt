@@ -30,7 +30,7 @@ pub fn write_claim(
     )
 }
 
-// The gaps of its slots ask for it.
+// Returns the words for the gaps of its slots as the cause.
 #[tactic(auto, unfolding(crate::specs::ConditionLines::gap_cause))]
 fn gap_cause() -> &'static str
     ensures { result.now ≡ spec.gap_cause }
@@ -75,7 +75,7 @@ pub fn write_table_gap(
     )
 }
 
-// What one slot of a period gives a stream.
+// Returns the share that one slot of a period gives a stream.
 fn slot_share(rate: Rate, stream: &StreamDescription) -> u128
     ensures share { result ≡ spec.slot_share rate stream.now }
     ensures some { 0 < result }
@@ -83,14 +83,14 @@ fn slot_share(rate: Rate, stream: &StreamDescription) -> u128
     (u128::from(steady_time(stream)) * u128::from(rate.bits_per_second())).max(1)
 }
 
-// Appends how many slots there are, and how many are wanted.
+// Appends how many slots there are, and how many are needed.
 fn write_count(given: u128, wanted: u128, text: &mut String) -> Result<(), AllocError>
     ensures { OnOk result (string_bytes text.new ≡ string_bytes text.old ++ spec.count_words given wanted) }
 {
     write!(text, " slots {given} is less than {wanted}")
 }
 
-// The same of a condition.
+// Appends the slots of a condition: how many there are, and how many it needs.
 fn write_slots(refusal: Refusal, share: u128, text: &mut String) -> Result<(), AllocError>
     requires { 0 < share }
     ensures { OnOk result (string_bytes text.new

@@ -20,7 +20,7 @@ pub enum StreamNumber {
     Rx,
     /// The leak of its multiplexing buffer, in bits a second.
     Rbx,
-    /// The time before a unit's DTS in which it is sent, in units of 90 kHz.
+    /// The time before a unit's DTS when it is sent, in units of 90 kHz.
     Lead,
     /// The size of its main buffer, in bytes.
     Main,
@@ -39,7 +39,7 @@ pub fn key_of(number: StreamNumber) -> &'static str
     }
 }
 
-// The rate of a leak; 0 where there is none.
+// Returns the rate of a leak; 0 if there is none.
 fn rbx_of(multiplexing: Option<MultiplexingBuffer>) -> u128
     ensures { result ≡ spec.rbx_of multiplexing }
 {
@@ -49,7 +49,7 @@ fn rbx_of(multiplexing: Option<MultiplexingBuffer>) -> u128
     }
 }
 
-// Its value.
+// Returns the value of a number.
 fn value_of(number: StreamNumber, stream: &StreamDescription) -> u128
     ensures { result ≡ spec.value_of number stream.now }
 {
@@ -61,7 +61,7 @@ fn value_of(number: StreamNumber, stream: &StreamDescription) -> u128
     }
 }
 
-// The greatest value that it may have.
+// Returns the greatest value that a number may have.
 fn greatest_of(number: StreamNumber) -> u128
     ensures { result ≡ spec.greatest_of number }
 {
@@ -84,7 +84,7 @@ pub fn steady_cause(allowance: Allowance) -> &'static str
     }
 }
 
-// By what units ask for slots at once.
+// Returns the words for the numbers that make units ask for slots at once.
 #[tactic(auto, unfolding(crate::specs::ReasonLines::row_cause))]
 fn row_cause(allowance: Allowance) -> &'static str
     ensures { result.now ≡ spec.row_cause allowance }
@@ -96,7 +96,7 @@ fn row_cause(allowance: Allowance) -> &'static str
     }
 }
 
-// What comes within the lead asks for it.
+// Returns the words for the units within the lead as the cause.
 #[tactic(auto, unfolding(crate::specs::ReasonLines::within_lead_cause))]
 fn within_lead_cause() -> &'static str
     ensures { result.now ≡ spec.within_lead_cause }
@@ -104,7 +104,7 @@ fn within_lead_cause() -> &'static str
     " for what comes within its lead\n"
 }
 
-// What asks for more of a number.
+// Returns the words for the cause that asks for a greater number.
 fn cause_of(number: StreamNumber, allowance: Allowance) -> &'static str
     ensures { result.now ≡ spec.cause_of number allowance }
 {

@@ -1,4 +1,4 @@
--- Numbers that stop at the greatest number of their size: products and sums of 128 bits, and what is narrowed to 64 bits.
+-- Numbers that stop at the greatest number of their size: products and sums of 128 bits, and numbers narrowed to 64 bits.
 use Rattle.std.specs.Prelude.{ℕ, ◌+◌, ◌-◌, ◌*◌, ◌^◌, ◌==◌, min, List, [], ◌∷◌, Option, Some, None, option_map, nat_le, if◌then◌else◌}
 use Rattle.std.specs.Int.{div_ceil}
 

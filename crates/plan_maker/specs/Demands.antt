@@ -56,7 +56,7 @@ pub record DemandView : Type 0 where
 abbrev pub demand_view : Demand → DemandView
 demand_view d = record { slot = d.slot; need = need_view d.need; number = d.number; kind = d.kind; count = d.count }
 
--- the least own slots; one more than a period has where no slots of it are enough
+-- the least own slots; one more than a period has if no slots of it are enough
 abbrev pub count_within : ℕ → Option ℕ → ℕ
 count_within period None = period + 1
 count_within period (Some count) = min count (period + 1)

@@ -1,7 +1,7 @@
--- Numbers that are asked for by several conditions: none where one of these can't be kept.
+-- Numbers that several conditions ask for: none if one condition can't be kept.
 use Rattle.std.specs.Prelude.{ℕ, zero, suc, max, min, Option, Some, None}
 
--- of two such numbers
+-- the greater and the lesser of two such numbers
 abbrev pub greater : Option ℕ → Option ℕ → Option ℕ
 greater (Some a) (Some b) = Some (max a b)
 greater (Some a) None = None

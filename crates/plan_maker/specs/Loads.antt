@@ -11,11 +11,11 @@ use Rattle.description_parts.specs.Tables.{table_kinds, table_limit, round_packe
 use Rattle.slot_plan.specs.Numbered.{numbered}
 use Rattle.plan_maker.specs.FirstNumbers.{first_of}
 
--- of a stream: its packets come in the long run as it declares, those of a group of units in the time of a group
+-- the load of a stream: its packets arrive in the long run as it declares, the packets of a group of units in the time of a group
 abbrev pub stream_load : ℕ → DescribedStream → ℕ
 stream_load rate s = parts * steady_packets s.allowance / (steady_time s.allowance s.interval * rate)
 
--- of what comes k packets at a time, each time within a limit in ms
+-- the load of rounds of k packets, each round within a limit in ms
 abbrev pub recurring_load : ℕ → ℕ → ℕ → ℕ
 recurring_load rate limit k = parts * k / max 1 (limit * rate / slot_ms_at_1bps)
 
@@ -32,7 +32,7 @@ pcrs_load d rate = total (λ _ p. recurring_load rate p.pcr_limit 1) d.programs
 abbrev pub tables_load : Described → ℕ → ℕ
 tables_load d rate = total (λ t _. recurring_load rate (table_limit d t) (round_packets d t)) (table_kinds d)
 
--- that of all items, on an output of that rate
+-- the load of all items, on an output of that rate
 abbrev pub load : Described → ℕ → ℕ
 load d rate = streams_load d rate + (pcrs_load d rate + tables_load d rate)
 

@@ -12,7 +12,7 @@ use Rattle.plan_maker.specs.declared.search.placement.PlacementTask.{PlacementTa
 
 -- ---- windows
 
--- evenly spaced from the phase on, own slot number k would come at this slot, times own slots
+-- evenly spaced from the phase on, own slot number k would be at this slot, times own slots
 abbrev pub even_place : ℕ → ℕ → ℕ → ℕ
 even_place period phase k = narrowed (narrowed (k * period) + phase)
 
@@ -44,7 +44,7 @@ first_task period d width = opened period (record {
   due = 0;
 })
 
--- none where a window might hold no slot
+-- none if a window might hold no slot
 abbrev pub task_in : ℕ → DemandView → ℕ → Option PlacementTask
 task_in period d width = if nat_lt width (d.count - 1) then None else (if d.kind == 0 then None else Some (first_task period d width))
 
@@ -75,7 +75,7 @@ most_urgent tasks at = first_least (length tasks) (due_number tasks at)
 
 -- ---- slots
 
--- what is placed so far, the tasks, and the task that has missed a slot, after which none is placed
+-- the slots placed so far, the tasks, and the task that has missed a slot, after which no slot is placed
 pub record Placed : Type 0 where
   pub slots : List Slot
   pub tasks : List PlacementTask
@@ -85,13 +85,13 @@ pub record Placed : Type 0 where
 abbrev pub advanced : ℕ → PlacementTask → PlacementTask
 advanced period t = opened period (record t { placed = narrowed (t.placed + 1) })
 
--- slot number `at` has that of the most urgent task, number i, if its window has not ended before
+-- slot number `at` is the slot of the most urgent task, number i, if the task's window has not ended before
 abbrev pub own_slot : ℕ → ℕ → List PlacementTask → ℕ → Option PlacementTask → Placed
 own_slot period at tasks i None = record { slots = Null ∷ []; tasks = tasks; missed = None }
 own_slot period at tasks i (Some t) = if nat_lt t.due at then record { slots = []; tasks = tasks; missed = Some i }
     else record { slots = t.slot ∷ []; tasks = slice_set tasks i (advanced period t); missed = None }
 
--- it is null if no window is open
+-- slot number `at` is null if no window is open
 abbrev pub urgent_slot : ℕ → ℕ → List PlacementTask → Option ℕ → Placed
 urgent_slot period at tasks None = record { slots = Null ∷ []; tasks = tasks; missed = None }
 urgent_slot period at tasks (Some i) = own_slot period at tasks i (slice_get tasks i)
@@ -115,7 +115,7 @@ placed_in period tasks (suc n) = followed period n (placed_in period tasks n) (p
 abbrev pub is_open : PlacementTask → Bool
 is_open t = nat_lt t.placed t.count
 
--- the task that misses a slot, or the first that has own slots left after all slots; none where every task has its own
+-- the task that misses a slot, or the first that has own slots left after all slots; none if every task has its own
 -- slots
 abbrev pub missing : List PlacementTask → Option ℕ → Option ℕ
 missing tasks None = position is_open tasks

@@ -25,12 +25,12 @@ longest (item ∷ items) = max item.spacing (longest items)
 abbrev pub is_spaced : Spaced → Bool
 is_spaced item = nat_lt 0 item.spacing
 
--- ---- the order: rising spacings, and those of one spacing in their order
+-- ---- the order: rising spacings, and the items of one spacing in their order
 
 abbrev pub of_spacing : ℕ → List Spaced → List Spaced
 of_spacing g items = filter (λ item. item.spacing == g) items
 
--- those of the n spacings from 2 ^ e on
+-- the items of the n spacings from 2 ^ e on
 abbrev pub by_spacing : ℕ → ℕ → List Spaced → List Spaced
 by_spacing e zero items = []
 by_spacing e (suc n) items = of_spacing (2 ^ e) items ++ by_spacing (suc e) n items
@@ -57,7 +57,7 @@ placed (item ∷ items) slots = elim (first_of item.spacing (is_free slots item.
   | Some x ↦ placed items (with_item item.slot item.spacing x slots)
 ]
 
--- the slots of these items: none where an item has no spacing, or finds no free slots
+-- the slots of these items: none if an item has no spacing, or finds no free slots
 abbrev pub slots_of : List Spaced → Option (List Slot)
 slots_of items = if list_all is_spaced items then placed (by_spacing 0 17 items) (replicate (longest items) Null) else None
 

@@ -18,15 +18,15 @@ use Rattle.plan_maker.specs.Loads.{has_slots, least_rate}
 
 -- ---- limits
 
--- the least limit in ms within which that number of slots of 1,504 bits comes
+-- the least limit in ms that has time for that number of slots of 1,504 bits
 abbrev pub least_limit : Described → ℕ → ℕ
 least_limit d slots = div_ceil (slot_ms_at_1bps * slots) d.rate
 
--- a program's PCRs recur within its limit only where that is not shorter than a slot (ISO/IEC 13818-1, 2.7.2)
+-- a program's PCRs recur within its limit only if the limit is not shorter than a slot (ISO/IEC 13818-1, 2.7.2)
 abbrev pub pcr_reason : Described → ℕ → DescribedProgram → List Reason
 pcr_reason d i p = if nat_lt (p.pcr_limit * d.rate) slot_ms_at_1bps then PcrLimit i (least_limit d 1) ∷ [] else []
 
--- the sections of a table only where its limit is not shorter than the slots of a round (ETSI TR 101 290, 5.2)
+-- the sections of a table recur within its limit only if the limit is not shorter than the slots of a round (ETSI TR 101 290, 5.2)
 abbrev pub table_reason : Described → ℕ → List Reason
 table_reason d t = if nat_lt (table_limit d t * d.rate) (round_packets d t * slot_ms_at_1bps) then TableLimit t (least_limit d (round_packets d t)) ∷ [] else []
 
@@ -36,11 +36,11 @@ table_reason d t = if nat_lt (table_limit d t * d.rate) (round_packets d t * slo
 abbrev pub least_drain : DescribedStream → ℕ
 least_drain s = div_ceil (steady_packets s.allowance) (steady_time s.allowance s.interval)
 
--- its transport buffer is drained only where it is not slower than that
+-- the reason that the stream's transport buffer is drained slower than the least drain
 abbrev pub drain_reason : ℕ → DescribedStream → List Reason
 drain_reason i s = if nat_lt (steady_time s.allowance s.interval * s.rx) (steady_packets s.allowance) then SlowDrain i (least_drain s) ∷ [] else []
 
--- its multiplexing buffer, if it has one, leaks only where its leak is not slower than that either
+-- the reason that the stream's multiplexing buffer, if it has one, leaks slower than the least drain
 abbrev pub leak_reason : ℕ → DescribedStream → Option MultiplexingBuffer → List Reason
 leak_reason i s None = []
 leak_reason i s (Some b) = if nat_lt (steady_time s.allowance s.interval * b.rbx) (steady_packets s.allowance) then SlowLeak i (least_drain s) ∷ [] else []
@@ -58,8 +58,8 @@ least_lead d s = greatest (allowance_rows s.allowance) (λ before. units_lead d 
 abbrev pub lead_reason : Described → ℕ → DescribedStream → List Reason
 lead_reason d i s = if nat_lt s.lead (least_lead d s) then ShortLead i (least_lead d s) ∷ [] else []
 
--- the least main buffer in bytes: for all units that can wait at once, or for the packets that come within the lead
--- where the stream has no more slots than its units ask for
+-- the least main buffer in bytes: for all units that can wait at once, or for the packets that arrive within the lead
+-- if the stream has no more slots than its units ask for
 abbrev pub least_main : Described → DescribedStream → ℕ
 least_main d s = min (bytes_by_units (declaration s))
     (184 * ((waiting_slots d.rate (declaration s) - 1) * steady_packets s.allowance / (steady_time s.allowance s.interval * d.rate) + 1))
@@ -92,6 +92,6 @@ stream_reasons d = numbered (stream_reason d) 0 d.streams
 abbrev pub reasons_of : Described → List Reason
 reasons_of d = pcr_reasons d ++ (table_reasons d ++ (stream_reasons d ++ load_reason d))
 
--- where there is a reason, no plan serves
+-- if there is a reason, no plan serves
 abbrev pub ReasonLaw : Type 0
 ReasonLaw = (d : Described) (p : Planned) → IsServing d p → reasons_of d ≡ []

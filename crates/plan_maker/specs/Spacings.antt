@@ -10,15 +10,15 @@ use Rattle.slot_plan.specs.declared.slot.Slot.TheVariants.{Stream, Pcr, Table}
 use Rattle.slot_plan.specs.Numbered.{numbered}
 use Rattle.plan_maker.specs.declared.spacing.Spaced.{Spaced}
 
--- a number of slots where there is room for it, else 0
+-- a number of slots if there is room for it, otherwise 0
 abbrev pub within : ℕ → ℕ → ℕ
 within room slots = if nat_le slots room then slots else 0
 
--- the greatest power of two that is at most 65,536 and for which there is room; 0 where there is none
+-- the greatest power of two that is at most 65,536 and for which there is room; 0 if there is none
 abbrev pub spacing : ℕ → ℕ
 spacing room = greatest 17 (λ e. within room (2 ^ e))
 
--- the slots in which a stream needs a packet in the long run (the condition on a stream's rate)
+-- the slots for each packet of a stream in the long run, rounded down (the condition on a stream's rate)
 abbrev pub stream_room : Described → DescribedStream → ℕ
 stream_room d s = steady_time s.allowance s.interval * d.rate / steady_packets s.allowance
 
@@ -26,7 +26,7 @@ stream_room d s = steady_time s.allowance s.interval * d.rate / steady_packets s
 abbrev pub pcr_room : Described → DescribedProgram → ℕ
 pcr_room d p = p.pcr_limit * d.rate / slot_ms_at_1bps
 
--- the slots within which a table needs a packet, where its rounds are sent within its limit (ETSI TR 101 290, 5.2)
+-- the slots within which a table needs a packet, if its rounds are sent within its limit (ETSI TR 101 290, 5.2)
 abbrev pub table_room : Described → ℕ → ℕ
 table_room d t = table_limit d t * d.rate / (slot_ms_at_1bps * round_packets d t)
 

@@ -30,7 +30,7 @@ stream_at s rate = record { stream = s; waiting = bytes_by_units (declaration s)
 
 -- ---- the time of units in a row
 
--- the drain of the last buffer before that in which units wait: the transport buffer's, or the multiplexing buffer's leak
+-- the drain of the buffer before the buffer where units wait: the transport buffer's, or the multiplexing buffer's leak
 abbrev pub last_drain : ℕ → Option MultiplexingBuffer → ℕ
 last_drain rx None = rx
 last_drain rx (Some b) = b.rbx
@@ -60,17 +60,17 @@ abbrev pub steady_count : StreamView → ℕ → Option ℕ
 steady_count v period =
     rounded_up (product (steady_packets v.stream.allowance ∷ period ∷ [])) (product (steady_time v.stream.allowance v.stream.interval ∷ v.rate ∷ []))
 
--- the last of m units in a row is in time, also where it is three slots late
+-- the last of m units in a row is in time, even if it is three slots late
 abbrev pub row_count : StreamView → ℕ → ℕ → Option ℕ
 row_count v period m = option_and_then
     (λ time. rounded_up (product (packets_in_row (declaration v.stream) m ∷ period ∷ slot_time v ∷ [])) time)
     (less (row_time v m) (product (3 ∷ slot_time v ∷ [])))
 
--- both, the rows being 1 and up to those that the lead has to pay for
+-- the greatest of the steady count and the row counts, for each number of units in a row, from 1 on, that the lead has to pay for
 abbrev pub least_count : StreamView → ℕ → Option ℕ
 least_count v period = greatest_of (steady_count v period) (allowance_rows v.stream.allowance) (λ before. row_count v period (before + 1))
 
--- and none where such slots bring bytes faster than the last buffer is drained
+-- none if such slots bring bytes faster than the last buffer is drained
 abbrev pub paced : StreamView → ℕ → ℕ → Option ℕ
 paced v period count = if nat_lt (product (period ∷ drain_of v ∷ [])) (product (count ∷ v.rate ∷ [])) then None else Some (narrowed count)
 
@@ -79,20 +79,20 @@ stream_count v period = option_and_then (paced v period) (least_count v period)
 
 -- ---- the most that own slots may stray from even spacing, in slots times own slots
 
--- for the last of m units in a row: the slots of its time, less those of the packets and one slot
+-- for the last of m units in a row: the slots of its time, less the slots of the packets and one slot
 abbrev pub row_width : StreamView → ℕ → ℕ → ℕ → Option ℕ
 row_width v period count m = if slot_time v == 0 then None else
     less (product (count ∷ row_time v m ∷ []) / slot_time v) (plus (product (packets_in_row (declaration v.stream) m ∷ period ∷ [])) count)
 
--- for units that come at most `lead` before their decoding, `waiting` bytes of them at once, in so many bytes of room: all
--- can wait there, or the packets that the slots of the lead bring have room
+-- for units that arrive at most `lead` before their decoding, `waiting` bytes of them at once, in `room` bytes: all can wait there,
+-- or the packets that the slots of the lead bring have room
 abbrev pub room_width : StreamView → ℕ → ℕ → ℕ → ℕ → ℕ → Option ℕ
 room_width v period count lead waiting room = if nat_le waiting room then Some most_wide else option_and_then
     (λ window. less (product (period ∷ (room / 184) ∷ [])) (plus (product ((window - 1) ∷ count ∷ [])) 1))
     (rounded_up (product (lead ∷ v.rate ∷ [])) slot_units_at_1bps)
 
--- for the later units, when the first access units of a unit have gone: they come within what is left of the lead, and have
--- the room that the rest of that unit leaves
+-- for the later units, when the first access units of a unit have gone: they arrive within the rest of the lead, and have the room
+-- that the rest of that unit leaves
 abbrev pub frame_width : StreamView → ℕ → ℕ → Framing → ℕ → Option ℕ
 frame_width v period count f gone =
     let lead = v.stream.lead - ahead_of (declaration v.stream) f gone in

@@ -17,7 +17,7 @@ use slot_plan::{
 use std::alloc::{AllocError, Allocator};
 use unit_timing::buffers::{BSYS_DRAIN, SYSTEM_TB_DRAIN};
 
-/// The work with which a period of a buffer begins, and the greatest work after one of its packets.
+/// The work that a period of a buffer begins with, and the greatest work after one of its packets.
 #[derive(Clone, Copy)]
 struct BufferClaim {
     start: u64,

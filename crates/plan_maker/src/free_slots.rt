@@ -32,7 +32,7 @@ fn is_free(slots: &[Slot], spacing: u64, first: u64) -> bool
     true
 }
 
-/// Returns the least slot from which on all at distances of `spacing` are free.
+/// Returns the least slot that is free together with all later slots at distances of `spacing`.
 fn first_free(slots: &[Slot], spacing: u64) -> Option<u64>
     requires short { length slots.now ≤ 65536 }
     ensures { result ≡ first_of spacing (is_free slots.now spacing) }

@@ -24,7 +24,7 @@ pub enum MakeError {
 impl MakeError {
     ghost use Rattle.plan_maker.specs.Codes.{code_of};
 
-    /// Returns the number of the error: 1 where no plan is found; out of memory has none.
+    /// Returns the number of the error: 1 if no plan is found; out of memory has no number.
     pub fn code(self) -> Option<u8>
         ensures { result ≡ code_of self }
     {
@@ -38,7 +38,7 @@ impl MakeError {
 /// The periods that are tried, in slots.
 const PERIODS: [u64; 9] = [256, 512, 1_024, 2_048, 4_096, 8_192, 16_384, 32_768, 65_536];
 
-/// Returns the plan as one that serves the description, where there is a plan and it does.
+/// Returns the plan as a plan that serves the description, if there is a plan and it does.
 fn served<A: Allocator>(
     description: Description,
     plan: Result<Option<Plan<A>>, AllocError>,
@@ -57,9 +57,9 @@ fn served<A: Allocator>(
     }
 }
 
-/// Returns a plan that serves the description, as the plan checker says. It is looked for with the earliest deadline
-/// first in periods of 256 to 65,536 slots; the last that is tried is the plain plan, so that none is found only
-/// where that is missing or refused. The description is handed back with each error.
+/// Returns a plan that serves the description, as the plan checker says. The search is earliest deadline first, in
+/// periods of 256 to 65,536 slots; the last plan tried is the plain plan, so none is found only if the plain plan is
+/// missing or refused. The description is handed back with each error.
 pub fn make<A: Allocator + Clone>(
     alloc: A,
     description: Description,

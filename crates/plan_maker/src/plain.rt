@@ -21,7 +21,7 @@ fn null_slots<A: Allocator>(alloc: A, length: u64) -> Result<Vec<Slot, A>, Alloc
     Ok(slots)
 }
 
-/// Returns the slots of the items, None where an item has no spacing or finds no free slots.
+/// Returns the slots of the items, None if an item has no spacing or finds no free slots.
 fn plain_slots<A: Allocator>(alloc: A, items: &[Spaced]) -> Result<Option<Vec<Slot, A>>, AllocError>
     requires { longest items.now ≤ 65536 }
     ensures slots { IfOk result (λ slots. option_map (λ s. s.items) slots ≡ slots_of items.now) }

@@ -24,16 +24,16 @@ pub enum Reason {
     PcrLimit(u8, u64),
     /// The limit of a table is shorter than the slots of a round of its sections: the least limit in ms.
     TableLimit(u8, u64),
-    /// The transport buffer of a stream is drained slower than its units come: the least rate in bits/s.
+    /// The transport buffer of a stream is drained slower than its units arrive: the least rate in bits/s.
     SlowDrain(u8, u64),
-    /// The multiplexing buffer of a stream leaks slower than its units come: the least rate of the leak in bits/s.
+    /// The multiplexing buffer of a stream leaks slower than its units arrive: the least rate of the leak in bits/s.
     SlowLeak(u8, u64),
-    /// The lead of a stream is too short for its units to come and to leave the transport buffer: the least lead in
+    /// The lead of a stream is too short for its units to arrive and to leave the transport buffer: the least lead in
     /// units of 90 kHz.
     ShortLead(u8, u64),
-    /// The main buffer of a stream holds less than what comes within its lead: the least size in bytes.
+    /// The main buffer of a stream holds less than the bytes that arrive within its lead: the least size in bytes.
     SmallMain(u8, u64),
-    /// The items together ask for more slots than there are: the least rate of the output in bits/s, None where no rate
+    /// The items together ask for more slots than there are: the least rate of the output in bits/s, None if no rate
     /// that a description can have is enough.
     Overload(Option<u64>),
 }
@@ -59,7 +59,7 @@ pub fn reasons<A: Allocator>(
     Ok(reasons)
 }
 
-/// Appends a reason, where there is one.
+/// Appends a reason, if there is one.
 fn push<A: Allocator>(
     reasons: &mut Vec<Reason, A>,
     reason: Option<Reason>,

@@ -38,8 +38,8 @@ fn tasks_of<A: Allocator>(
     Ok(Ok(tasks))
 }
 
-/// Returns one try at the slots of the period: None where all items have theirs, else the number of an item that
-/// misses one.
+/// Tries to place the slots of the period. Returns None if all items have their slots, otherwise the number of an
+/// item that misses one.
 fn attempt<A: Allocator + Clone>(
     alloc: A,
     slots: &mut Vec<Slot, A>,
@@ -74,7 +74,7 @@ fn add_slots(demands: &mut [Demand<'_>], missed: usize, period: u64) -> bool {
     true
 }
 
-/// Returns the slots of a period of that length, where they are found.
+/// Returns the slots of a period of that length, if they are found.
 fn period_slots<A: Allocator + Clone>(
     alloc: A,
     description: &Description,

@@ -11,14 +11,14 @@ use plan_checker::{steady_packets, steady_time};
 use slot_plan::{Description, ProgramDescription, Slot, StreamDescription};
 use std::alloc::{AllocError, Allocator};
 
-/// What the slots of an item carry, and their distance in slots; 0 where no spacing serves it.
+/// What the slots of an item carry, and their distance in slots; 0 if no spacing serves it.
 #[derive(Clone, Copy)]
 pub struct Spaced {
     pub slot: Slot,
     pub spacing: u64,
 }
 
-/// Returns a number of slots where there is room for it, else 0.
+/// Returns a number of slots if there is room for it, otherwise 0.
 fn within(room: u64, slots: u64) -> u64
     ensures within { result ≡ within room slots }
     ensures bound { result ≤ slots }
@@ -40,7 +40,7 @@ pub fn spacing_of(room: u64) -> u64
     spacing
 }
 
-/// Returns the slots in which a stream needs a packet in the long run.
+/// Returns the slots for each packet of a stream in the long run, rounded down.
 fn stream_room(description: &Description, stream: &StreamDescription) -> u64
     requires { IsStream stream.now }
     ensures { result ≡ stream_room description.now stream.now }

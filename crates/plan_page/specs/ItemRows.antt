@@ -1,6 +1,6 @@
--- What each item has of the slots: its share, and its greatest gap beside its limit.
+-- The slots of each item: its share, and its greatest gap with its limit.
 use Rattle.std.specs.Prelude.{ℕ, ◌*◌, ◌/◌, nat_lt, if◌then◌else◌, List, [], ◌++◌, codes, decimal, flat_map, length, Option, Some, None}
-use Rattle.page_charts.specs.Numbers.{grouped, tenths}
+use Rattle.page_curves.specs.Numbers.{grouped, tenths}
 use Rattle.slot_plan.specs.declared.slot.Slot.{Slot}
 use Rattle.plan_page.specs.declared.plan_items.PlanItem.{PlanItem}
 use Rattle.plan_page.specs.Owners.{count_in, gap_in}
@@ -10,14 +10,14 @@ use Rattle.plan_page.specs.Lanes.{label, millis, time_of}
 abbrev pub program_text : ℕ → List ℕ
 program_text program = if nat_lt 0 program then decimal program else []
 
--- so many of all slots in per cent, and the number, the share and the bit rate of these slots
+-- a count of slots in per cent of all, and the number, the share and the bit rate of these slots
 unfoldable pub share : ℕ → ℕ → List ℕ
 share count all = tenths (count * 100) all
 
 unfoldable pub share_cells : ℕ → ℕ → ℕ → List ℕ
 share_cells rate count all = codes "<td>" ++ (decimal count ++ (codes "<td>" ++ (share count all ++ (codes "<td>" ++ grouped (rate * count / all)))))
 
--- a time beside a limit, as a bar that ends where the limit lies
+-- a time and its limit, as a bar that ends at the limit
 unfoldable pub bar : ℕ → ℕ → List ℕ
 bar time limit = codes "<td><svg class=\"bar\" viewBox=\"0 0 " ++ (decimal limit
     ++ (codes " 1\" preserveAspectRatio=\"none\" role=\"img\"><path d=\"M0 .5H" ++ (decimal time ++ codes "\"/></svg>")))
@@ -25,7 +25,7 @@ bar time limit = codes "<td><svg class=\"bar\" viewBox=\"0 0 " ++ (decimal limit
 unfoldable pub word_cell : List ℕ → List ℕ
 word_cell word = codes "<td class=\"word\">" ++ word
 
--- the limit of an item's gaps, and what it is of
+-- the limit of an item's gaps, and the name of the limit
 unfoldable pub limit_cells : PlanItem → List ℕ
 limit_cells item = codes "<td>" ++ (millis item.limit ++ word_cell (limit_word item.limit_name))
 
@@ -36,7 +36,7 @@ gap_head row gap = codes "<td>" ++ (decimal row ++ (codes "<td>" ++ (decimal gap
 unfoldable pub gap_cells : ℕ → PlanItem → ℕ → List ℕ
 gap_cells rate item gap = gap_head item.row gap ++ (millis (time_of gap rate) ++ (limit_cells item ++ bar (time_of gap rate) item.limit))
 
--- cells without a text where there is no gap
+-- empty cells if there is no gap
 unfoldable pub gap_cells_if : ℕ → PlanItem → Option ℕ → List ℕ
 gap_cells_if rate item None = codes "<td colspan=\"6\">"
 gap_cells_if rate item (Some gap) = gap_cells rate item gap

@@ -1,6 +1,6 @@
 -- Which slots each item owns: a line for each, in a row of its own. A slot is a unit of the picture wide (SVG 2, 8.2 and 9.3).
 use Rattle.std.specs.Prelude.{ℕ, ◌-◌, ◌*◌, ◌/◌, ◌^◌, min, if◌then◌else◌, List, [], ◌++◌, codes, decimal, flat_map, length}
-use Rattle.page_charts.specs.Numbers.{tenths}
+use Rattle.page_curves.specs.Numbers.{tenths}
 use Rattle.slot_plan.specs.Numbered.{numbered}
 use Rattle.slot_plan.specs.declared.slot.Slot.{Slot}
 use Rattle.slot_plan.specs.declared.slot.Item.TheVariants.{Stream, Pcr, Table, System}
@@ -11,7 +11,7 @@ use Rattle.plan_page.specs.declared.plan_items.PlanItem.{PlanItem}
 use Rattle.plan_page.specs.Owners.{owns}
 use Rattle.plan_page.specs.PlanItems.{word}
 
--- so many slots of 188 bytes as a time in units of 90 kHz, cut down, and such a time in ms
+-- a number of slots of 188 bytes as a time in units of 90 kHz, rounded down, and such a time in ms
 abbrev pub time_of : ℕ → ℕ → ℕ
 time_of slots rate = min (slots * 135360000) (2 ^ 64 - 1) / rate
 

@@ -23,7 +23,7 @@ owns Null slot = is_null slot
 abbrev pub count_in : Owner → List Slot → ℕ
 count_in owner slots = length (filter (owns owner) slots)
 
--- the greatest distance from an own slot to the row-th own slot after it, round the period's end too; none where there is no slot
+-- the greatest distance from an own slot to the row-th own slot after it, round the period's end too; none if there is no slot
 abbrev pub item_gap : PlannedItem → List Slot → ℕ → Option ℕ
 item_gap item slots row = if nat_lt 0 (per_period (marks item slots)) then Some (gap (marks item slots) row) else None
 

@@ -44,7 +44,7 @@ null_words count all = count_words count ++ (share count all ++ codes " %, are n
 abbrev pub summary : ℕ → List Slot → List ℕ
 summary rate slots = period_words rate (length slots) ++ null_words (count_in Null slots) (length slots)
 
--- which item owns which slot: of the whole period, and of its first 256 slots where there are more; and as numbers
+-- the owner of each slot: of the whole period, and of its first 256 slots if there are more; and as numbers
 abbrev pub closer : ℕ → List Slot → List PlanItem → List ℕ
 closer rate slots items = if nat_lt 256 (length slots) then closer_text ++ lanes rate (take 256 slots) items else []
 

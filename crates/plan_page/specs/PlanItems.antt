@@ -69,7 +69,7 @@ pcr_item number p = record {
 unfoldable pub number_at : Described → ℕ → ℕ
 number_at d place = elim (slice_get d.programs place) [ None ↦ 0 | Some program ↦ program.number ]
 
--- and a private table of the one whose PMT names it
+-- the program of a private table is the program whose PMT names it
 unfoldable pub entry_number : Option DescribedEntry → ℕ
 entry_number None = 0
 entry_number (Some e) = e.program

@@ -5,7 +5,7 @@ ghost use Rattle.plan_page.specs.ItemRows as spec;
 use crate::lanes::{time_of, write_label, write_millis};
 use crate::owners::gap_in;
 use crate::plan_items::PlanItem;
-use page_charts::{write_grouped, write_tenths};
+use page_curves::{write_grouped, write_tenths};
 use slot_plan::Slot;
 use std::alloc::AllocError;
 use std::fmt::Write;
@@ -21,7 +21,7 @@ fn write_program(text: &mut String, program: u16) -> Result<(), AllocError>
     }
 }
 
-/// Appends so many of all slots in per cent.
+/// Appends the share of `count` of all slots in per cent.
 #[tactic(auto, unfolding(crate::specs::ItemRows::share))]
 pub(crate) fn write_share(text: &mut String, count: u64, all: u64) -> Result<(), AllocError>
     requires some { 0 < all }

@@ -4,7 +4,7 @@ ghost use Rattle.plan_page.specs.Lanes as spec;
 
 use crate::owners::Owner;
 use crate::plan_items::PlanItem;
-use page_charts::write_tenths;
+use page_curves::write_tenths;
 use slot_plan::{Item, Slot};
 use std::alloc::AllocError;
 use std::fmt::Write;
@@ -12,7 +12,7 @@ use std::fmt::Write;
 // The scale is divided into quarters.
 const QUARTERS: [u64; 4] = [0, 1, 2, 3];
 
-/// So many slots as a time, in units of 90 kHz, cut down; numbers stop at 2^64 - 1.
+/// Returns a number of slots as a time in units of 90 kHz, rounded down; numbers stop at 2^64 - 1.
 pub(crate) fn time_of(slots: u64, rate: u64) -> u64
     requires { 0 < rate }
     ensures { result ≡ spec.time_of slots rate }

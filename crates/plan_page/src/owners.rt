@@ -47,7 +47,7 @@ fn item_gap(item: Item, slots: &[Slot], row: u64) -> Option<u64>
     }
 }
 
-/// Returns the most slots from one that it owns to the `row`-th one after it, the period repeated; none for null
+/// Returns the most slots from a slot of the owner to its `row`-th slot after that, the period repeated; none for null
 /// packets, nor for an item without a slot.
 #[tactic(auto, unfolding(crate::specs::Owners::gap_in))]
 pub(crate) fn gap_in(owner: Owner, slots: &[Slot], row: u64) -> Option<u64>

@@ -12,7 +12,7 @@ use slot_plan::Slot;
 use std::alloc::{AllocError, Global};
 use std::fmt::Write;
 
-/// What stands before everything: the form of the page, for light and dark.
+/// The begin of the page with its form, for light and dark.
 const FRONT: &str = "<!doctype html>
 <html lang=\"en\"><head><meta charset=\"utf-8\"><meta name=\"viewport\" content=\"width=device-width\"><title>Plan of a transport stream</title><style>
 :root{color-scheme:light dark;--ink:#1a222d;--soft:#5a6574;--line:#dde2e9;--paper:#fff;--stream:#1f6fd0;--clock:#b9700a;--table:#0f8f62}

@@ -60,7 +60,7 @@ fn number_naming(description: &Description, place: usize) -> u16
     }
 }
 
-// The program of a table: that of a program map, or that whose map names it.
+// The program of a table: its own, if it is a program map; otherwise the program whose map names it.
 #[tactic(auto, unfolding(crate::specs::PlanItems::table_program))]
 fn table_program(description: &Description, kind: Option<TableKind>) -> u16
     ensures { result ≡ spec.table_program description.now kind }

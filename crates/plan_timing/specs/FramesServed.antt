@@ -1,8 +1,8 @@
--- What is promised of a stream whose units are PES packets of several access units (ISO/IEC 13818-1, 2.4.2.3), over runs of any length:
+-- The promise for a stream whose units are PES packets of several access units (ISO/IEC 13818-1, 2.4.2.3), over runs of any length:
 -- the main buffer has room for access units that are removed one by one.
 --
--- A multiplexer sees no access units inside a unit. So the promise is of each way to cut the units into access units that keeps what
--- the description declares of them: the cut that the stream has is one of these.
+-- A multiplexer sees no access units inside a unit. So the promise covers each way to cut the units into access units that keeps
+-- the description's declaration for them: the cut that the stream has is among these.
 use Rattle.std.specs.Prelude.{ℕ, ◌≤◌, Bool, List}
 use Rattle.unit_timing.specs.declared.framing.Framing.{Framing}
 use Rattle.unit_timing.specs.Transport.{NoneLeavesEarly}

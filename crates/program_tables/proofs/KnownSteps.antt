@@ -6,7 +6,7 @@ use Rattle.std.specs.Option.{option_or}
 use Rattle.std.proofs.lemmas.List.{append-nil, append_assoc, take-append-drop, length-take, length-map}
 use Rattle.psi_tables.specs.ProgramAssociation.{PatView}
 use Rattle.psi_tables.specs.declared.pat.programs.Program.{Program}
-use Rattle.demux.specs.Views.{FindingView}
+use Rattle.pid_findings.specs.Views.{FindingView}
 use Rattle.program_tables.specs.Association.{entries, entries_of, first_pat, is_named, pat_found, with_program, with_programs}
 use Rattle.program_tables.specs.MapPlaces.{places_from, places_in, places_with, program_found}
 use Rattle.program_tables.specs.KnownTables.{KnownView, known_from, known_in, known_with, nothing, programs_with, version_with}

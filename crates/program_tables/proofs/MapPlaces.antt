@@ -7,7 +7,7 @@ use Rattle.std.specs.Option.{option_or}
 use Rattle.indexmap.specs.IndexMap.{insert_entry}
 use Rattle.psi_tables.specs.ProgramMap.{PmtView}
 use Rattle.psi_tables.specs.declared.pat.programs.Program.{Program}
-use Rattle.demux.specs.Views.{FindingView}
+use Rattle.pid_findings.specs.Views.{FindingView}
 use Rattle.program_tables.specs.ProgramMaps.{any_map, pmt_found, program_map}
 use Rattle.program_tables.specs.MapPlaces.{MapsAreThere, map_key, map_there, places_from, places_with, program_found}
 use Rattle.program_tables.proofs.MapKeys.{HasMap, by_key, has_map, inserted, is_key}

@@ -7,7 +7,7 @@ use Rattle.std.specs.Option.{option_or}
 use Rattle.indexmap.specs.IndexMap.{insert_entry}
 use Rattle.psi_tables.specs.ProgramMap.{PmtView}
 use Rattle.psi_tables.specs.declared.pat.programs.Program.{Program}
-use Rattle.demux.specs.Views.{FindingView}
+use Rattle.pid_findings.specs.Views.{FindingView}
 use Rattle.program_tables.specs.ProgramMaps.{any_map, differs, first_differing, map_change, pmt_found, program_map}
 use Rattle.program_tables.specs.MapPlaces.{AreChanges, changes_by, changes_from, is_change, map_key, noted, program_found}
 use Rattle.program_tables.specs.declared.program_map.MapPart.{MapPart}

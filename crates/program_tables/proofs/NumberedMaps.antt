@@ -7,7 +7,7 @@ use Rattle.psi_tables.specs.Views.{SectionView}
 use Rattle.psi_tables.specs.Reading.{section_at}
 use Rattle.psi_tables.specs.declared.error.SectionError.{SectionError}
 use Rattle.psi_tables.specs.declared.pat.programs.Program.{Program}
-use Rattle.demux.specs.Views.{FindingView}
+use Rattle.pid_findings.specs.Views.{FindingView}
 use Rattle.demux.specs.Laws.{has_pid}
 use Rattle.program_tables.specs.Sections.{section_bytes, section_on}
 use Rattle.program_tables.specs.ProgramMaps.{any_map, in_force, map_in, map_of_section, now_in_force, numbered, pmt_found, pmt_in, pmt_of_section}

@@ -8,7 +8,7 @@ use Rattle.psi_tables.specs.Reading.{section_at}
 use Rattle.psi_tables.specs.ProgramAssociation.{PatView, pat_at}
 use Rattle.psi_tables.specs.declared.error.SectionError.{SectionError}
 use Rattle.psi_tables.specs.declared.pat.programs.Program.{Program}
-use Rattle.demux.specs.Views.{FindingView}
+use Rattle.pid_findings.specs.Views.{FindingView}
 use Rattle.program_tables.specs.Sections.{section_on}
 
 -- 1. The tables
@@ -29,26 +29,26 @@ pat_in bytes = pat_of_section (section_at bytes)
 unfoldable pub pat_found : FindingView → Option PatView
 pat_found finding = option_and_then pat_in (section_on 0 finding)
 
--- the first one of a stream
+-- the first program association table of a stream
 unfoldable pub first_pat : List FindingView → Option PatView
 first_pat [] = None
 first_pat (finding ∷ findings) = option_or (pat_found finding) (first_pat findings)
 
 -- 2. Their entries
 
--- those of a table of this version
+-- the entries of a table, if it has this version
 unfoldable pub entries_of : ℕ → Option PatView → List Program
 entries_of version None = []
 entries_of version (Some pat) = if pat.header.version_number == version then pat.programs else []
 
--- those of all the sections of this version
+-- the entries of all sections of this version
 unfoldable pub entries : ℕ → List FindingView → List Program
 entries version findings = flat_map (λ finding. entries_of version (pat_found finding)) findings
 
 unfoldable pub is_named : ℕ → List Program → Bool
 is_named number programs = list_any (λ program. program.program_number == number) programs
 
--- an entry beside the programs that are named: 0 names the network PID, and of a number the first entry counts
+-- an entry is added to the named programs: program_number 0 names the network PID, and for each number the first entry counts
 unfoldable pub with_program : List Program → Program → List Program
 with_program named p = if (p.program_number == 0) || is_named p.program_number named then named else named ++ p ∷ []
 
@@ -63,7 +63,7 @@ pub record AssociationView : Type 0 where
   pub version_number : ℕ
   pub programs : List Program
 
--- what the sections of the first one's version name
+-- the programs in sections with the version of the first section
 unfoldable pub association : List FindingView → Option AssociationView
 association findings = option_map (λ first. record {
   transport_stream_id = first.header.table_id_extension;
@@ -73,11 +73,11 @@ association findings = option_map (λ first. record {
 
 -- 4. Tables that say something else
 
--- a program is one of these with the same PID
+-- a program is among these with the same PID
 unfoldable pub is_entry : List Program → Program → Bool
 is_entry named p = list_any (λ other. other.program_number == p.program_number && other.pid == p.pid) named
 
--- an entry says nothing else than these: it names the network PID, or is one of them
+-- an entry adds nothing to these: it names the network PID, or is among them
 unfoldable pub is_said : List Program → Program → Bool
 is_said named p = (p.program_number == 0) || is_entry named p
 

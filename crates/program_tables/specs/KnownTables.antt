@@ -2,7 +2,7 @@
 use Rattle.std.specs.Prelude.{ℕ, ◌+◌, List, [], ◌∷◌, Option, Some, None}
 use Rattle.psi_tables.specs.ProgramAssociation.{PatView}
 use Rattle.psi_tables.specs.declared.pat.programs.Program.{Program}
-use Rattle.demux.specs.Views.{FindingView}
+use Rattle.pid_findings.specs.Views.{FindingView}
 use Rattle.program_tables.specs.Association.{entries_of, pat_found, with_programs}
 use Rattle.program_tables.specs.MapPlaces.{places_with, program_found}
 
@@ -15,7 +15,7 @@ pub record KnownView : Type 0 where
 abbrev pub nothing : KnownView
 nothing = record { version = None; programs = []; places = [] }
 
--- with the table of another finding, if it has one
+-- the version after another finding, with its table, if it has one
 unfoldable pub version_with : Option ℕ → Option PatView → Option ℕ
 version_with (Some version) found = Some version
 version_with None None = None
@@ -32,7 +32,7 @@ known_with known at f = record {
   places = places_with known.places (program_found f) at;
 }
 
--- with findings, the first of which has the place `at`
+-- the tables with further findings; the first has the place `at`
 unfoldable pub known_from : KnownView → ℕ → List FindingView → KnownView
 known_from known at [] = known
 known_from known at (f ∷ fs) = known_from (known_with known at f) (at + 1) fs

@@ -9,7 +9,7 @@ use Rattle.psi_tables.specs.Reading.{section_at}
 use Rattle.psi_tables.specs.ProgramMap.{StreamView, PmtView, pmt_at}
 use Rattle.psi_tables.specs.declared.error.SectionError.{SectionError}
 use Rattle.psi_tables.specs.declared.pat.programs.Program.{Program}
-use Rattle.demux.specs.Views.{FindingView}
+use Rattle.pid_findings.specs.Views.{FindingView}
 use Rattle.program_tables.specs.declared.program_map.MapPart.{MapPart}
 use Rattle.program_tables.specs.declared.program_map.MapPart.TheVariants.{NamedStreams, Descriptors}
 use Rattle.program_tables.specs.Sections.{section_bytes, section_on}
@@ -32,7 +32,7 @@ pmt_in number bytes = pmt_of_section number (section_at bytes)
 unfoldable pub pmt_found : Program → FindingView → Option PmtView
 pmt_found program finding = option_and_then (pmt_in program.program_number) (section_on program.pid finding)
 
--- the last one of a stream
+-- the last map of a program in a stream
 unfoldable pub program_map : Program → List FindingView → Option PmtView
 program_map program [] = None
 program_map program (finding ∷ findings) = option_or (program_map program findings) (pmt_found program finding)
@@ -64,11 +64,11 @@ numbered number (Some pmt) = if pmt.header.table_id_extension == number then Som
 unfoldable pub is_same_stream : StreamView → StreamView → Bool
 is_same_stream one other = one.stream_type == other.stream_type && one.elementary_pid == other.elementary_pid
 
--- a stream is one of these
+-- a stream is among these
 unfoldable pub has_stream : List StreamView → StreamView → Bool
 has_stream streams s = list_any (λ other. is_same_stream other s) streams
 
--- all of the others are
+-- the first list has all streams of the second
 unfoldable pub has_streams : List StreamView → List StreamView → Bool
 has_streams streams others = list_all (λ s. has_stream streams s) others
 
@@ -78,23 +78,23 @@ names_same one other = has_streams one other && has_streams other one
 
 -- 3. Tables with descriptors that the last one has not
 
--- AC-3 and enhanced AC-3 (EN 300 468, annex D): what these say stands in the stream itself
+-- AC-3 and enhanced AC-3 (EN 300 468, annex D): the stream itself has what these descriptors say
 unfoldable pub is_of_sound : ℕ → Bool
 is_of_sound tag = tag == 0x6A || tag == 0x7A
 
--- of the same tag and bytes; of AC-3 the tag alone counts
+-- descriptors with the same tag and bytes; for AC-3 the tag alone counts
 unfoldable pub is_same_descriptor : DescriptorView → DescriptorView → Bool
 is_same_descriptor one other = one.tag == other.tag && (is_of_sound one.tag || bytes_eq one.body other.body)
 
--- a descriptor is one of those in these bytes
+-- a descriptor is among the descriptors in these bytes
 unfoldable pub has_descriptor : List ℕ → DescriptorView → Bool
 has_descriptor bytes d = list_any (λ other. is_same_descriptor other d) (descriptors_in bytes)
 
--- all of the others are
+-- the first loop has all descriptors of the second
 unfoldable pub has_descriptors : List ℕ → List ℕ → Bool
 has_descriptors bytes others = list_all (λ d. has_descriptor bytes d) (descriptors_in others)
 
--- streams that are not the same, or the one has all descriptors of the other
+-- the streams are not the same, or the first has all descriptors of the second
 unfoldable pub keeps_one : StreamView → StreamView → Bool
 keeps_one s other = not (is_same_stream s other) || has_descriptors s.descriptors other.descriptors
 
@@ -104,23 +104,23 @@ keeps_stream streams s = list_all (λ one. keeps_one one s) streams
 unfoldable pub keeps_streams : List StreamView → List StreamView → Bool
 keeps_streams streams others = list_all (λ s. keeps_stream streams s) others
 
--- a table has all descriptors of the other: those of the program, and those of each stream that both have
+-- the first table has all descriptors of the second: of the program, and of each stream that both have
 unfoldable pub keeps_descriptors : PmtView → PmtView → Bool
 keeps_descriptors one other = has_descriptors one.program_info other.program_info && keeps_streams one.streams other.streams
 
--- 4. The first table that is other in a part
+-- 4. The first table that differs from the last one in a part
 
 unfoldable pub differs : MapPart → PmtView → Option PmtView → Bool
 differs part last None = false
 differs NamedStreams last (Some pmt) = not (names_same last.streams pmt.streams)
 differs Descriptors last (Some pmt) = not (keeps_descriptors last pmt)
 
--- the packet in which the first table ends that is other than this one
+-- the packet where the first table ends that differs from this one
 unfoldable pub first_differing : MapPart → Program → PmtView → List FindingView → Option ℕ
 first_differing part program last [] = None
 first_differing part program last (finding ∷ findings) =
     if differs part last (pmt_found program finding) then Some finding.packet else first_differing part program last findings
 
--- than the last one
+-- the packet where the first table ends that differs from the last one
 unfoldable pub map_change : MapPart → Program → List FindingView → Option ℕ
 map_change part program findings = option_and_then (λ last. first_differing part program last findings) (program_map program findings)

@@ -1,6 +1,6 @@
 -- The sections of a PID in the findings of a stream.
 use Rattle.std.specs.Prelude.{ℕ, if◌then◌else◌, List, Option, Some, None}
-use Rattle.demux.specs.Views.{WhatView, IsSection, FindingView}
+use Rattle.pid_findings.specs.Views.{WhatView, IsSection, FindingView}
 use Rattle.demux.specs.Laws.{has_pid}
 
 -- the bytes of a section

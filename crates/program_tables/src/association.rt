@@ -4,12 +4,12 @@ ghost use Rattle.std.specs.Prelude.{◌≡◌, true, IfOk, OnOk, map, option_map
 ghost use Rattle.std.specs.List.{list_all};
 ghost use Rattle.psi_tables.specs.ProgramAssociation.{pat_at, pat_view, programs_of};
 ghost use Rattle.psi_tables.specs.Views.{section_view};
-ghost use Rattle.demux.specs.Shown.{finding_view};
+ghost use Rattle.pid_findings.specs.Shown.{finding_view};
 ghost use Rattle.program_tables.specs.Association as spec;
 
 use crate::program_list::{PROGRAM_NUMBERS, ProgramList};
 use crate::sections::section_on;
-use demux::Finding;
+use pid_findings::Finding;
 use psi_tables::{Pat, Program, Section};
 use std::alloc::{AllocError, Allocator, Global};
 use std::marker::Model;
@@ -37,7 +37,7 @@ impl<A: Allocator> Model for Association<A> {
     } };
 }
 
-// A table that is in force now.
+// Returns a table that is in force now.
 #[tactic(auto, unfolding(crate::specs::Association::pat_of_section, crate::specs::Association::in_force))]
 fn pat_of_section<'f>(section: &Section<'f>) -> Option<Pat<'f>>
     ensures { option_map pat_view result ≡ spec.in_force (pat_at (section_view section.now)) }
@@ -75,7 +75,7 @@ pub(crate) fn pat_found<'f, A: Allocator>(finding: &'f Finding<'_, A>) -> Option
     }
 }
 
-// The first table in force.
+// Returns the first table in force.
 fn first_pat<'f, A: Allocator>(findings: &'f [Finding<'_, A>]) -> Option<Pat<'f>>
     ensures { option_map pat_view result ≡ spec.first_pat (map finding_view findings.now) }
 {
@@ -87,7 +87,7 @@ fn first_pat<'f, A: Allocator>(findings: &'f [Finding<'_, A>]) -> Option<Pat<'f>
     None
 }
 
-// The entries of a table.
+// Appends the entries of a table.
 #[tactic(auto, unfolding(crate::specs::Association::with_programs))]
 fn add_entries<A: Allocator>(pat: Pat<'_>, programs: &mut ProgramList<A>) -> Result<(), AllocError>
     ensures { OnOk result (programs.new ≡ spec.with_programs programs.old (programs_of pat.entry.programs)) }
@@ -120,7 +120,7 @@ pub(crate) fn add_version<A: Allocator>(
     }
 }
 
-// The entries of a version.
+// Appends the entries of a version.
 fn add_all<A: Allocator>(
     version: u8,
     findings: &[Finding<'_, A>],
@@ -156,7 +156,7 @@ pub fn named_programs<A: Allocator>(
     }))
 }
 
-// By program_number where the last program of it is, if there is one.
+// Returns, by program_number, the place of the last program with this number; 0 if there is none.
 fn places_of(programs: &[Program]) -> [u16; PROGRAM_NUMBERS] {
     let mut places = [0; PROGRAM_NUMBERS];
     for (place, program) in programs.iter().enumerate() {
@@ -165,7 +165,7 @@ fn places_of(programs: &[Program]) -> [u16; PROGRAM_NUMBERS] {
     places
 }
 
-// Whether the program at a place is this one with the same PID.
+// Returns whether the program at a place is this one with the same PID.
 #[tactic(auto, unfolding(crate::specs::Association::is_entry))]
 fn is_at(place: u16, named: &[Program], program: Program) -> bool
     ensures { result ≡ true → spec.is_entry named.now program ≡ true }
@@ -176,7 +176,7 @@ fn is_at(place: u16, named: &[Program], program: Program) -> bool
     }
 }
 
-// Whether a program is one of these with the same PID: it is looked for first where one of its number is.
+// Returns whether `named` has a program with the same number and PID. It first looks at the place noted for the number.
 #[tactic(auto, unfolding(crate::specs::Association::is_entry))]
 fn is_entry(places: &[u16; PROGRAM_NUMBERS], named: &[Program], program: Program) -> bool
     ensures { result ≡ spec.is_entry named.now program }
@@ -189,7 +189,7 @@ fn is_entry(places: &[u16; PROGRAM_NUMBERS], named: &[Program], program: Program
     })
 }
 
-// Whether an entry names the network PID, or is one of these.
+// Returns whether an entry names the network PID, or a program in `named`.
 #[tactic(auto, unfolding(crate::specs::Association::is_said))]
 fn is_said(places: &[u16; PROGRAM_NUMBERS], named: &[Program], program: Program) -> bool
     ensures { result ≡ spec.is_said named.now program }
@@ -197,7 +197,7 @@ fn is_said(places: &[u16; PROGRAM_NUMBERS], named: &[Program], program: Program)
     program.program_number == 0 || is_entry(places, named, program)
 }
 
-// Whether all entries of a table do.
+// Returns whether each entry of a table names the network PID, or a program in `named`.
 fn are_said(places: &[u16; PROGRAM_NUMBERS], named: &[Program], pat: Pat<'_>) -> bool
     ensures { result ≡ list_all (spec.is_said named.now) (programs_of pat.entry.programs) }
 {
@@ -209,7 +209,7 @@ fn are_said(places: &[u16; PROGRAM_NUMBERS], named: &[Program], pat: Pat<'_>) ->
     true
 }
 
-// Whether a table says something else than the association.
+// Returns whether a table differs from the association.
 #[tactic(auto, unfolding(crate::specs::Association::differs))]
 fn differs<A: Allocator>(
     places: &[u16; PROGRAM_NUMBERS],
@@ -227,7 +227,7 @@ fn differs<A: Allocator>(
     !are_said(places, &association.programs, pat)
 }
 
-// Whether a finding has such a table.
+// Returns whether a finding has a table that differs from the association.
 #[tactic(auto, unfolding(crate::specs::Association::is_other))]
 fn is_other<A: Allocator>(
     places: &[u16; PROGRAM_NUMBERS],

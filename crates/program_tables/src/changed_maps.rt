@@ -2,15 +2,15 @@
 
 ghost use Rattle.std.specs.Prelude.{◌≡◌, ◌<◌, IfOk, List, OnOk, map, nat_eq};
 ghost use Rattle.std.specs.Map.{lookup};
-ghost use Rattle.demux.specs.Shown.{finding_view};
-ghost use Rattle.demux.specs.Views.{FindingView};
+ghost use Rattle.pid_findings.specs.Shown.{finding_view};
+ghost use Rattle.pid_findings.specs.Views.{FindingView};
 ghost use Rattle.program_tables.specs.MapPlaces as spec;
 ghost use Rattle.program_tables.specs.ProgramMaps.{map_change, pmt_found, program_map};
 
 use crate::map_places::{MapPlaces, map_at, map_key, map_places, program_found};
 use crate::program_map::{MapPart, differs};
-use demux::Finding;
 use indexmap::IndexMap;
+use pid_findings::Finding;
 use psi_tables::Program;
 use std::alloc::{AllocError, Allocator, Global};
 use std::hash::{BuildHasherDefault, FoldHasher};
@@ -35,7 +35,7 @@ impl<A: Allocator> Model for MapChanges<A> {
     ghost view = { λ c. c.packets.entries };
 }
 
-// Whether a finding has a table of a program that is other than its last one in a part.
+// Returns whether a finding has a table of a program that differs in a part from the program's last table.
 #[tactic(auto, unfolding(crate::specs::MapPlaces::is_change))]
 fn is_change<A: Allocator>(
     part: MapPart,
@@ -54,7 +54,7 @@ fn is_change<A: Allocator>(
     }
 }
 
-// The packet that is noted for a program.
+// Returns the packet that is noted for a program.
 fn packet_of<A: Allocator>(packets: &ChangePackets<A>, program: Program) -> Option<u64>
     ensures value { result ≡ lookup (nat_eq (spec.map_key program)) packets.now.entries }
     ensures number { program.program_number < 65_536 }

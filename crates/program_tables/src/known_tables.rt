@@ -1,7 +1,7 @@
 //! What the tables among findings say, finding by finding.
 
 ghost use Rattle.std.specs.Prelude.{◌≡◌, ◌≤◌, [], OnOk, is_some, length, map, take};
-ghost use Rattle.demux.specs.Shown.{finding_view};
+ghost use Rattle.pid_findings.specs.Shown.{finding_view};
 ghost use Rattle.program_tables.specs.Association.{pat_found};
 ghost use Rattle.program_tables.specs.KnownTables as spec;
 ghost use Rattle.program_tables.specs.ProgramMaps.{program_map};
@@ -9,8 +9,8 @@ ghost use Rattle.program_tables.specs.ProgramMaps.{program_map};
 use crate::association::{add_version, pat_found};
 use crate::map_places::{MapPlaces, map_at, note_place};
 use crate::program_list::ProgramList;
-use demux::Finding;
 use indexmap::IndexMap;
+use pid_findings::Finding;
 use psi_tables::Program;
 use std::alloc::{AllocError, Allocator, Global};
 use std::marker::Model;
@@ -33,7 +33,7 @@ impl<A: Allocator> Model for KnownTables<A> {
     ghost view = { λ t. record { version = t.version; programs = t.programs; places = t.places.entries } };
 }
 
-// The version of the first association table, with another finding.
+// Returns the version of the first association table, after another finding.
 #[tactic(auto, unfolding(crate::specs::KnownTables::version_with))]
 fn version_with<A: Allocator>(version: Option<u8>, finding: &Finding<'_, A>) -> Option<u8>
     ensures { result ≡ spec.version_with version (pat_found (finding_view finding.now)) }
@@ -47,7 +47,7 @@ fn version_with<A: Allocator>(version: Option<u8>, finding: &Finding<'_, A>) -> 
     }
 }
 
-// The programs, with those that another finding names in this version.
+// Adds the programs that another finding names in this version.
 #[tactic(auto, unfolding(crate::specs::KnownTables::programs_with))]
 fn add_programs<A: Allocator>(
     version: Option<u8>,
@@ -64,7 +64,7 @@ fn add_programs<A: Allocator>(
 }
 
 impl<A: Allocator + Copy> KnownTables<A> {
-    /// Returns what is known before the first finding: nothing.
+    /// Returns the state before the first finding: no table is known.
     #[tactic(auto, unfolding(crate::specs::KnownTables::known_from))]
     pub fn new(alloc: A) -> KnownTables<A>
         ensures { result ≡ spec.known_in [] }
@@ -86,7 +86,7 @@ impl<A: Allocator + Copy> KnownTables<A> {
         note_place(&mut self.places, at, finding)
     }
 
-    /// Takes the findings after those that it has taken.
+    /// Takes the findings from the place `taken` on.
     pub fn take(&mut self, taken: usize, findings: &[Finding<'_, A>]) -> Result<(), AllocError>
         requires within { taken ≤ length findings.now }
         requires known { self.old ≡ spec.known_in (take taken (map finding_view findings.now)) }

@@ -9,8 +9,8 @@ use crate::program_map::is_same_stream;
 use descriptor_loops::{Descriptor, Descriptors};
 use psi_tables::{Pmt, Stream, Streams};
 
-// Whether a descriptor with this tag says what stands in the stream itself: of AC-3 and enhanced AC-3 (EN 300 468,
-// annex D).
+// Returns whether a descriptor with this tag only repeats facts of the stream itself: AC-3 and enhanced AC-3 (EN 300
+// 468, annex D).
 #[tactic(auto, unfolding(crate::specs::ProgramMaps::is_of_sound))]
 fn is_of_sound(tag: u8) -> bool
     ensures { result ≡ spec.is_of_sound tag }
@@ -18,7 +18,7 @@ fn is_of_sound(tag: u8) -> bool
     tag == 0x6A || tag == 0x7A
 }
 
-// Whether two descriptors have one tag and the same bytes; of AC-3 the tag alone counts.
+// Returns whether two descriptors have one tag and the same bytes; of AC-3 the tag alone counts.
 #[tactic(auto, unfolding(crate::specs::ProgramMaps::is_same_descriptor))]
 fn is_same_descriptor(one: Descriptor<'_>, other: Descriptor<'_>) -> bool
     ensures { result ≡ spec.is_same_descriptor (descriptor_view one.entry) (descriptor_view other.entry) }
@@ -26,7 +26,7 @@ fn is_same_descriptor(one: Descriptor<'_>, other: Descriptor<'_>) -> bool
     one.tag == other.tag && (is_of_sound(one.tag) || one.body == other.body)
 }
 
-// Whether a descriptor is one of those in these bytes.
+// Returns whether a descriptor is among the descriptors in `bytes`.
 #[tactic(auto, unfolding(crate::specs::ProgramMaps::has_descriptor))]
 fn has_descriptor(bytes: &[u8], descriptor: Descriptor<'_>) -> bool
     ensures { result ≡ spec.has_descriptor bytes.now (descriptor_view descriptor.entry) }
@@ -39,7 +39,7 @@ fn has_descriptor(bytes: &[u8], descriptor: Descriptor<'_>) -> bool
     false
 }
 
-// Whether all descriptors in the other bytes are.
+// Returns whether all descriptors in `others` are among the descriptors in `bytes`.
 #[tactic(auto, unfolding(crate::specs::ProgramMaps::has_descriptors))]
 fn has_descriptors(bytes: &[u8], others: &[u8]) -> bool
     ensures { result ≡ spec.has_descriptors bytes.now others.now }
@@ -52,7 +52,7 @@ fn has_descriptors(bytes: &[u8], others: &[u8]) -> bool
     true
 }
 
-// Whether a stream is another one, or has all descriptors of the other entry.
+// Returns whether an entry of the same stream has all descriptors of `other`; true for another stream.
 #[tactic(auto, unfolding(crate::specs::ProgramMaps::keeps_one))]
 fn keeps_one(stream: Stream<'_>, other: Stream<'_>) -> bool
     ensures { result ≡ spec.keeps_one (stream_view stream.entry) (stream_view other.entry) }
@@ -60,7 +60,7 @@ fn keeps_one(stream: Stream<'_>, other: Stream<'_>) -> bool
     !is_same_stream(stream, other) || has_descriptors(stream.descriptors, other.descriptors)
 }
 
-// Whether the entries of a stream have all its descriptors.
+// Returns whether the entries of a stream have all its descriptors.
 #[tactic(auto, unfolding(crate::specs::ProgramMaps::keeps_stream))]
 fn keeps_stream(streams: Streams<'_>, stream: Stream<'_>) -> bool
     ensures { result ≡ spec.keeps_stream (streams_of streams.entry) (stream_view stream.entry) }
@@ -73,7 +73,7 @@ fn keeps_stream(streams: Streams<'_>, stream: Stream<'_>) -> bool
     true
 }
 
-// Whether those of all others do.
+// Returns whether the entries of each stream in `others` have all its descriptors.
 #[tactic(auto, unfolding(crate::specs::ProgramMaps::keeps_streams))]
 fn keeps_streams(streams: Streams<'_>, others: Streams<'_>) -> bool
     ensures { result ≡ spec.keeps_streams (streams_of streams.entry) (streams_of others.entry) }

@@ -3,13 +3,13 @@
 ghost use Rattle.std.specs.Prelude.{◌≡◌, ◌<◌, IfOk, OnOk, nat_eq, map, option_map};
 ghost use Rattle.std.specs.Map.{lookup};
 ghost use Rattle.psi_tables.specs.ProgramMap.{pmt_view};
-ghost use Rattle.demux.specs.Shown.{finding_view};
+ghost use Rattle.pid_findings.specs.Shown.{finding_view};
 ghost use Rattle.program_tables.specs.MapPlaces as spec;
 ghost use Rattle.program_tables.specs.ProgramMaps.{program_map};
 
 use crate::program_map::{any_map, pmt_found};
-use demux::Finding;
 use indexmap::IndexMap;
+use pid_findings::Finding;
 use psi_tables::{Pmt, Program};
 use std::alloc::{AllocError, Allocator};
 use std::hash::{BuildHasherDefault, FoldHasher};
@@ -25,7 +25,7 @@ pub fn map_key(program: Program) -> u32
     u32::from(program.pid) * 65_536 + u32::from(program.program_number)
 }
 
-// The number of the program of a table.
+// Returns the number of the program of a table.
 fn number_of(pmt: &Pmt<'_>) -> u16
     ensures value { result ≡ (pmt_view pmt.now).header.table_id_extension }
     ensures range { result < 65_536 }
@@ -81,7 +81,7 @@ pub fn map_places<A: Allocator + Copy>(
     Ok(places)
 }
 
-// The place of the last map of a program.
+// Returns the place of the last map of a program.
 fn place_of<A: Allocator>(places: &MapPlaces<A>, program: Program) -> Option<usize>
     ensures value { result ≡ lookup (nat_eq (spec.map_key program)) places.now.entries }
     ensures number { program.program_number < 65_536 }
@@ -92,7 +92,7 @@ fn place_of<A: Allocator>(places: &MapPlaces<A>, program: Program) -> Option<usi
     }
 }
 
-// The table of a program that the finding at a place has.
+// Returns the table of a program that the finding at a place has.
 #[tactic(auto, unfolding(crate::specs::MapPlaces::map_there))]
 fn map_there<'f, A: Allocator>(
     program: Program,

@@ -42,7 +42,8 @@ impl<A: Allocator> ProgramList<A> {
         }
     }
 
-    // Whether entries of a number are passed over: 0 names the network PID, and of a number the first entry counts.
+    // Returns whether entries of a number are passed over: 0 names the network PID, and of a number the first entry
+    // counts.
     fn passes_over(&self, number: u16) -> bool
         ensures { result ≡ ((number == 0) || is_named number self.now) }
     {

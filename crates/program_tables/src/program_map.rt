@@ -3,12 +3,12 @@
 ghost use Rattle.std.specs.Prelude.{◌≡◌, map, option_map};
 ghost use Rattle.psi_tables.specs.ProgramMap.{pmt_at, pmt_view, stream_view, streams_of};
 ghost use Rattle.psi_tables.specs.Views.{section_view};
-ghost use Rattle.demux.specs.Shown.{finding_view};
+ghost use Rattle.pid_findings.specs.Shown.{finding_view};
 ghost use Rattle.program_tables.specs.ProgramMaps as spec;
 
 use crate::map_descriptors::keeps_descriptors;
 use crate::sections::{is_on, section_in, section_on};
-use demux::Finding;
+use pid_findings::Finding;
 use psi_tables::{Pmt, Program, Section, Stream, Streams};
 use std::alloc::Allocator;
 
@@ -21,7 +21,7 @@ pub enum MapPart {
     Descriptors,
 }
 
-// A table that is in force now.
+// Returns a table that is in force now.
 #[tactic(auto, unfolding(crate::specs::ProgramMaps::now_in_force))]
 fn map_of_section<'f>(section: &Section<'f>) -> Option<Pmt<'f>>
     ensures { option_map pmt_view result ≡ spec.now_in_force (pmt_at (section_view section.now)) }
@@ -59,7 +59,7 @@ pub fn any_map<'f, A: Allocator>(finding: &'f Finding<'_, A>) -> Option<Pmt<'f>>
     }
 }
 
-// A table, if it is of this program.
+// Returns a table, if it is of this program.
 #[tactic(auto, unfolding(crate::specs::ProgramMaps::numbered))]
 fn numbered(number: u16, found: Option<Pmt<'_>>) -> Option<Pmt<'_>>
     ensures { option_map pmt_view result ≡ spec.numbered number (option_map pmt_view found.entry) }
@@ -113,7 +113,7 @@ pub fn last_program_map<'f, A: Allocator>(
     last
 }
 
-// Whether two streams have one stream_type and PID.
+// Returns whether two streams have one stream_type and PID.
 #[tactic(auto, unfolding(crate::specs::ProgramMaps::is_same_stream))]
 pub(crate) fn is_same_stream(one: Stream<'_>, other: Stream<'_>) -> bool
     ensures { result ≡ spec.is_same_stream (stream_view one.entry) (stream_view other.entry) }
@@ -121,7 +121,7 @@ pub(crate) fn is_same_stream(one: Stream<'_>, other: Stream<'_>) -> bool
     one.stream_type == other.stream_type && one.elementary_pid == other.elementary_pid
 }
 
-// Whether a stream is one of these.
+// Returns whether `streams` has a stream with the same stream_type and PID.
 #[tactic(auto, unfolding(crate::specs::ProgramMaps::has_stream))]
 fn has_stream(streams: Streams<'_>, stream: Stream<'_>) -> bool
     ensures { result ≡ spec.has_stream (streams_of streams.entry) (stream_view stream.entry) }
@@ -134,7 +134,7 @@ fn has_stream(streams: Streams<'_>, stream: Stream<'_>) -> bool
     false
 }
 
-// Whether all others are.
+// Returns whether `streams` has all streams in `others`.
 #[tactic(auto, unfolding(crate::specs::ProgramMaps::has_streams))]
 fn has_streams(streams: Streams<'_>, others: Streams<'_>) -> bool
     ensures { result ≡ spec.has_streams (streams_of streams.entry) (streams_of others.entry) }

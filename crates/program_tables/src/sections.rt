@@ -1,10 +1,10 @@
 //! The sections of a PID in the findings of a stream.
 
 ghost use Rattle.std.specs.Prelude.{◌≡◌, false, None, option_map};
-ghost use Rattle.demux.specs.Shown.{finding_view};
+ghost use Rattle.pid_findings.specs.Shown.{finding_view};
 ghost use Rattle.program_tables.specs.Sections as spec;
 
-use demux::{Finding, What};
+use pid_findings::{Finding, What};
 use std::alloc::Allocator;
 
 /// Returns the bytes of a section that is found.
@@ -29,7 +29,7 @@ pub fn section_on<'f, A: Allocator>(pid: u16, finding: &'f Finding<'_, A>) -> Op
     section_in(finding)
 }
 
-/// Returns whether a finding is of a PID: one that is not has no section of it.
+/// Returns whether a finding is of a PID. A finding of another PID has no section of it.
 #[tactic(auto, unfolding(crate::specs::Sections::section_on))]
 pub fn is_on<A: Allocator>(pid: u16, finding: &Finding<'_, A>) -> bool
     ensures { result ≡ false → spec.section_on pid (finding_view finding.now) ≡ None }

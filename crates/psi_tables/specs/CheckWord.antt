@@ -1,7 +1,7 @@
 -- The check word CRC_32 of a section, one bit of the message at a time (ISO/IEC 13818-1, Annex A).
 use Rattle.std.specs.Prelude.{ℕ, ◌*◌, ◌/◌, ◌%◌, ◌^◌, ◌==◌, if◌then◌else◌, bit_xor, List, [], ◌∷◌}
 
--- the register after one bit: shifted left by one, and exclusive or with the polynomial where the bit shifted out differs from the message's
+-- the register after one bit: shifted left by one, and exclusive or with the polynomial if the bit shifted out differs from the message's
 unfoldable pub after_bit : ℕ → ℕ → ℕ
 after_bit register bit =
     if register / 2 ^ 31 == bit then register * 2 % 2 ^ 32 else bit_xor (register * 2 % 2 ^ 32) 0x04C11DB7

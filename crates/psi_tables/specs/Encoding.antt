@@ -26,12 +26,12 @@ abbrev pub section_length : Option LongHeader → ℕ → ℕ
 section_length None n = n
 section_length (Some h) n = 9 + n
 
--- how many bytes stand before the body
+-- the number of bytes before the body
 abbrev pub front_length : Option LongHeader → ℕ
 front_length None = 3
 front_length (Some h) = 8
 
--- how many bytes stand after the body
+-- the number of bytes after the body
 abbrev pub crc_length : Option LongHeader → ℕ
 crc_length None = 0
 crc_length (Some h) = 4
@@ -75,7 +75,7 @@ abbrev pub NumbersFit : Option LongHeader → Type 0
 NumbersFit None = Unit {0}
 NumbersFit (Some h) = LongFits h
 
--- a section that can be written: its numbers have room, and its length is at most that of a private section
+-- a section that can be written: its numbers have room, and its section_length is at most 4,093, as in a private section
 pub record IsWritable (s : SectionView) : Type 0 where
   pub table_id : s.header.table_id < 2 ^ 8
   pub numbers : NumbersFit s.header.long

@@ -13,11 +13,11 @@ use Rattle.psi_tables.specs.declared.error.SectionError.TheVariants.{Short}
 abbrev pub CheckWordEnds : Type 0
 CheckWordEnds = (message : List ℕ) → check_word (message ++ check_word_bytes (check_word message)) ≡ 0
 
--- bytes after those that were read make no difference, unless more of them were wanted
+-- further bytes make no difference, unless the bytes are too short for the section
 abbrev pub LongerReadsTheSame : Type 0
 LongerReadsTheSame = (bytes more : List ℕ) → (section_at bytes ≡ Err Short → ⊥) → section_at (bytes ++ more) ≡ section_at bytes
 
--- a section that can be written is written as a section that says the same, and is read again as it, whatever stands after it
+-- a section that can be written is encoded by its written bytes, and reading them returns it, whatever bytes follow
 pub record WrittenIsRead (s : SectionView) : Type 0 where
   pub section : IsSection (section_bytes s) s
   pub read : (rest : List ℕ) → section_at (section_bytes s ++ rest) ≡ Ok (s, length (section_bytes s))
@@ -25,7 +25,7 @@ pub record WrittenIsRead (s : SectionView) : Type 0 where
 abbrev pub SectionsAreReadAgain : Type 0
 SectionsAreReadAgain = (s : SectionView) → IsWritable s → WrittenIsRead s
 
--- the section of a PAT can be written, is a PAT that says the same, and is read again as it
+-- the section of a PAT can be written, is a PAT with the same content, and is read again as it
 pub record PatIsRead (p : PatView) : Type 0 where
   pub writable : IsWritable (pat_section p)
   pub table : IsPat (pat_section p) p
@@ -34,7 +34,7 @@ pub record PatIsRead (p : PatView) : Type 0 where
 abbrev pub PatsAreReadAgain : Type 0
 PatsAreReadAgain = (p : PatView) → PatFits p → PatIsRead p
 
--- the section of a PMT can be written, is a PMT that says the same, and is read again as it
+-- the section of a PMT can be written, is a PMT with the same content, and is read again as it
 pub record PmtIsRead (p : PmtView) : Type 0 where
   pub writable : IsWritable (pmt_section p)
   pub table : IsPmt (pmt_section p) p

@@ -15,7 +15,7 @@ use Rattle.psi_tables.specs.declared.pat.programs.Programs.{Programs}
 use Rattle.psi_tables.specs.declared.pat.program_loop.ProgramLoop.{ProgramLoop}
 use Rattle.psi_tables.specs.declared.pat.Pat.{Pat}
 
--- what a program association section says
+-- the content of a program association section
 pub record PatView : Type 0 where
   pub header : LongHeader
   pub programs : List Program
@@ -29,12 +29,12 @@ pub record IsProgram (bytes : List ℕ) (p : Program) : Type 0 where
   pub three_bits : reserved < 2 ^ 3
   pub pid : p.pid < 2 ^ 13
 
--- bytes are entries one after the other
+-- the bytes are these entries, in order
 abbrev pub ArePrograms : List ℕ → List Program → Type 0
 ArePrograms bytes [] = bytes ≡ []
 ArePrograms bytes (p ∷ ps) = (one : List ℕ) × (rest : List ℕ) × (bytes ≡ one ++ rest) × IsProgram one p × ArePrograms rest ps
 
--- a section is a program association section that says this
+-- a section is a program association section with this content
 pub record IsPat (s : SectionView) (p : PatView) : Type 0 where
   pub table_id : s.header.table_id ≡ 0x00
   pub long : s.header.long ≡ Some p.header
@@ -74,7 +74,7 @@ pat_header header = record { table_id = 0x00; private_indicator = false; long = 
 unfoldable pub pat_section : PatView → SectionView
 pat_section p = record { header = pat_header p.header; body = programs_bytes p.programs }
 
--- the entries that are left of an iterator over a program loop
+-- the remaining entries of an iterator over a program loop
 unfoldable pub programs_of : Programs → List Program
 programs_of p = programs_in p.bytes.now
 
@@ -82,7 +82,7 @@ programs_of p = programs_in p.bytes.now
 unfoldable pub program_loop_of : ProgramLoop → List Program
 program_loop_of l = programs_in l.bytes.items
 
--- what a PAT says
+-- the content of a PAT
 abbrev pub pat_view : Pat → PatView
 pat_view p = record { header = p.header; programs = programs_of p.programs }
 

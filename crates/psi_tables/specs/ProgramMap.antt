@@ -22,7 +22,7 @@ pub record StreamView : Type 0 where
   pub elementary_pid : ℕ
   pub descriptors : List ℕ
 
--- what a program map section says
+-- the content of a program map section
 pub record PmtView : Type 0 where
   pub header : LongHeader
   pub pcr_pid : ℕ
@@ -43,12 +43,12 @@ pub record IsStream (bytes : List ℕ) (s : StreamView) : Type 0 where
   pub four_bits : reserved_after < 2 ^ 4
   pub info_length : length s.descriptors < 2 ^ 12
 
--- bytes are entries one after the other
+-- the bytes are these entries, in order
 abbrev pub AreStreams : List ℕ → List StreamView → Type 0
 AreStreams bytes [] = bytes ≡ []
 AreStreams bytes (s ∷ ss) = (one : List ℕ) × (rest : List ℕ) × (bytes ≡ one ++ rest) × IsStream one s × AreStreams rest ss
 
--- a section is a program map section that says this: three reserved bits, PCR_PID, four reserved bits, program_info_length,
+-- a section is a program map section with this content: three reserved bits, PCR_PID, four reserved bits, program_info_length,
 -- the program's descriptors, the entries
 pub record IsPmt (s : SectionView) (p : PmtView) : Type 0 where
   pub table_id : s.header.table_id ≡ 0x02
@@ -79,11 +79,11 @@ stream_of e = record {
 unfoldable pub streams_in : List ℕ → List StreamView
 streams_in bytes = map stream_of (entries_in 5 bytes)
 
--- the streams of a loop; Body where it ends within an entry
+-- the streams of a loop; Body if it ends within an entry
 unfoldable pub streams_at : List ℕ → Result (List StreamView) SectionError
 streams_at bytes = if is_some (loop_at 5 bytes) then Ok (streams_in bytes) else Err Body
 
--- the table whose body begins with this entry and goes on with a loop of streams
+-- the table whose body begins with this entry and continues with a loop of streams
 unfoldable pub pmt_after : LongHeader → Option (EntryView × List ℕ) → Result PmtView SectionError
 pmt_after header None = Err Body
 pmt_after header (Some p) = streams_at p.1 >>= λ streams. Ok (record {
@@ -93,7 +93,7 @@ pmt_after header (Some p) = streams_at p.1 >>= λ streams. Ok (record {
   streams = streams;
 })
 
--- reading: Syntax, Length, then Body where program_info_length or an ES_info_length does not fit
+-- reading: Syntax, Length, then Body if program_info_length or an ES_info_length does not fit
 unfoldable pub pmt_at : SectionView → Result PmtView SectionError
 pmt_at s = table_header_at 0x02 1021 s >>= λ header. pmt_after header (entry_at 4 s.body)
 
@@ -131,11 +131,11 @@ pmt_header header = record { table_id = 0x02; private_indicator = false; long = 
 unfoldable pub pmt_section : PmtView → SectionView
 pmt_section p = record { header = pmt_header p.header; body = pmt_body p }
 
--- what a stream says
+-- the content of a stream
 abbrev pub stream_view : Stream → StreamView
 stream_view s = record { stream_type = s.stream_type; elementary_pid = s.elementary_pid; descriptors = s.descriptors.now }
 
--- the streams that are left of an iterator over a stream loop
+-- the remaining streams of an iterator over a stream loop
 unfoldable pub streams_of : Streams → List StreamView
 streams_of s = streams_in s.bytes.now
 
@@ -143,7 +143,7 @@ streams_of s = streams_in s.bytes.now
 unfoldable pub stream_loop_of : StreamLoop → List StreamView
 stream_loop_of l = streams_in l.bytes.items
 
--- what a PMT says
+-- the content of a PMT
 abbrev pub pmt_view : Pmt → PmtView
 pmt_view p = record { header = p.header; pcr_pid = p.pcr_pid; program_info = p.program_info.now; streams = streams_of p.streams }
 

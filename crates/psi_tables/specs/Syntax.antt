@@ -16,7 +16,7 @@ pub record IsShortSection (bytes : List ℕ) (s : SectionView) : Type 0 where
   pub two_bits : reserved < 2 ^ 2
   pub section_length : length s.body ≤ 4093
 
--- the long form, section_syntax_indicator 1: eight bytes, the body, and CRC_32, over all of which the check word is 0
+-- the long form, section_syntax_indicator 1: eight bytes, the body, and CRC_32; the check word over all of them is 0
 pub record IsLongSection (bytes : List ℕ) (s : SectionView) (h : LongHeader) : Type 0 where
   pub front : List ℕ
   pub crc : List ℕ

@@ -8,10 +8,10 @@ pub record SectionView : Type 0 where
   pub header : SectionHeader
   pub body : List ℕ
 
--- what a section says
+-- the content of a section
 abbrev pub section_view : Section → SectionView
 section_view s = record { header = s.header; body = s.body.now }
 
--- what a section says, with the number of bytes that it takes
+-- the content of a section, with the number of bytes that it takes
 abbrev pub sized_view : Section × ℕ → SectionView × ℕ
 sized_view p = (section_view p.0, p.1)

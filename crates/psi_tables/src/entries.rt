@@ -14,7 +14,7 @@ pub struct Entry<'a> {
 }
 
 /// Returns the entry at the front of `bytes`, with a head of `head_length` bytes, and what follows it;
-/// `None` where it does not fit.
+/// `None` if it does not fit.
 pub fn entry_at(head_length: usize, bytes: &[u8]) -> Option<(Entry<'_>, &[u8])>
     requires { 2 ≤ head_length }
     ensures exact { option_map (λ p. (entry_view p.0, p.1.now)) result ≡ entry_at head_length bytes.now }

@@ -40,13 +40,13 @@ impl<'a> Pat<'a> {
     /// Reads a section as a PAT.
     ///
     /// Refusals: `Syntax` for another table_id or the short form; `Length` for a section_length over
-    /// 1,021; `Body` where the section ends within an entry. Reserved bits and the bit after
+    /// 1,021; `Body` if the section ends within an entry. Reserved bits and the bit after
     /// section_syntax_indicator are not looked at.
     pub fn read(section: &Section<'a>) -> Result<Pat<'a>, SectionError>
-        // What is read is what the section says.
+        // The section encodes this PAT.
         ensures found { IfOk result (λ pat. IsPat (section_view section.now) (pat_view pat)) }
 
-        // What the section says is read.
+        // Any PAT that the section encodes is returned.
         ensures only { (p : PatView) → IsPat (section_view section.now) p → Gives pat_view result (Ok p) }
 
         // Which refusal it is.
@@ -77,7 +77,7 @@ impl<'a> Pat<'a> {
 }
 
 impl Pat<'_> {
-    /// Leaves exactly the section in `out`, or, where section_length would be over 1,021 (`TooLong`),
+    /// Leaves exactly the section in `out`, or, if section_length would be over 1,021 (`TooLong`),
     /// `out` as it was. It takes no memory.
     #[tactic(auto, unfolding(crate::specs::Encoding::section_bytes, crate::specs::ProgramAssociation::pat_section, crate::specs::ProgramAssociation::pat_header))]
     pub fn write_to(&self, out: &mut ArrayVec<u8, 4096>) -> Result<(), SectionError>

@@ -36,7 +36,7 @@ pub const PMT_TABLE_ID: u8 = 0x02;
 pub struct Pmt<'a> {
     /// table_id_extension is program_number.
     pub header: LongHeader,
-    /// 13 bits; 0x1FFF where the program has no PCR.
+    /// 13 bits; 0x1FFF if the program has no PCR.
     pub pcr_pid: u16,
     /// The bytes of the program's descriptors.
     pub program_info: &'a [u8],
@@ -47,14 +47,14 @@ impl<'a> Pmt<'a> {
     /// Reads a section as a PMT.
     ///
     /// Refusals: `Syntax` for another table_id or the short form; `Length` for a section_length over
-    /// 1,021; `Body` where program_info_length or an ES_info_length passes the end, or the section
+    /// 1,021; `Body` if program_info_length or an ES_info_length passes the end, or the section
     /// ends within an entry. Descriptors are kept as bytes, whole or not; reserved bits and the bit
     /// after section_syntax_indicator are not looked at.
     pub fn read(section: &Section<'a>) -> Result<Pmt<'a>, SectionError>
-        // What is read is what the section says.
+        // The section encodes this PMT.
         ensures found { IfOk result (λ pmt. IsPmt (section_view section.now) (pmt_view pmt)) }
 
-        // What the section says is read.
+        // Any PMT that the section encodes is returned.
         ensures only { (p : PmtView) → IsPmt (section_view section.now) p → Gives pmt_view result (Ok p) }
 
         // Which refusal it is.
@@ -96,7 +96,7 @@ impl<'a> Pmt<'a> {
 }
 
 impl Pmt<'_> {
-    /// Leaves exactly the section in `out`, or, where section_length would be over 1,021 (`TooLong`),
+    /// Leaves exactly the section in `out`, or, if section_length would be over 1,021 (`TooLong`),
     /// `out` as it was. It takes no memory.
     #[tactic(auto, unfolding(crate::specs::Encoding::section_bytes, crate::specs::ProgramMap::pmt_section, crate::specs::ProgramMap::pmt_header))]
     pub fn write_to(&self, out: &mut ArrayVec<u8, 4096>) -> Result<(), SectionError>
@@ -134,7 +134,7 @@ impl Pmt<'_> {
         to_vec(alloc, bytes.as_slice())
     }
 
-    /// Returns the number of bytes of the body, where it has room under a section_length of 1,021.
+    /// Returns the number of bytes of the body, if it has room under a section_length of 1,021.
     #[tactic(auto, using(crate::proofs::StreamEncodings::length_pmt_body))]
     fn body_length(&self) -> Option<usize>
         ensures { MatchOption result (1012 < length (pmt_body (pmt_view self.now)))

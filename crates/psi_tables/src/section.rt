@@ -85,11 +85,11 @@ impl<'a> Section<'a> {
     /// as 3 bytes are there, for a section_length over 4,093 or below 9 in the long form; `CheckWord`
     /// for a wrong check word, in the long form. Reserved bits are not looked at.
     pub fn read(bytes: &'a [u8]) -> Result<(Section<'a>, usize), SectionError>
-        // What is read is what the bytes say.
+        // The bytes encode this section.
         ensures found { IfOk result (λ p. IsSection (take p.1 bytes.now) (section_view p.0)) }
         ensures size { IfOk result (λ p. p.1 ≤ length bytes.now) }
 
-        // What is read can be written.
+        // A section that was read can be written.
         ensures fits { IfOk result (λ p. HeaderFits p.0.header) }
 
         // What the bytes say is read.
@@ -102,7 +102,7 @@ impl<'a> Section<'a> {
         section_at(bytes)
     }
 
-    /// Leaves exactly the bytes of the section in `out`, or, where section_length would be over 4,093
+    /// Leaves exactly the bytes of the section in `out`, or, if section_length would be over 4,093
     /// (`TooLong`), `out` as it was. It takes no memory.
     #[tactic(auto, unfolding(crate::specs::Encoding::section_bytes))]
     pub fn write_to(&self, out: &mut ArrayVec<u8, 4096>) -> Result<(), SectionError>

@@ -1,6 +1,5 @@
--- Frames of records. The bytes of a record stand after a mark, which is no byte of what they are written as: a reader that
--- loses its place finds the next record at the next mark. Bytes are written as those of a packet of RFC 1055 (END, ESC, ESC_END
--- and ESC_ESC of its section "Protocol"), with END before them.
+-- Frames of records. The bytes of a record follow a mark, which never occurs in their written form: a reader that loses its place finds the next record at the
+-- next mark. Bytes are written as in a packet of RFC 1055 (END, ESC, ESC_END and ESC_ESC of its section "Protocol"), with END before them.
 use Rattle.std.specs.Prelude.{ℕ, ◌==◌, if◌then◌else◌, List, [], ◌∷◌, ◌++◌, length, Option, Some, None, Result, Ok, Err}
 use Rattle.pes_packet.specs.AccessUnits.{AccessUnit}
 use Rattle.unit_records.specs.Records.{record_at, record_bytes}
@@ -9,7 +8,7 @@ use Rattle.unit_records.specs.declared.reading.UnitFileError.TheVariants.{Cut, S
 use Rattle.record_frames.specs.declared.fault.FrameFault.{FrameFault}
 use Rattle.record_frames.specs.declared.fault.FrameFault.TheVariants.{Dropped}
 
--- 1. What is written
+-- 1. Writing
 
 -- END, ESC, ESC_END, ESC_ESC
 abbrev pub mark : ℕ
@@ -41,20 +40,20 @@ unfoldable pub frames_of : List (ℕ × AccessUnit) → List ℕ
 frames_of [] = []
 frames_of (entry ∷ entries) = frame_of entry ++ frames_of entries
 
--- 2. What is read
+-- 2. Reading
 
--- how far a reader has come
+-- the state of a reader
 pub data FrameState : Type 0 where
   -- no mark has come since the last record
   Outside : FrameState
   -- these bytes of a record have come after a mark
   Within : List ℕ → FrameState
-  -- and then an escape
+  -- these bytes, and then an escape
   Escaped : List ℕ → FrameState
-  -- what comes is dropped up to the next mark
+  -- the bytes up to the next mark are dropped
   Lost : FrameState
 
--- what is answered at a byte: nothing yet, a record, or that bytes are dropped
+-- the answer at a byte: nothing yet, a record, or that bytes are dropped
 abbrev pub FrameAnswer : Type 0
 FrameAnswer = Result (Option (ℕ × AccessUnit)) FrameFault
 
@@ -96,7 +95,7 @@ kept (Ok (Some entry)) = entry ∷ []
 kept (Ok None) = []
 kept (Err fault) = []
 
--- the records that are read of bytes
+-- the records that are read from bytes
 unfoldable pub entries_read : FrameState → List ℕ → List (ℕ × AccessUnit)
 entries_read s [] = []
 entries_read s (b ∷ bs) = kept (frame_step s b).1 ++ entries_read (frame_step s b).0 bs

@@ -1,10 +1,10 @@
--- What the laws of this crate say.
+-- The laws of this crate.
 use Rattle.std.specs.Prelude.{◌≡◌, ⊤, ℕ, List, [], ◌∷◌, ◌++◌}
 use Rattle.pes_packet.specs.AccessUnits.{AccessUnit}
 use Rattle.unit_records.specs.Laws.{FitsRecord}
 use Rattle.record_frames.specs.Frames.{FrameState, entries_read, frame_of, frames_of}
 
--- what a writer wrote before it was stopped: whole records, and a beginning of one more; and what is missing of that
+-- the output of a writer that was stopped: whole records, and a beginning of a further record; and the missing bytes of that record
 pub record Writer : Type 0 where
   pub whole : List (ℕ × AccessUnit)
   pub half : List ℕ
@@ -37,7 +37,7 @@ unfoldable pub whole_of : List Writer → List (ℕ × AccessUnit)
 whole_of [] = []
 whole_of (w ∷ ws) = w.whole ++ whole_of ws
 
--- of writers that were each stopped anywhere, exactly the records that they wrote whole are read, whatever was read before: no byte
--- of a half record is in any of them, and none after it is lost
+-- exactly the whole records are read from the output of writers, each stopped anywhere, whatever was read before: no byte of a half record is in any of them,
+-- and no record after it is lost
 abbrev pub WritersAreRead : Type 0
 WritersAreRead = (s : FrameState) (ws : List Writer) → AllStopped ws → entries_read s (written_by ws) ≡ whole_of ws

@@ -1,4 +1,4 @@
--- A reader of frames in memory, and the state that it stands for.
+-- A reader of frames in memory, and its state in the definition.
 use Rattle.std.specs.Prelude.{◌≡◌, ℕ, List, Option, Result, Ok, Err}
 use Rattle.pes_packet.specs.AccessUnits.{AccessUnit}
 use Rattle.unit_records.specs.OpenRecords.{IsOpen, come_of}
@@ -20,7 +20,7 @@ state_by Skipping come = Lost
 abbrev pub state_of : OpenFrame → FrameState
 state_of frame = state_by frame.place (come_of frame.begun)
 
--- it stands for this state, and the record that it reads is open
+-- the reader has this state, and the record that it reads is open
 pub record StandsFor (s : FrameState) (frame : OpenFrame) : Type 0 where
   pub state : state_of frame ≡ s
   pub open_record : IsOpen frame.begun
@@ -32,7 +32,7 @@ fault_of Size = Dropped
 fault_of Device = Dropped
 fault_of Memory = NoMemory
 
--- what a call leaves and answers, where this is the state after it and the answer; without memory the record is dropped
+-- the state and the answer of a call, as the definition has them; without memory the record is dropped
 abbrev pub Steps : FrameState × FrameAnswer → OpenFrame → Result (Option (ℕ × AccessUnit)) FrameFault → Type 0
 Steps after new (Ok entry) = StandsFor after.0 new × (after.1 ≡ Ok entry)
 Steps after new (Err Dropped) = StandsFor after.0 new × (after.1 ≡ Err Dropped)

@@ -1,4 +1,4 @@
--- Frames that are read as they come: each whole record is written before the next read, and a line says where bytes are dropped.
+-- Frames that are read as they arrive: each whole record is written before the next read, and a line says where bytes are dropped.
 use Rattle.std.specs.Prelude.{◌≡◌, ◌⊎◌, ◌<◌, ◌≤◌, ◌-◌, ◌^◌, ◌||◌, ℕ, Bool, true, false, if◌then◌else◌, List, [], ◌∷◌, ◌++◌, length, map, Option, Some, None}
 use Rattle.std.specs.Prelude.{Result, Ok, Err, codes, ⊤}
 use Rattle.std.specs.Io.KnownBytes.{Consumes, IsAtEnd, Keeps}
@@ -50,7 +50,7 @@ TakesPiece old input new (Err Read) = Keeps input.before.bytes input.after.bytes
 TakesPiece old input new (Err Write) = ⊥
 TakesPiece old input new (Err Memory) = (piece : List ℕ) × Consumes input.before.bytes input.after.bytes piece
 
--- what waits is written, and then it is reported where bytes were dropped; or the writer fails within the records
+-- the records that wait are written, and then the places of dropped bytes are reported; or the writer fails within the records
 pub record IsOut (old new : FrameFeed) (output faults : Device) : Type 0 where
   pub frame : new.frame ≡ old.frame
   pub reading : reading_of new ≡ reading_of old
@@ -86,8 +86,7 @@ pub record PassedOn (input output faults : Device) (came : List ℕ) : Type 0 wh
   pub clean : IsClean output
   pub tells : Tells faults.before faults.after (cut_lines (drops_in first came))
 
--- the input ended: of its bytes exactly the records that are whole are written, and a line is written for each place where bytes are dropped,
--- also at the end
+-- the input ended: exactly the whole records in its bytes are written, and a line for each place where bytes are dropped, also at the end
 pub record EndsFrames (input output faults : Device) (status : ℕ) : Type 0 where
   pub came : List ℕ
   pub read : Consumes input.before.bytes input.after.bytes came
@@ -104,7 +103,7 @@ IsHalted Read came input output = HasFailed input ⊎ (2 ^ 64 - 1 ≤ length cam
 IsHalted Write came input output = HasFailed output
 IsHalted Memory came input output = ⊤
 
--- it ended early, with a line that says why: what is written is a beginning of the whole records of the bytes that were read
+-- it ended early, with a line that says why: it wrote a beginning of the whole records in the bytes that it read
 pub record StopsFrames (input output faults : Device) (status : ℕ) : Type 0 where
   pub halt : Halt
   pub came : List ℕ

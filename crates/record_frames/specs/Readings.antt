@@ -1,4 +1,4 @@
--- What is read of frames, byte by byte: the records that are passed on, and where bytes are dropped.
+-- Reading frames byte by byte: the records that are passed on, and where bytes are dropped.
 use Rattle.std.specs.Prelude.{◌≡◌, ℕ, ◌+◌, ◌-◌, ◌^◌, min, Bool, true, List, [], ◌∷◌, ◌++◌, Option, Some, None, Result, Ok, Err}
 use Rattle.std.specs.List.{flat_map}
 use Rattle.pes_packet.specs.AccessUnits.{AccessUnit}
@@ -15,7 +15,7 @@ record_of entry = record_bytes entry.0 entry.1
 abbrev pub bytes_of : List (ℕ × AccessUnit) → List ℕ
 bytes_of entries = flat_map record_of entries
 
--- how far a reader has come: its state, the number of records that it passed on, 2^64 - 1 at most, and whether bytes were dropped
+-- the progress of a reader: its state, the number of records that it passed on, 2^64 - 1 at most, and whether bytes were dropped
 pub record Reading : Type 0 where
   pub state : FrameState
   pub count : ℕ
@@ -24,7 +24,7 @@ pub record Reading : Type 0 where
 abbrev pub first : Reading
 first = record { state = Outside; count = 0; told = Bool.false }
 
--- what an answer passes on, and after how many records it drops bytes
+-- the record that an answer passes on, and after how many records it drops bytes
 unfoldable pub answer_bytes : FrameAnswer → List ℕ
 answer_bytes (Ok None) = []
 answer_bytes (Ok (Some entry)) = record_of entry

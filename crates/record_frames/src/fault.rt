@@ -14,7 +14,7 @@ pub enum FrameFault {
     NoMemory,
 }
 
-/// The fault of a record that is refused.
+/// Returns the fault of a record that is refused.
 pub(crate) fn fault_of(refusal: UnitFileError) -> FrameFault
     ensures { result ≡ fault_of refusal }
 {

@@ -126,7 +126,7 @@ impl FrameFeed {
         tell_drops(faults, self.drops.as_slice());
     }
 
-    /// Nothing waits then.
+    /// Discards the bytes and drops that wait.
     pub(crate) fn clear(&mut self)
         ensures frame { self.new.frame ≡ self.old.frame }
         ensures reading { reading_of self.new ≡ reading_of self.old }

@@ -24,7 +24,7 @@ pub enum Place {
     Skipping,
 }
 
-/// A frame of which some bytes have come. It holds the bytes of one unit.
+/// A frame that is read as its bytes arrive. It holds the bytes of one unit.
 #[derive(Drop)]
 pub struct OpenFrame {
     alloc: Global,
@@ -33,7 +33,7 @@ pub struct OpenFrame {
 }
 
 impl OpenFrame {
-    /// A reader before its first byte.
+    /// Returns a reader before its first byte.
     pub fn new(alloc: Global) -> OpenFrame
         ensures { StandsFor Outside result }
     {
@@ -44,7 +44,7 @@ impl OpenFrame {
         }
     }
 
-    // Drops the record that is open, and what comes belongs here.
+    // Drops the open record, and takes the next bytes as at `place`.
     fn restart(&mut self, place: Place)
         ensures place { self.new.place ≡ place }
         ensures come { come_of self.new.begun ≡ [] }

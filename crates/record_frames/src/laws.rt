@@ -2,7 +2,7 @@
 
 ghost use Rattle.record_frames.specs.Laws.{WritersAreRead};
 
-/// Of writers that were each stopped anywhere, exactly the records that they wrote whole are read.
+/// States that exactly the whole records are read from the output of writers, each stopped anywhere.
 pub fn writers_are_read()
     ensures { WritersAreRead }
 {}

@@ -1,9 +1,9 @@
-//! Frames of unit records: a reader finds the next record after one that was cut, as by a feeder that was killed.
+//! Frames of unit records: a reader finds the next record after a cut record, for example of a feeder that was killed.
 //!
-//! `pass_frames` reads frames as they come and writes the records of them that are whole; a line says where it drops
-//! bytes. An `OpenFrame` takes one byte after another, a `FrameFeed` keeps what they give. `stuffed_byte` is a byte of
-//! a record as a frame has it, after `MARK`. `specs/Frames` is the format, `specs/Passing` what `pass_frames` does; the
-//! law `writers_are_read` says that no byte of a half record gets into another.
+//! `pass_frames` reads frames as they arrive and writes their whole records; a line says where it drops bytes. An
+//! `OpenFrame` takes one byte after another, a `FrameFeed` keeps the records and drops that follow. `stuffed_byte` is a
+//! byte of a record as a frame has it, after `MARK`. `specs/Frames` is the format, `specs/Passing` what `pass_frames`
+//! does; the law `writers_are_read` says that no byte of a half record gets into another.
 #![tactic(auto)]
 
 mod fault;

@@ -1,4 +1,4 @@
-//! Frames read to the end of an input, and their records written as they come.
+//! Frames read to the end of an input, and their records written as they arrive.
 
 ghost use Rattle.std.specs.Prelude.{◌≡◌, ◌<◌, [], OnOk, length};
 ghost use Rattle.devices.specs.Devices.{reads, writes};
@@ -108,8 +108,8 @@ fn report_end<E: Sink>(feed: &FrameFeed, passed: Result<(), Halt>, faults: &mut 
 }
 
 /// Reads frames to the end of the input, and writes each whole record before the next read that follows it. Reports
-/// each place where bytes are dropped, as the half record of a writer that was killed, and returns the status: 0 all
-/// were passed on, 1 bytes were dropped, 3 a device failed or out of memory.
+/// each place where bytes are dropped, such as the half record of a writer that was killed, and returns the status: 0
+/// all were passed on, 1 bytes were dropped, 3 a device failed or out of memory.
 pub fn pass_frames<R: Source, W: Sink, E: Sink>(
     alloc: Global,
     input: &mut R,

@@ -8,16 +8,16 @@ use arrayvec::ArrayVec;
 /// The byte before each record (END of RFC 1055).
 pub const MARK: u8 = 192;
 
-/// The byte before one that stands for `MARK` or for itself (ESC).
+/// The byte before the code of `MARK` or of itself (ESC).
 pub(crate) const ESCAPE: u8 = 219;
 
-/// Stands for `MARK` after `ESCAPE` (ESC_END).
+/// Means `MARK` after `ESCAPE` (ESC_END).
 pub(crate) const ESCAPED_MARK: u8 = 220;
 
-/// Stands for `ESCAPE` after `ESCAPE` (ESC_ESC).
+/// Means `ESCAPE` after `ESCAPE` (ESC_ESC).
 pub(crate) const ESCAPED_ESCAPE: u8 = 221;
 
-/// The bytes that a byte of a record is written as.
+/// Returns the bytes that a byte of a record is written as.
 #[tactic(auto, unfolding(crate::specs::Frames::stuffed_byte))]
 pub fn stuffed_byte(byte: u8) -> ArrayVec<u8, 2>
     ensures { result.items ≡ stuffed_byte byte }

@@ -1,6 +1,6 @@
 -- Events, finding by finding.
 use Rattle.std.proofs.Common.{◌≡◌, ◌≤◌, ◌<◌, ℕ, ◌+◌, List, length, map, drop, get_or, refl}
-use Rattle.demux.specs.Views.{FindingView}
+use Rattle.pid_findings.specs.Views.{FindingView}
 use Rattle.program_tables.proofs.Slices.{more, done}
 use Rattle.service_information.specs.EventSections.{event_section_found}
 use Rattle.service_information.specs.Events.{FoundEventView, with_findings, with_section}

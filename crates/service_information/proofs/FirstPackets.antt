@@ -1,6 +1,6 @@
 -- The first finding that a test passes, finding by finding.
 use Rattle.std.proofs.Common.{◌≡◌, ◌≤◌, ◌<◌, ℕ, ◌+◌, Bool, true, false, List, ◌∷◌, length, map, drop, get_or, Some, None, refl}
-use Rattle.demux.specs.Views.{FindingView}
+use Rattle.pid_findings.specs.Views.{FindingView}
 use Rattle.program_tables.proofs.Slices.{more, done}
 use Rattle.service_information.specs.FirstFindings.{first_packet}
 

@@ -1,7 +1,7 @@
 -- The time of a stream, finding by finding.
 use Rattle.std.proofs.Common.{◌≡◌, ◌≤◌, ◌<◌, ℕ, ◌+◌, List, length, map, drop, get_or, None, refl}
 use Rattle.std.specs.Option.{option_or}
-use Rattle.demux.specs.Views.{FindingView}
+use Rattle.pid_findings.specs.Views.{FindingView}
 use Rattle.program_tables.proofs.Slices.{more, done}
 use Rattle.service_information.specs.StreamTime.{time_found, stream_time}
 

@@ -28,14 +28,14 @@ day_of_month day = day - 14956 - days_before_year (counted_year day) - counted_m
 unfoldable pub two_digits : ℕ → List ℕ
 two_digits n = decimal (n / 10) ++ decimal (n % 10)
 
--- of a Modified Julian Date
+-- the date of a Modified Julian Date
 unfoldable pub date_text : ℕ → List ℕ
 date_text day = decimal (year_of day) ++ (codes "-" ++ (two_digits (month_of day) ++ (codes "-" ++ two_digits (day_of_month day))))
 
--- of a number of seconds of a day
+-- the time of day of a number of seconds
 unfoldable pub clock_text : ℕ → List ℕ
 clock_text seconds = two_digits (seconds / 3600) ++ (codes ":" ++ (two_digits (seconds / 60 % 60) ++ (codes ":" ++ two_digits (seconds % 60))))
 
--- of a moment in seconds since 1 January 1970, day 40,587
+-- the date and time of a moment in seconds since 1 January 1970, day 40,587
 unfoldable pub civil_text : ℕ → List ℕ
 civil_text moment = date_text (moment / 86400 + 40587) ++ (codes "T" ++ clock_text (moment % 86400))

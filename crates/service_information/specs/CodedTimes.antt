@@ -6,7 +6,7 @@ use Rattle.std.specs.Prelude.{option_map}
 unfoldable pub decimal_in : ℕ → Option ℕ
 decimal_in byte = if nat_lt (byte / 16) 10 && nat_lt (byte % 16) 10 then Some (byte / 16 * 10 + byte % 16) else None
 
--- of them a number below 60: minutes, seconds
+-- a number below 60: minutes, seconds
 unfoldable pub below_sixty : ℕ → Option ℕ
 below_sixty n = if nat_lt n 60 then Some n else None
 

@@ -6,7 +6,7 @@ use Rattle.psi_tables.specs.declared.error.SectionError.{SectionError}
 use Rattle.psi_tables.specs.declared.section.LongHeader.{LongHeader}
 use Rattle.dvb_tables.specs.EventEntries.{EventView, events_of}
 use Rattle.dvb_tables.specs.EventInformation.{EitView, eit_at}
-use Rattle.demux.specs.Views.{FindingView}
+use Rattle.pid_findings.specs.Views.{FindingView}
 use Rattle.program_tables.specs.Sections.{section_on}
 use Rattle.service_information.specs.declared.event_sections.EventSection.{EventSection}
 
@@ -18,7 +18,7 @@ pub record EventSectionView : Type 0 where
 abbrev pub event_section_view : EventSection → EventSectionView
 event_section_view s = record { program = s.program; events = events_of s.events }
 
--- of a table that is in force now, and not the next one
+-- the events of a table that is in force now, and not the next table
 unfoldable pub if_in_force : LongHeader → List EventView → Option EventSectionView
 if_in_force header events = if header.current_next then Some (record { program = header.table_id_extension; events = events }) else None
 

@@ -1,9 +1,9 @@
--- What present and following event information says beside the events that are taken of it (EN 300 468, 5.2.4).
+-- Present and following event information that is not taken as events (EN 300 468, 5.2.4).
 use Rattle.std.specs.Prelude.{ℕ, ◌==◌, ◌&&◌, not, Bool, true, false, List, length, Option, Some, None}
 use Rattle.std.specs.List.{list_all, list_any}
 use Rattle.std.specs.Str.{bytes_eq}
 use Rattle.dvb_tables.specs.EventEntries.{EventView}
-use Rattle.demux.specs.Views.{FindingView}
+use Rattle.pid_findings.specs.Views.{FindingView}
 use Rattle.dvb_texts.specs.Texts.{decode_text, has_unread}
 use Rattle.service_information.specs.EventSections.{EventSectionView, event_section_found}
 use Rattle.service_information.specs.Events.{FoundEventView, event_in, is_among}
@@ -21,11 +21,11 @@ unfoldable pub is_taken : List FoundEventView → Option FoundEventView → Bool
 is_taken taken None = false
 is_taken taken (Some e) = list_any (is_same e) taken
 
--- an event is one that is taken, and has no other descriptor than its short event descriptor
+-- an event is among the events that are taken, and has no other descriptor than its short event descriptor
 unfoldable pub is_said : ℕ → List FoundEventView → EventView → Bool
 is_said program taken v = is_taken taken (event_in program v) && is_alone v.descriptors
 
--- a section that can't be read as one that is in force, or one of these programs with an event that says more
+-- a section that can't be read as a section in force, or a section of one among these programs with an event that says more
 unfoldable pub says_more : List ℕ → List FoundEventView → Option EventSectionView → Bool
 says_more numbers taken None = true
 says_more numbers taken (Some s) = is_among s.program numbers && not (list_all (is_said s.program taken) s.events)

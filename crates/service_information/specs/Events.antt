@@ -1,11 +1,11 @@
--- The events of a stream's programs: what its present and following event information says of them (EN 300 468, 5.2.4).
+-- The events of a stream's programs, by its present and following event information (EN 300 468, 5.2.4).
 use Rattle.std.specs.Prelude.{ℕ, ◌+◌, ◌==◌, ◌&&◌, nat_lt, not, Bool, if◌then◌else◌, List, [], ◌∷◌, length, filter, insert, Option, Some, None, option_map}
 use Rattle.std.specs.Prelude.{option_and_then}
 use Rattle.std.specs.Char.{is_ascii_alphabetic}
 use Rattle.std.specs.List.{list_all, list_any}
 use Rattle.descriptor_loops.specs.Descriptors.{descriptors_in}
 use Rattle.dvb_tables.specs.EventEntries.{EventView}
-use Rattle.demux.specs.Views.{FindingView}
+use Rattle.pid_findings.specs.Views.{FindingView}
 use Rattle.service_information.specs.CodedTimes.{moment_in, seconds_in}
 use Rattle.service_information.specs.EventSections.{EventSectionView, event_section_found}
 use Rattle.service_information.specs.ShortEvents.{ShortEventView, in_descriptors}
@@ -45,7 +45,8 @@ event_in program v =
     option_and_then (λ said. option_and_then (λ start. option_and_then (λ duration. if_said (timed_event program v said start duration))
     (seconds_in v.duration)) (moment_in v.start_time)) (in_descriptors (descriptors_in v.descriptors))
 
--- 2. Of the events that sections say, in the order in which they are found, those that overlap none before them of the same program, 256 at most; in the order of their starts
+-- 2. The events of sections, in the order of their findings, without an event that overlaps an earlier event of the same program, 256 at most; in the
+-- order of their starts
 
 unfoldable pub overlaps : FoundEventView → FoundEventView → Bool
 overlaps e f = e.program == f.program && (nat_lt e.start (f.start + f.duration) && nat_lt f.start (e.start + e.duration))
@@ -72,7 +73,7 @@ with_entries program taken (v ∷ vs) = with_entries program (with_if_said taken
 unfoldable pub is_among : ℕ → List ℕ → Bool
 is_among number numbers = list_any (λ other. other == number) numbers
 
--- if it is of one of these programs
+-- with the events of a section, if it is for a program among these
 unfoldable pub with_section : List ℕ → List FoundEventView → Option EventSectionView → List FoundEventView
 with_section numbers taken None = taken
 with_section numbers taken (Some s) = if is_among s.program numbers then with_entries s.program taken s.events else taken

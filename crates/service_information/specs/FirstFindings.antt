@@ -1,6 +1,6 @@
 -- The first finding of a stream that a test passes.
 use Rattle.std.specs.Prelude.{ℕ, ◌==◌, Bool, false, if◌then◌else◌, List, [], ◌∷◌, Option, Some, None}
-use Rattle.demux.specs.Views.{WhatView, IsSection, FindingView}
+use Rattle.pid_findings.specs.Views.{WhatView, IsSection, FindingView}
 
 -- the packet at which it is found
 unfoldable pub first_packet : (FindingView → Bool) → List FindingView → Option ℕ

@@ -23,7 +23,7 @@ with_name language name =
 unfoldable pub short_event_in : List ℕ → Option ShortEventView
 short_event_in body = if nat_lt (length body) 3 then None else with_name (take 3 body) (length_prefixed (drop 3 body))
 
--- of a short event descriptor
+-- the event by a short event descriptor
 unfoldable pub of_descriptor : DescriptorView → Option ShortEventView
 of_descriptor d = if d.tag == 0x4D then short_event_in d.body else None
 
@@ -32,7 +32,7 @@ unfoldable pub in_descriptors : List DescriptorView → Option ShortEventView
 in_descriptors [] = None
 in_descriptors (d ∷ ds) = option_or (of_descriptor d) (in_descriptors ds)
 
--- a short event descriptor stands alone
+-- a short event descriptor is the only descriptor
 unfoldable pub is_alone : List ℕ → Bool
 is_alone [] = false
 is_alone (tag ∷ []) = false

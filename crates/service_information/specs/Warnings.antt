@@ -1,7 +1,7 @@
--- Warnings about service information that is not taken as it stands.
+-- Warnings about service information that is not taken unchanged.
 use Rattle.std.specs.Prelude.{ℕ, ◌&&◌, Bool, true, false, if◌then◌else◌, List, [], ◌∷◌, ◌++◌, map, flat_map, option_to_list}
 use Rattle.demux.specs.Laws.{has_pid}
-use Rattle.demux.specs.Views.{WhatView, IsBadSection, FindingView}
+use Rattle.pid_findings.specs.Views.{WhatView, IsBadSection, FindingView}
 use Rattle.service_information.specs.Events.{FoundEventView, stream_events}
 use Rattle.service_information.specs.EventSurplus.{event_surplus, have_whole_texts}
 use Rattle.service_information.specs.FirstFindings.{first_packet}
@@ -9,7 +9,7 @@ use Rattle.service_information.specs.StreamTime.{time_surplus}
 use Rattle.service_information.specs.declared.warning.InformationWarning.{InformationWarning}
 use Rattle.service_information.specs.declared.warning.InformationWarning.TheVariants.{EventSurplus, EventTexts, TimeSurplus, BadSection}
 
--- 1. Sections that can't be read: those of NIT, SDT and BAT, EIT, TDT and TOT (EN 300 468, table 1)
+-- 1. Sections that can't be read: NIT, SDT and BAT, EIT, TDT and TOT (EN 300 468, table 1)
 
 unfoldable pub is_bad : WhatView → Bool
 is_bad (IsBadSection error) = true

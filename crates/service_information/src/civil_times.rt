@@ -35,7 +35,7 @@ fn counted_month(day: u64, year: u64) -> u64
     (10_000 * day.saturating_sub(days_before_year(year))).saturating_sub(149_561_000) / 306_001
 }
 
-// January and February are counted with the year before.
+// Returns 1 for January and February, which are counted as months 14 and 15 of the year before; otherwise 0.
 fn years_on(month: u64) -> u64
     ensures value { result ≡ spec.years_on month }
     ensures bound { result ≤ 1 }
@@ -52,7 +52,7 @@ fn write_two_digits(number: u64, text: &mut String) -> Result<(), AllocError>
     write!(text, "{tens}{ones}")
 }
 
-// The year, the month and the day of a Modified Julian Date.
+// Appends the year, the month and the day of a Modified Julian Date.
 #[tactic(auto, unfolding(crate::specs::CivilTimes::date_text))]
 fn write_date(day: u64, text: &mut String) -> Result<(), AllocError>
     requires { day ≤ 100_000 }
@@ -76,7 +76,7 @@ fn write_date(day: u64, text: &mut String) -> Result<(), AllocError>
     )
 }
 
-// The hour, the minute and the second of a number of seconds of a day.
+// Appends the hour, the minute and the second of a number of seconds of a day.
 #[tactic(auto, unfolding(crate::specs::CivilTimes::clock_text))]
 fn write_clock(seconds: u64, text: &mut String) -> Result<(), AllocError>
     ensures { OnOk result (string_bytes text.new ≡ string_bytes text.old ++ spec.clock_text seconds) }

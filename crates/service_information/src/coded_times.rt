@@ -6,12 +6,12 @@ ghost use Rattle.service_information.specs.CodedTimes as spec;
 // The Modified Julian Date of 1 January 1970.
 const FIRST_DAY: u32 = 40_587;
 
-// That of 31 December 2037, the last day that a description names.
+// The Modified Julian Date of 31 December 2037, the last day that a description names.
 const LAST_DAY: u32 = 65_423;
 
 const SECONDS_A_DAY: u32 = 86_400;
 
-// Two decimal digits in a byte.
+// Reads two decimal digits in a byte.
 #[tactic(auto, unfolding(crate::specs::CodedTimes::decimal_in))]
 fn decimal_in(byte: u8) -> Option<u8>
     ensures value { result ≡ spec.decimal_in byte }
@@ -25,7 +25,7 @@ fn decimal_in(byte: u8) -> Option<u8>
     }
 }
 
-// Two decimal digits of a number below 60.
+// Reads two decimal digits of a number below 60.
 #[tactic(auto, unfolding(crate::specs::CodedTimes::sixtieths_in, crate::specs::CodedTimes::below_sixty))]
 fn sixtieths_in(byte: u8) -> Option<u8>
     ensures value { result ≡ spec.sixtieths_in byte }
@@ -37,7 +37,7 @@ fn sixtieths_in(byte: u8) -> Option<u8>
     }
 }
 
-// A number of seconds, hhmmss.
+// Reads a number of seconds, hhmmss.
 #[tactic(auto, unfolding(crate::specs::CodedTimes::seconds_in))]
 pub(crate) fn seconds_in(digits: [u8; 3]) -> Option<u32>
     ensures value { result ≡ spec.seconds_in digits }
@@ -49,7 +49,7 @@ pub(crate) fn seconds_in(digits: [u8; 3]) -> Option<u32>
     Some(u32::from(hours) * 3_600 + u32::from(minutes) * 60 + u32::from(seconds))
 }
 
-// A time on a day, in seconds since 1 January 1970.
+// Returns a time on a day, in seconds since 1 January 1970.
 #[tactic(auto, unfolding(crate::specs::CodedTimes::moment_on))]
 fn moment_on(day: u32, seconds: u32) -> Option<u32>
     ensures { result ≡ spec.moment_on day seconds }
@@ -61,7 +61,7 @@ fn moment_on(day: u32, seconds: u32) -> Option<u32>
     }
 }
 
-// The moment of UTC_time or of a start_time, in seconds since 1 January 1970.
+// Returns the moment of UTC_time or of a start_time, in seconds since 1 January 1970.
 #[tactic(auto, unfolding(crate::specs::CodedTimes::moment_in))]
 pub(crate) fn moment_in(time: [u8; 5]) -> Option<u32>
     ensures { result ≡ spec.moment_in time }

@@ -2,13 +2,13 @@
 
 ghost use Rattle.std.specs.Prelude.{◌≡◌, option_map};
 ghost use Rattle.psi_tables.specs.Views.{section_view};
-ghost use Rattle.demux.specs.Shown.{finding_view};
+ghost use Rattle.pid_findings.specs.Shown.{finding_view};
 ghost use Rattle.dvb_tables.specs.EventInformation.{eit_at, eit_body_at};
 ghost use Rattle.dvb_tables.specs.EventEntries.{events_of};
 ghost use Rattle.service_information.specs.EventSections as spec;
 
-use demux::Finding;
 use dvb_tables::{EIT_TABLE_ID, EventEntries};
+use pid_findings::Finding;
 use program_tables::section_on;
 use psi_tables::{GREATEST_LENGTH, LongHeader, Section, table_header_at};
 
@@ -23,7 +23,7 @@ pub(crate) struct EventSection<'f> {
     pub events: EventEntries<'f>,
 }
 
-// A table with these events that is in force now.
+// Returns a table with these events that is in force now.
 #[tactic(auto, unfolding(crate::specs::EventSections::if_in_force))]
 fn if_in_force<'f>(header: LongHeader, events: EventEntries<'f>) -> Option<EventSection<'f>>
     ensures { option_map spec.event_section_view result ≡ spec.if_in_force header (events_of events.entry) }
@@ -38,7 +38,7 @@ fn if_in_force<'f>(header: LongHeader, events: EventEntries<'f>) -> Option<Event
     }
 }
 
-// The table of this header and body.
+// Returns the table of this header and body.
 #[tactic(auto, unfolding(crate::specs::EventSections::in_force, dvb_tables::specs::EventInformation::eit_body_at, dvb_tables::specs::EventInformation::eit_after))]
 fn with_body<'f>(header: LongHeader, body: &'f [u8]) -> Option<EventSection<'f>>
     ensures { option_map spec.event_section_view result ≡ spec.in_force (eit_body_at header body.now) }

@@ -1,8 +1,8 @@
-//! What present and following event information says beside the events that are taken of it.
+//! Present and following event information beyond the events taken.
 
 ghost use Rattle.std.specs.Prelude.{◌≡◌, IfOk, map, option_map};
 ghost use Rattle.std.specs.List.{list_all, list_any};
-ghost use Rattle.demux.specs.Shown.{finding_view};
+ghost use Rattle.pid_findings.specs.Shown.{finding_view};
 ghost use Rattle.dvb_tables.specs.EventEntries.{event_view, events_of};
 ghost use Rattle.service_information.specs.EventSections.{event_section_view};
 ghost use Rattle.service_information.specs.EventSurplus as spec;
@@ -11,9 +11,9 @@ use crate::event_sections::{EventSection, event_section_found};
 use crate::events::{FoundEvent, event_in, is_among};
 use crate::short_events::is_alone;
 use crate::table_sections::has_table_id;
-use demux::Finding;
 use dvb_tables::{EIT_TABLE_ID, EventEntries, EventEntry};
 use dvb_texts::{decode_text, has_unread};
+use pid_findings::Finding;
 use std::alloc::{AllocError, Global};
 
 /// The most bytes of an event's name, as written in a descriptor.
@@ -22,7 +22,7 @@ const LONGEST_NAME: usize = 100;
 /// The most bytes of an event's text.
 const LONGEST_TEXT: usize = 150;
 
-// More bytes than a text has whose length stands in a byte.
+// More bytes than any text with a length of 8 bits decodes to.
 const ANY_TEXT: usize = 1_020;
 
 #[tactic(auto, unfolding(crate::specs::EventSurplus::is_same))]
@@ -50,7 +50,7 @@ fn is_taken(taken: &[FoundEvent<'_>], event: Option<FoundEvent<'_>>) -> bool
     }
 }
 
-// Whether an event is taken with all that is said of it.
+// Returns whether an event is taken with all its descriptors.
 #[tactic(auto, unfolding(crate::specs::EventSurplus::is_said))]
 fn is_said(program: u16, taken: &[FoundEvent<'_>], entry: EventEntry<'_>) -> bool
     ensures { result ≡ spec.is_said program taken.now (event_view entry.entry) }
@@ -89,8 +89,8 @@ fn is_surplus(numbers: &[u16], taken: &[FoundEvent<'_>], finding: &Finding<'_>) 
         && says_more(numbers, taken, event_section_found(finding))
 }
 
-/// The packet in which the first section with table_id 0x4E ends that can't be read as one in force, or says more of
-/// a program than the events that are taken.
+/// Returns the packet where the first section with table_id 0x4E ends that is not in force, can't be read, or says more
+/// of a program than the events taken.
 #[tactic(auto, unfolding(crate::specs::EventSurplus::event_surplus))]
 pub(crate) fn event_surplus(
     numbers: &[u16],
@@ -107,7 +107,7 @@ pub(crate) fn event_surplus(
     None
 }
 
-// Whether all of a text can be read and has at most this number of bytes as it is written.
+// Returns whether all of a text can be read and has at most this number of bytes as it is written.
 #[tactic(auto, unfolding(crate::specs::EventSurplus::is_whole_text))]
 fn is_whole_text(alloc: Global, max_bytes: usize, bytes: &[u8]) -> Result<bool, AllocError>
     ensures { IfOk result (λ whole. whole ≡ spec.is_whole_text max_bytes bytes.now) }

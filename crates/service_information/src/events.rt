@@ -3,7 +3,7 @@
 ghost use Rattle.std.specs.Prelude.{◌≡◌, ◌≤◌, IfOk, OnOk, length, map, option_map};
 ghost use Rattle.std.specs.Char.{is_ascii_alphabetic};
 ghost use Rattle.std.specs.List.{list_all, list_any};
-ghost use Rattle.demux.specs.Shown.{finding_view};
+ghost use Rattle.pid_findings.specs.Shown.{finding_view};
 ghost use Rattle.dvb_tables.specs.EventEntries.{event_view, events_of};
 ghost use Rattle.service_information.specs.EventSections.{event_section_view};
 ghost use Rattle.service_information.specs.ShortEvents.{short_event_view};
@@ -12,8 +12,8 @@ ghost use Rattle.service_information.specs.Events as spec;
 use crate::coded_times::{moment_in, seconds_in};
 use crate::event_sections::{EventSection, event_section_found};
 use crate::short_events::{ShortEvent, short_event};
-use demux::Finding;
 use dvb_tables::{EventEntries, EventEntry};
+use pid_findings::Finding;
 use std::alloc::{AllocError, Global};
 use std::marker::Model;
 
@@ -55,14 +55,14 @@ impl<'f> Model for FoundEvent<'f> {
     } };
 }
 
-// Whether all of these bytes are letters of ASCII.
+// Returns whether all of these bytes are letters of ASCII.
 fn are_letters(bytes: &[u8]) -> bool
     ensures { result ≡ list_all is_ascii_alphabetic bytes.now }
 {
     bytes.iter().all(|byte| byte.is_ascii_alphabetic())
 }
 
-// Whether a description can say it.
+// Returns whether a description can have an event.
 #[tactic(auto, unfolding(crate::specs::Events::can_be_said))]
 fn can_be_said(event: &FoundEvent<'_>) -> bool
     ensures { result ≡ spec.can_be_said event.now }
@@ -113,7 +113,7 @@ pub(crate) fn event_in<'f>(program: u16, entry: EventEntry<'f>) -> Option<FoundE
     if_said(timed_event(program, entry, said, start, duration))
 }
 
-// Whether events of one program overlap.
+// Returns whether events of one program overlap.
 #[tactic(auto, unfolding(crate::specs::Events::overlaps))]
 fn overlaps(one: &FoundEvent<'_>, other: &FoundEvent<'_>) -> bool
     ensures { result ≡ spec.overlaps one.now other.now }
@@ -124,14 +124,14 @@ fn overlaps(one: &FoundEvent<'_>, other: &FoundEvent<'_>) -> bool
         && (u64::from(one.start) < other_end && u64::from(other.start) < one_end)
 }
 
-// Whether an event overlaps one of these.
+// Returns whether an event overlaps any event taken.
 fn overlaps_any(event: &FoundEvent<'_>, taken: &[FoundEvent<'_>]) -> bool
     ensures { result ≡ list_any (spec.overlaps event.now) taken.now }
 {
     taken.iter().any(|other| overlaps(event, other))
 }
 
-// Whether there is room for an event, and none that is taken overlaps it.
+// Returns whether there is room for an event, and no event taken overlaps it.
 #[tactic(auto, unfolding(crate::specs::Events::is_free))]
 fn is_free(taken: &[FoundEvent<'_>], event: &FoundEvent<'_>) -> bool
     ensures { result ≡ spec.is_free taken.now event.now }
@@ -139,7 +139,7 @@ fn is_free(taken: &[FoundEvent<'_>], event: &FoundEvent<'_>) -> bool
     taken.len() < MOST_EVENTS && !overlaps_any(event, taken)
 }
 
-// How many of these events begin before one.
+// Returns how many of these events begin before one.
 #[tactic(auto, unfolding(crate::specs::Events::place_of))]
 fn place_of(taken: &[FoundEvent<'_>], event: &FoundEvent<'_>) -> usize
     ensures value { result ≡ spec.place_of taken.now event.now }
@@ -149,7 +149,7 @@ fn place_of(taken: &[FoundEvent<'_>], event: &FoundEvent<'_>) -> usize
     taken.iter().filter(|other| other.start < start).count()
 }
 
-// Takes an event, unless one that is taken overlaps it.
+// Takes an event, unless it overlaps an event already taken.
 #[tactic(auto, unfolding(crate::specs::Events::with_event))]
 fn take_event<'f>(event: FoundEvent<'f>, taken: &mut Vec<FoundEvent<'f>>) -> Result<(), AllocError>
     ensures { OnOk result (taken.new.items ≡ spec.with_event taken.old.items event.entry) }
@@ -192,7 +192,7 @@ fn take_entries<'f>(
     Ok(())
 }
 
-/// Returns whether a number is one of these.
+/// Returns whether a number is among `numbers`.
 #[tactic(auto, unfolding(crate::specs::Events::is_among))]
 pub(crate) fn is_among(number: u16, numbers: &[u16]) -> bool
     ensures { result ≡ spec.is_among number numbers.now }
@@ -200,7 +200,7 @@ pub(crate) fn is_among(number: u16, numbers: &[u16]) -> bool
     numbers.iter().any(|other| *other == number)
 }
 
-// Takes the events of a section, if it is of one of these programs.
+// Takes the events of a section, if its program is among `numbers`.
 #[tactic(auto, unfolding(crate::specs::Events::with_section))]
 fn take_section<'f>(
     numbers: &[u16],

@@ -20,7 +20,7 @@ pub(crate) struct ShortEvent<'f> {
     pub text: &'f [u8],
 }
 
-// What follows the language.
+// Adds the name and the text, which follow the language.
 #[tactic(auto, unfolding(crate::specs::ShortEvents::with_name))]
 fn with_texts<'f>(language: &'f [u8], rest: &'f [u8]) -> Option<ShortEvent<'f>>
     ensures { option_map spec.short_event_view result ≡ spec.with_name language.now (length_prefixed rest.now) }
@@ -34,7 +34,7 @@ fn with_texts<'f>(language: &'f [u8], rest: &'f [u8]) -> Option<ShortEvent<'f>>
     })
 }
 
-// What the body of the descriptor says.
+// Returns what the body of the descriptor says.
 #[tactic(auto, unfolding(crate::specs::ShortEvents::short_event_in))]
 fn short_event_in(body: &[u8]) -> Option<ShortEvent<'_>>
     ensures { option_map spec.short_event_view result ≡ spec.short_event_in body.now }

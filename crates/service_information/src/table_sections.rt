@@ -1,10 +1,10 @@
 //! The sections of a table, by their table_id.
 
 ghost use Rattle.std.specs.Prelude.{◌≡◌};
-ghost use Rattle.demux.specs.Shown.{what_view};
+ghost use Rattle.pid_findings.specs.Shown.{what_view};
 ghost use Rattle.service_information.specs.FirstFindings as spec;
 
-use demux::What;
+use pid_findings::What;
 
 /// Returns whether it is a section with this table_id.
 #[tactic(auto, unfolding(crate::specs::FirstFindings::has_table_id))]

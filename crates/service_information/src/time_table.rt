@@ -2,14 +2,14 @@
 
 ghost use Rattle.std.specs.Prelude.{◌≡◌, map};
 ghost use Rattle.psi_tables.specs.Views.{section_view};
-ghost use Rattle.demux.specs.Shown.{finding_view};
+ghost use Rattle.pid_findings.specs.Shown.{finding_view};
 ghost use Rattle.dvb_tables.specs.TimeAndDate.{tdt_at};
 ghost use Rattle.service_information.specs.StreamTime as spec;
 
 use crate::coded_times::moment_in;
 use crate::table_sections::has_table_id;
-use demux::Finding;
 use dvb_tables::{TDT_TABLE_ID, Tdt};
+use pid_findings::Finding;
 use program_tables::section_on;
 use psi_tables::Section;
 
@@ -36,7 +36,7 @@ fn time_in(bytes: &[u8]) -> Option<u32>
     }
 }
 
-// The time that a finding says.
+// Returns the time that a finding says.
 #[tactic(auto, unfolding(crate::specs::StreamTime::time_found))]
 fn time_found(finding: &Finding<'_>) -> Option<u32>
     ensures { result ≡ spec.time_found (finding_view finding.now) }
@@ -67,7 +67,7 @@ fn is_surplus(finding: &Finding<'_>) -> bool
     has_table_id(TDT_TABLE_ID, &finding.what) && time_found(finding).is_none()
 }
 
-/// The packet in which the first section with table_id 0x70 ends that says no time, or stands on another PID.
+/// Returns the packet where the first section with table_id 0x70 ends that has no time or is on another PID.
 pub(crate) fn time_surplus(findings: &[Finding<'_>]) -> Option<u64>
     ensures { result ≡ spec.time_surplus (map finding_view findings.now) }
 {

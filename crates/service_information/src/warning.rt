@@ -1,7 +1,7 @@
 //! Warnings about service information that is not taken unchanged.
 
 ghost use Rattle.std.specs.Prelude.{◌≡◌, ◌++◌, IfOk, OnOk, map, flat_map, option_to_list};
-ghost use Rattle.demux.specs.Shown.{finding_view, what_view};
+ghost use Rattle.pid_findings.specs.Shown.{finding_view, what_view};
 ghost use Rattle.service_information.specs.Events.{stream_events};
 ghost use Rattle.service_information.specs.EventSurplus.{event_surplus};
 ghost use Rattle.service_information.specs.FirstFindings.{first_packet};
@@ -12,7 +12,7 @@ ghost use Rattle.service_information.specs.declared.warning.InformationWarning.T
 use crate::event_surplus::{event_surplus, have_whole_texts};
 use crate::events::{FoundEvent, stream_events};
 use crate::time_table::time_surplus;
-use demux::{Finding, What};
+use pid_findings::{Finding, What};
 use std::alloc::{AllocError, Global};
 
 /// The PIDs of NIT, SDT and BAT, EIT, and TDT and TOT (EN 300 468, table 1).
@@ -21,9 +21,9 @@ const INFORMATION_PIDS: [u16; 4] = [0x10, 0x11, 0x12, 0x14];
 /// A warning: what of the service information of a stream is left out.
 #[derive(Clone, Copy, PartialEq, Eq)]
 pub enum InformationWarning {
-    /// A section of present and following events of the stream itself ends in this packet that is not carried as it
-    /// stands: not in force, not readable, or with an event that is not taken, or with other descriptors than a short
-    /// event descriptor.
+    /// A section of present and following events of the stream itself ends in this packet and is not carried unchanged:
+    /// not in force, not readable, or with an event that is not taken or has other descriptors than a short event
+    /// descriptor.
     EventSurplus { packet: u64 },
     /// The name or the text of an event has characters that can't be read, or more bytes than a description has of it.
     EventTexts,
@@ -33,7 +33,7 @@ pub enum InformationWarning {
     BadSection { pid: u16, packet: u64 },
 }
 
-// Whether it is a section that can't be read.
+// Returns whether a finding is a section that can't be read.
 #[tactic(auto, unfolding(crate::specs::Warnings::is_bad))]
 fn is_bad(what: &What<'_>) -> bool
     ensures { result ≡ spec.is_bad (what_view what.now) }
@@ -51,7 +51,7 @@ fn is_bad_on(pid: u16, finding: &Finding<'_>) -> bool
     finding.pid == Some(pid) && is_bad(&finding.what)
 }
 
-// The packet of the first section of a PID that can't be read.
+// Returns the packet of the first section of a PID that can't be read.
 fn first_bad(pid: u16, findings: &[Finding<'_>]) -> Option<u64>
     ensures { result ≡ first_packet (spec.is_bad_on pid) (map finding_view findings.now) }
 {

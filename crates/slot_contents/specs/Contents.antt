@@ -21,7 +21,7 @@ packet_of (PayloadContent pid number start payload) = payload_packet pid start (
 packet_of (PcrContent pid pcr) = pcr_packet pid pcr
 packet_of NullContent = null_packet
 
--- what the packet says
+-- the content of the packet
 unfoldable pub view_of : Content → PacketView
 view_of (PayloadContent pid number start payload) = payload_view pid start (number % 16) payload
 view_of (PcrContent pid pcr) = pcr_view pid pcr
@@ -87,7 +87,7 @@ HasNumber pid (PayloadContent other n start payload) number = (other == pid) ≡
 HasNumber pid (PcrContent other pcr) number = (other == pid) ≡ false
 HasNumber pid NullContent number = ⊤
 
--- the packets of payloads on a PID, in order: the first has this number there, from which each counts on
+-- the packets of payloads on a PID, in order: the first has this number on the PID, and each next packet the next number
 abbrev pub payload_entry : ℕ → ℕ → Payload → Entry
 payload_entry pid number p = entry_at p.index (PayloadContent pid number p.start p.bytes)
 

@@ -1,4 +1,4 @@
--- What the laws on runs of slots say: what is in the finished bytes, by what each slot carries.
+-- The laws on runs of slots: the content of the finished bytes, by what each slot carries.
 use Rattle.std.specs.Prelude.{◌≡◌, ℕ, ◌*◌, ◌<◌, ◌==◌, ◌||◌, Bool, false, cond, List, [], length, map, filter, Option}
 use Rattle.std.specs.List.{concat, flat_map}
 use Rattle.own_slots.specs.Slots.{own_before, own_slots}
@@ -22,12 +22,12 @@ RunLengthLaw = (content : ℕ → Content) (s n : ℕ) → Fits content → leng
 abbrev pub RunListLaw : Type 0
 RunListLaw = (pid n : ℕ) (content : ℕ → Content) → Fits content → pid_list pid (run_bytes content 0 n) ≡ entries_in pid content 0 n
 
--- where a PID's packets stand in an item's own slots, their indices are these slots
+-- if a PID's packets are in an item's own slots, their indices are these slots
 abbrev pub RunIndicesLaw : Type 0
 RunIndicesLaw = (pid n : ℕ) (content : ℕ → Content) (own : ℕ → Bool) → Fits content → ((t : ℕ) → is_of_pid pid (view_of (content t)) ≡ own t) →
     map (λ entry. entry.index) (pid_list pid (run_bytes content 0 n)) ≡ own_slots own 0 n
 
--- the same of two PIDs together, as of those that enter one buffer
+-- the same for two PIDs together, such as two PIDs whose packets enter one buffer
 abbrev pub RunTwoLaw : Type 0
 RunTwoLaw = (p q n : ℕ) (content : ℕ → Content) (own : ℕ → Bool) → Fits content
     → ((t : ℕ) → (is_of_pid p (view_of (content t)) || is_of_pid q (view_of (content t))) ≡ own t) →

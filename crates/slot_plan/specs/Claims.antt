@@ -1,4 +1,4 @@
--- What a description declares of a stream, and what a plan claims of its items, in the terms of the timing.
+-- A description's declaration of a stream, and a plan's claims for its items, in the terms of the timing.
 use Rattle.std.specs.Prelude.{ℕ, ◌+◌, Option, Some, None, length, slice_index_or}
 use Rattle.own_slots.specs.Period.{per_period}
 use Rattle.unit_timing.specs.Plans.{Declaration}
@@ -26,18 +26,18 @@ drained_declaration s drain = record {
   allowance = s.allowance;
 }
 
--- the same of its transport buffer
+-- the same for its transport buffer
 abbrev pub declaration : DescribedStream → Declaration
 declaration s = drained_declaration s s.rx
 
--- the same where a unit may be sent so long before its decoding time
+-- the same if a unit may be sent `lead` before its decoding time
 abbrev pub with_lead : Declaration → ℕ → Declaration
 with_lead s lead = record s { lead = lead }
 
 abbrev pub led_declaration : DescribedStream → ℕ → Declaration
 led_declaration s lead = with_lead (declaration s) lead
 
--- what a plan claims of stream number i, of program number i
+-- a plan's claims for stream number i, for program number i
 abbrev pub stream_claim : Planned → ℕ → StreamEntry
 stream_claim p i = slice_index_or p.certificate.streams i (record { spread = 0; start = 0; peak = 0; multiplexing = None })
 
@@ -45,7 +45,7 @@ abbrev pub program_claim : Planned → ℕ → ProgramEntry
 program_claim p i =
     slice_index_or p.certificate.programs i (record { transport_start = 0; transport_peak = 0; system_start = 0; system_peak = 0 })
 
--- the own slots of stream number i, in numbers, where that is the most work after one of them
+-- the own slots of stream number i, in numbers, if `peak` is the most work after one of them
 abbrev pub peaked_share : Planned → ℕ → ℕ → Share
 peaked_share p i peak = record {
   count = per_period (marks (Stream i) p.slots);
@@ -60,12 +60,12 @@ stream_share p i = peaked_share p i (stream_claim p i).peak
 
 -- ---- a stream with a multiplexing buffer (ISO/IEC 13818-1, 2.4.2.3)
 
--- what is claimed of its multiplexing buffer: no claim is one of no work
+-- the claim for its multiplexing buffer: no claim means no work
 abbrev pub claimed_multiplexing : Option MultiplexingEntry → MultiplexingEntry
 claimed_multiplexing None = record { start = 0; peak = 0 }
 claimed_multiplexing (Some claim) = claim
 
--- what a plan claims of the multiplexing buffer of stream number i
+-- a plan's claim for the multiplexing buffer of stream number i
 abbrev pub multiplexing_claim : Planned → ℕ → MultiplexingEntry
 multiplexing_claim p i = claimed_multiplexing (stream_claim p i).multiplexing
 
@@ -73,8 +73,8 @@ multiplexing_claim p i = claimed_multiplexing (stream_claim p i).multiplexing
 abbrev pub elementary_declaration : DescribedStream → MultiplexingBuffer → Declaration
 elementary_declaration s b = drained_declaration s b.rbx
 
--- the most work that is still before the elementary stream buffer after an own slot: that of the multiplexing buffer, and
--- one byte that is still on its way through the transport buffer
+-- the most work that is still before the elementary stream buffer after an own slot: the work of the multiplexing buffer, and one
+-- byte that is still on its way through the transport buffer
 abbrev pub elementary_peak : ℕ → Planned → ℕ → ℕ
 elementary_peak rate p i = (multiplexing_claim p i).peak + rate
 

@@ -1,5 +1,5 @@
--- The conditions under which a plan serves a service description: each compares two whole numbers. The first, code 1, is
--- the shape of the plan; the others are asked only where it holds. Rates are in bits a second, a slot is 188 bytes.
+-- The conditions under which a plan serves a service description: each compares two whole numbers. The first, code 1, is the shape
+-- of the plan; the further conditions apply only if it holds. Rates are in bits a second, a slot is 188 bytes.
 use Rattle.std.specs.Prelude.{◌≡◌, ℕ, zero, suc, ◌+◌, ◌-◌, ◌*◌, ◌==◌, Bool, None, List, [], ◌∷◌, ◌++◌, Option, Some, length, is_none, if◌then◌else◌}
 use Rattle.clock27.specs.Units.{slot_ms_at_1bps, slot_seconds_at_1bps}
 use Rattle.own_slots.specs.Period.{per_period}
@@ -83,21 +83,21 @@ table_gap_entry d p t = at_most TableGap 0 t (gap (marks (TableItem t) p.slots) 
 abbrev pub spread_entry : Planned → ℕ → Entry
 spread_entry p i = at_most Spread 0 i (spread (marks (StreamItem i) p.slots)) (stream_claim p i).spread
 
--- code 5: a stream has slots enough for what its units have in the long run
+-- code 5: a stream has slots enough for the packets of its units in the long run
 abbrev pub stream_rate_entry : Described → Planned → ℕ → DescribedStream → Entry
 stream_rate_entry d p i s = let own = stream_share p i in
     at_most StreamRate 0 i (rate_needed (declaration s) own) (rate_given d.rate (declaration s) own)
 
--- the three parts of a buffer of that size in bytes: each packet finds room, the work after a packet is at most the
--- peak, a period leaves at most the work with which it began
+-- the three parts of a buffer of `room` bytes: each packet finds room, the work after a packet is at most the peak, a period leaves
+-- at most the work `start` that it began with
 abbrev pub buffer_entries : Condition → ℕ → ℕ → ℕ → ℕ → ℕ → ℕ → List Bool → List Entry
 buffer_entries condition item rate drain room start peak own =
     at_most condition 1 item (most_before rate drain start own) (room * rate)
     ∷ at_most condition 2 item (most_after rate drain start own) peak
     ∷ at_most condition 3 item (work_left rate drain start own) start ∷ []
 
--- two parts more of a buffer that has to be empty at least once a second (ISO/IEC 13818-1, 2.4.2.6): a period has a slot in
--- which it becomes empty, and the longest time from one of them to the next, round the period's end, is at most a second
+-- two parts more for a buffer that has to be empty at least once a second (ISO/IEC 13818-1, 2.4.2.6): it becomes empty in some slot
+-- of a period, and the longest time from one such slot to the next, also across the period's end, is at most a second
 abbrev pub emptied_entries : Condition → ℕ → ℕ → ℕ → ℕ → List Bool → List Entry
 emptied_entries condition item rate drain start own = let empties = empty_slots rate drain start own in
     at_most condition 4 item 1 (per_period empties)
@@ -120,7 +120,7 @@ abbrev pub transport_buffer_entries : Described → Planned → ℕ → List Ent
 transport_buffer_entries d p i = let claim = program_claim p i in
     buffer_entries TransportBuffer (length d.streams + i) d.rate system_tb_drain tb_size claim.transport_start claim.transport_peak (marks (System i) p.slots)
 
--- the part of a condition on m units in a row: 0 where it is asked of one unit alone
+-- the part of a condition on m units in a row: 0 if it is asked of one unit alone
 abbrev pub group_part : DescribedStream → ℕ → ℕ
 group_part s m = if allowance_rows s.allowance == 1 then 0 else m
 
@@ -143,9 +143,9 @@ entries_from f m (suc n) = f m ∷ entries_from f (suc m) n
 abbrev pub main_buffer_entry : Described → Planned → ℕ → DescribedStream → Entry
 main_buffer_entry d p i s = at_most MainBuffer 0 i (bytes_waiting d.rate (declaration s) (stream_share p i)) s.main
 
--- code 8, part i of a stream whose units are PES packets of several access units (ISO/IEC 13818-1, 2.4.2.3): when i of a unit
--- have been removed, the others and what can have come of later units find room in the main buffer. i is 1 to frames - 1; a
--- stream without these keys is asked part 0 alone
+-- code 8, part i of a stream whose units are PES packets of several access units (ISO/IEC 13818-1, 2.4.2.3): when i access units of
+-- a unit have been removed, its remaining access units and the bytes of later units that can have arrived find room in the main
+-- buffer. i is 1 to frames - 1; a stream without these keys has part 0 only
 abbrev pub frame_entry : Described → Planned → ℕ → DescribedStream → Framing → ℕ → Entry
 frame_entry d p number s f i = at_most MainBuffer i number (framed_waiting d.rate (declaration s) f (stream_share p number) i) s.main
 

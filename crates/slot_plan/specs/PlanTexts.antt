@@ -1,4 +1,4 @@
--- What a text has that may be a plan's.
+-- The parts of a text that may be a plan's.
 use Rattle.std.specs.Prelude.{◌≡◌, ℕ, ◌++◌, List, Ok, Err, length, drop}
 use Rattle.slot_plan.specs.declared.reader.PlanTextError.{PlanTextError}
 use Rattle.slot_plan.specs.declared.reader.PlanTextError.TheVariants.{Line, Memory}
@@ -13,12 +13,12 @@ pub record BeginsWithPlan (text : List ℕ) (plan : Planned) (bytes : ℕ) : Typ
   pub bytes_are : bytes ≡ length (plan_text plan)
   pub text_is : text ≡ plan_text plan ++ drop bytes text
 
--- the text is refused on its first bad line; nothing is said where memory ran out
+-- a refusal names the text's first bad line; if memory ran out, nothing is claimed
 abbrev pub Refuses : List ℕ → PlanTextError → Type 0
 Refuses text (Line line) = plan_at text ≡ Err line
 Refuses text Memory = Unit {0}
 
--- a reading gives a plan exactly where the text begins with that plan's
+-- a reading gives a plan exactly if the text begins with that plan's
 pub record ReadsExactly : Type 0 where
   pub found : (text rest : List ℕ) (p : Planned) → plan_at text ≡ Ok (p, rest) → IsPlan p × (text ≡ plan_text p ++ rest)
   pub read : (p : Planned) (rest : List ℕ) → IsPlan p → plan_at (plan_text p ++ rest) ≡ Ok (p, rest)

@@ -9,12 +9,12 @@ use Rattle.slot_plan.specs.declared.certificate.ProgramEntry.{ProgramEntry}
 use Rattle.slot_plan.specs.declared.plan.PlanError.{PlanError}
 use Rattle.slot_plan.specs.declared.plan.PlanError.TheVariants.{Slots, Entries, Number}
 
--- a certificate: what is claimed of each stream and of each program
+-- a certificate: the claims for each stream and for each program
 pub record Certified : Type 0 where
   pub streams : List StreamEntry
   pub programs : List ProgramEntry
 
--- a plan: the slots of one period, and what is claimed of them
+-- a plan: the slots of one period, and the claims for them
 pub record Planned : Type 0 where
   pub slots : List Slot
   pub certificate : Certified
@@ -26,7 +26,7 @@ max_slots = 99999
 abbrev pub max_entries : ℕ
 max_entries = 256
 
--- whether the numbers of what is claimed of a multiplexing buffer, if anything is, are in range
+-- whether the numbers of the claim for a multiplexing buffer, if there is a claim, are in range
 abbrev pub is_small_multiplexing : Option MultiplexingEntry → Bool
 is_small_multiplexing None = true
 is_small_multiplexing (Some m) = nat_lt m.start number_limit && nat_lt m.peak number_limit

@@ -71,8 +71,8 @@ abbrev pub with_first : {X : Type 0} → X → Result (List X × List ℕ) ℕ �
 with_first x (Ok r) = Ok (x ∷ r.0, r.1)
 with_first x (Err line) = Err line
 
--- a list read from its first element on: what is found there, if anything, and then the rest of the list; else the
--- line is bad
+-- a list read from its first element on: the element found there and then the rest of the list; if there is no element, the line is
+-- bad
 abbrev pub continued : {X : Type 0} → ℕ → (List ℕ → Result (List X × List ℕ) ℕ) → Option (X × List ℕ) → Result (List X × List ℕ) ℕ
 continued line next None = Err line
 continued line next (Some r) = with_first r.0 (next r.1)

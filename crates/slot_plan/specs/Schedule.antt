@@ -7,7 +7,7 @@ use Rattle.slot_plan.specs.declared.slot.Slot.TheVariants.{Null}
 use Rattle.slot_plan.specs.declared.slot.Item.{Item}
 use Rattle.slot_plan.specs.Items.{is_own, marks}
 
--- a second plan, and the slot from which it runs
+-- a second plan, and the slot where it begins
 pub record Following : Type 0 where
   pub slots : List Slot
   pub from : ℕ
@@ -40,7 +40,7 @@ slot_of schedule s = elim schedule.following [
 abbrev pub owned : Schedule → Item → ℕ → Bool
 owned schedule item s = is_own item (slot_of schedule s)
 
--- they are those of the period, repeated; with a second plan, those of both plans joined
+-- the own slots of an item over the run are its slots of the period, repeated; with a second plan, its slots of both plans joined
 pub record OwnedLaw : Type 0 where
   pub alone : (slots : List Slot) (item : Item) → owned (single slots) item ≡ own (marks item slots)
   pub in_turn : (first second : List Slot) (periods : ℕ) (item : Item) →

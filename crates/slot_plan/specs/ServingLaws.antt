@@ -1,4 +1,4 @@
--- What is known of a plan that serves a description.
+-- Laws for a plan that serves a description.
 use Rattle.std.specs.Prelude.{ℕ, ◌<◌, All, length}
 use Rattle.description_parts.specs.Described.{Described}
 use Rattle.description_parts.specs.Tables.{table_count}

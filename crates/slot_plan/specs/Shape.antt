@@ -1,4 +1,4 @@
--- What a plan of good shape is.
+-- A plan of good shape.
 use Rattle.std.specs.Prelude.{◌≡◌, ℕ, ◌<◌, ◌≤◌, length}
 use Rattle.own_slots.specs.Period.{per_period}
 use Rattle.description_parts.specs.Described.{Described}

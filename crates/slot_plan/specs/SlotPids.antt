@@ -6,7 +6,7 @@ use Rattle.description_parts.specs.Tables.{table_kind, table_pid}
 use Rattle.slot_plan.specs.declared.slot.Slot.{Slot}
 use Rattle.slot_plan.specs.declared.slot.Slot.TheVariants.{Stream, Pcr, Table, Null}
 
--- the PID of what a slot names, where the description has it
+-- the PID of what a slot names, if the description has it
 unfoldable pub slot_pid : Described → Slot → Option ℕ
 slot_pid d (Stream k) = option_map (λ s. s.pid) (slice_get d.streams k)
 slot_pid d (Pcr i) = option_map (λ p. p.pcr_pid) (slice_get d.programs i)

@@ -1,5 +1,4 @@
--- The conditions under which a plan may be followed, at the end of one of its periods, by a second plan of the same
--- description.
+-- The conditions for a second plan of the same description to follow a plan at the end of one of its periods.
 use Rattle.std.specs.Prelude.{◌≡◌, ℕ, suc, ◌+◌, ◌-◌, ◌*◌, ◌==◌, ◌&&◌, ◌||◌, Bool, List, [], ◌∷◌, ◌++◌, length, is_none, is_some, Option, Some, None}
 use Rattle.std.specs.Prelude.{if◌then◌else◌}
 use Rattle.std.specs.Bool.{beq}
@@ -46,7 +45,7 @@ table_switch_entry d first second t =
     at_most TableSwitch 0 t (gap_across (marks (TableItem t) first.slots) (marks (TableItem t) second.slots) (round_packets d t) * slot_ms_at_1bps)
     (table_limit d t * d.rate)
 
--- code 14: the work that a period of the first plan leaves in a buffer is at most that with which the second begins
+-- code 14: a period of the first plan leaves at most the work in a buffer that the second plan begins with
 abbrev pub work_switch_entry : ℕ → ℕ → ℕ → ℕ → List Bool → ℕ → Entry
 work_switch_entry item rate drain start own next_start = at_most WorkSwitch 0 item (work_left rate drain start own) next_start
 
@@ -99,7 +98,7 @@ abbrev pub lead_switch_entry : Described → Planned → Planned → ℕ → Des
 lead_switch_entry d first second i s =
     across_entry LeadSwitch d.rate s.rx (stream_share first i) (stream_share second i) (stream_shift first second i) i s
 
--- code 16: what waits for its decoding time across the switch finds room in the main buffer
+-- code 16: the bytes that wait for their decoding time across the switch find room in the main buffer
 abbrev pub main_switch_entry : Described → Planned → Planned → ℕ → DescribedStream → Entry
 main_switch_entry d first second i s =
     at_most MainSwitch 0 i (bytes_across d.rate (declaration s) (stream_share first i) (stream_share second i)) s.main
@@ -136,7 +135,7 @@ is_finer d = list_any (λ s. is_some s.multiplexing || is_some s.framing) d.stre
 abbrev pub continues : Described → Planned → Planned → ℕ → Bool
 continues d first second i = is_finer d && owns_same (StreamItem i) first.slots second.slots
 
--- what is asked of stream number i if its own slots change
+-- the conditions on stream number i, if its own slots change
 abbrev pub if_changed : Described → Planned → Planned → ℕ → List Entry → List Entry
 if_changed d first second i es = if continues d first second i then [] else es
 
@@ -177,7 +176,7 @@ joint_entries d first second = pcr_switches d first second ++ (table_switches d 
     ++ (system_works d first second ++ (multiplexing_works d first second ++ (lead_switches d first second ++ (main_switches d first second
     ++ elementary_switches d first second)))))))
 
--- the conditions of a second plan after a first one: its own, and, where these hold, those of the two together
+-- the conditions of a second plan after a first plan: the second plan's own conditions and, if these hold, the joint conditions
 abbrev pub switch_entries : Described → Planned → Planned → List Entry
 switch_entries d first second =
     if is_none (first_failing (entries d second)) then entries d second ++ joint_entries d first second else entries d second

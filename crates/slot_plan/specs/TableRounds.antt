@@ -11,6 +11,6 @@ use Rattle.slot_plan.specs.Schedule.{Schedule, owned}
 abbrev pub first_packet : Described → ℕ → ℕ → ℕ
 first_packet d t j = sum_by packets_of_section (take j (section_lengths d t))
 
--- the slots in which section j of a table begins
+-- the slots where section j of a table begins
 abbrev pub section_starts : Described → Schedule → ℕ → ℕ → ℕ → Bool
 section_starts d schedule t j = starts (owned schedule (Table t)) (round_packets d t) (first_packet d t j)

@@ -24,12 +24,12 @@ slot_ending n i = if ((suc i) % 24 == 0) || (suc i == n) then 10 else 32
 abbrev pub slot_word : ℕ → ℕ → Slot → List ℕ
 slot_word n i slot = slot_text slot ++ slot_ending n i ∷ []
 
--- `peak X`, and ` mstart V mpeak Y` where something is claimed of a multiplexing buffer
+-- `peak X`, and ` mstart V mpeak Y` if there is a claim for a multiplexing buffer
 abbrev pub peak_words : ℕ → Option MultiplexingEntry → List ℕ
 peak_words peak None = field (codes "peak ") peak 10
 peak_words peak (Some m) = field (codes "peak ") peak 32 ++ (field (codes "mstart ") m.start 32 ++ field (codes "mpeak ") m.peak 10)
 
--- `stream k spread A start V peak X`, and what is claimed of a multiplexing buffer
+-- `stream k spread A start V peak X`, and the claim for a multiplexing buffer
 abbrev pub stream_line : ℕ → StreamEntry → List ℕ
 stream_line k e =
     field (codes "stream ") k 32 ++ (field (codes "spread ") e.spread 32 ++ (field (codes "start ") e.start 32 ++ peak_words e.peak e.multiplexing))

@@ -1,4 +1,4 @@
-//! What a plan claims of its buffers.
+//! A plan's claims for its buffers.
 
 use std::alloc::{Allocator, Global};
 use std::marker::Model;
@@ -6,7 +6,7 @@ use std::marker::Model;
 /// The most entries of a kind.
 pub const MAX_ENTRIES: u32 = 256;
 
-/// What a plan claims of the multiplexing buffer of one stream (ISO/IEC 13818-1, 2.4.2.3), in work as for a transport
+/// A plan's claim for the multiplexing buffer of one stream (ISO/IEC 13818-1, 2.4.2.3), in work as for a transport
 /// buffer: in units of 8 / (rate * rate of the leak) seconds.
 #[derive(Clone, Copy, PartialEq, Eq)]
 pub struct MultiplexingEntry {
@@ -16,7 +16,7 @@ pub struct MultiplexingEntry {
     pub peak: u64,
 }
 
-/// What a plan claims of one stream. `spread` is in slots times own slots a period; `start` and `peak`
+/// A plan's claim for one stream. `spread` is in slots times own slots a period; `start` and `peak`
 /// are work of its transport buffer, counted in units of 8 / (rate * leak rate) seconds.
 #[derive(Clone, Copy, PartialEq, Eq)]
 pub struct StreamEntry {
@@ -30,7 +30,7 @@ pub struct StreamEntry {
     pub multiplexing: Option<MultiplexingEntry>,
 }
 
-/// What a plan claims of the transport and the system buffer of one program (ISO/IEC 13818-1, 2.4.2),
+/// A plan's claim for the transport and the system buffer of one program (ISO/IEC 13818-1, 2.4.2),
 /// in work as for a stream.
 #[derive(Clone, Copy, PartialEq, Eq)]
 pub struct ProgramEntry {

@@ -1,9 +1,9 @@
-//! What a plan has to keep.
+//! Conditions that a plan has to keep.
 
 ghost use Rattle.std.specs.Prelude.{◌≡◌};
 ghost use Rattle.slot_plan.specs.Entries.{code_of};
 
-/// What a plan has to keep. The last six are conditions of a second plan after a first plan.
+/// A condition that a plan has to keep. The last six are conditions of a second plan after a first plan.
 #[derive(Clone, Copy, Debug, PartialEq, Eq)]
 pub enum Condition {
     /// The period's length, the items that its slots name, the items that have slots, the entries of the certificate.
@@ -20,7 +20,7 @@ pub enum Condition {
     TransportBuffer,
     /// A unit has left the transport buffer by its decoding time.
     StreamLead,
-    /// What waits for its decoding time finds room in the main buffer.
+    /// The bytes that wait for their decoding time find room in the main buffer.
     MainBuffer,
     /// A program's system buffer of 1,536 bytes never overflows.
     SystemBuffer,
@@ -36,7 +36,7 @@ pub enum Condition {
     WorkSwitch,
     /// A unit sent across the switch has left the transport buffer by its decoding time.
     LeadSwitch,
-    /// What waits across the switch finds room in the main buffer.
+    /// The bytes that wait across the switch find room in the main buffer.
     MainSwitch,
     /// A unit sent across the switch has left the multiplexing buffer by its decoding time.
     ElementarySwitch,
@@ -74,6 +74,6 @@ impl Condition {
 pub enum Relation {
     /// The left one is at most the right one.
     AtMost,
-    /// They are equal: the counts of a certificate's entries.
+    /// The numbers are equal: the counts of a certificate's entries.
     Equal,
 }

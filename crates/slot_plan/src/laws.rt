@@ -1,10 +1,10 @@
-//! Laws of plans and of their text, over the definitions alone.
+//! Laws of plans and of their text, about the definitions alone.
 
 ghost use Rattle.slot_plan.specs.PlanTexts.{ReadsExactly, OneText};
 ghost use Rattle.slot_plan.specs.Schedule.{OwnedLaw};
 ghost use Rattle.slot_plan.specs.SlotPids.{SlotsApartLaw, SlotsBelowLaw};
 
-/// States that a plan is read exactly where a text begins with its text, and that text is the plan's only one.
+/// States that a plan is read exactly if a text begins with its text, and that text is the plan's only one.
 pub fn plan_text()
     ensures exact { ReadsExactly }
     ensures one_text { OneText }

@@ -2,9 +2,9 @@
 //! that a checker needs to see that no buffer overflows and no deadline is missed, and the plan's text.
 //!
 //! - [`Slot`] and [`Item`]: what a packet slot carries, and what owns it.
-//! - [`Certificate`]: what a plan claims of its buffers.
+//! - [`Certificate`]: a plan's claims for its buffers.
 //! - [`Plan`]: slots and certificate; their text, written and read.
-//! - [`Condition`]: what a plan has to keep; `specs/Conditions` and `specs/SwitchConditions` say it in numbers.
+//! - [`Condition`]: a condition on a plan; `specs/Conditions` and `specs/SwitchConditions` express it in numbers.
 //! - [`laws`]: the plan's text is its only one; the own slots over a run.
 //! - [`serving_plans`]: facts about a plan that serves a description.
 //! - `words`: words and decimal numbers without leading zeros, read at the front of a text in lines; `specs/Words` has

@@ -28,7 +28,7 @@ pub enum PlanError {
     Number,
 }
 
-/// The slots of one period, with what they claim of the buffers: at most 99,999 slots, at most 256
+/// The slots of one period, with their claims for the buffers: at most 99,999 slots, at most 256
 /// entries of a kind, each number below 10^18. Whether the claims hold is for the plan checker to say.
 #[derive(Drop)]
 pub struct Plan<A: Allocator = Global> {
@@ -71,7 +71,7 @@ impl<A: Allocator> Plan<A> {
         self.slots.as_slice()
     }
 
-    /// Returns what the plan claims of its buffers.
+    /// Returns the plan's claims for its buffers.
     pub fn certificate(&self) -> &Certificate<A>
         ensures certificate { result.now ≡ self.now.certificate }
         ensures within { plan_error self.now.slots self.now.certificate ≡ None }

@@ -1,4 +1,4 @@
-//! Laws of a plan that serves a description, over the definitions alone.
+//! Laws of a plan that serves a description, about the definitions alone.
 
 ghost use Rattle.slot_plan.specs.ServingLaws.{SomeSlotLaw, NamedLaw, NamedInRunLaw, SecondLaw};
 

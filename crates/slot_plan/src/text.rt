@@ -81,8 +81,8 @@ fn write_slot<A: Allocator>(
     }
 }
 
-/// Appends the peak of a stream's transport buffer and what is claimed of its multiplexing buffer, if anything is, to
-/// the end of the line.
+/// Appends the peak of a stream's transport buffer and the claim for its multiplexing buffer, if it has any, to the
+/// end of the line.
 fn write_peaks<A: Allocator>(
     text: &mut String<A>,
     peak: u64,

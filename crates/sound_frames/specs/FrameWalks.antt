@@ -1,6 +1,6 @@
--- The frames of a unit of sound, found as its bytes come, piece by piece: a frame begins where the frame before it ends, and the header of
--- each frame says how many bytes it has and how long it sounds. So each frame is due the time of the frames before it after the first, whose
--- time the unit's stamp is (ISO/IEC 13818-1, 2.4.2.3 and 2.7.5).
+-- The frames of a unit of sound, found as its bytes arrive, piece by piece: a frame begins where the frame before it ends, and the header of each frame says
+-- how many bytes it has and how long it sounds. The unit's stamp is the time of its first frame; each later frame is due when the frames before it have sounded
+-- (ISO/IEC 13818-1, 2.4.2.3 and 2.7.5).
 use Rattle.std.specs.Prelude.{ℕ, zero, suc, ◌+◌, ◌-◌, ◌^◌, ◌==◌, min, nat_lt, Bool, true, false, if◌then◌else◌, Option, Some, None, List, [], ◌∷◌, ◌++◌, length}
 use Rattle.std.specs.Prelude.{take, drop}
 use Rattle.sound_frames.specs.declared.frame.FrameHeader.{FrameHeader}
@@ -8,8 +8,8 @@ use Rattle.sound_frames.specs.declared.frame_headers.FrameKind.{FrameKind}
 use Rattle.sound_frames.specs.declared.frame_walk.FramePart.{FramePart}
 use Rattle.sound_frames.specs.FrameHeaders.{frame_header}
 
--- where a walk is: the bytes of the current frame's header that have come; the bytes of the frame after them that are still to come; the
--- time of the frame, and how long after the first frame of the unit it is due, in units of 90 kHz; and whether the bytes are no frame's
+-- the state of a walk: the bytes of the current frame's header so far; the number of bytes of the frame that follow; the time of the frame, and how long after
+-- the first frame of the unit it is due, in units of 90 kHz; and whether the bytes are no frame's
 pub record WalkView : Type 0 where
   pub kind : FrameKind
   pub header : List ℕ
@@ -18,7 +18,7 @@ pub record WalkView : Type 0 where
   pub ahead : ℕ
   pub lost : Bool
 
--- the bytes in which any header is read: no frame is shorter
+-- the bytes that any header needs: no frame is shorter
 abbrev pub header_bytes : ℕ
 header_bytes = 7
 
@@ -42,7 +42,7 @@ begun w = record w { header = []; left = 0; ahead = min (w.ahead + w.time) (2 ^ 
 abbrev pub missing : WalkView → ℕ
 missing w = header_bytes - length w.header
 
--- what its header says; a time of 0 is that of the frame before it
+-- the size and the time in its header; if the time is 0, the time of the frame before it
 unfoldable pub by_header : WalkView → Option FrameHeader → WalkView
 by_header w None = strayed w
 by_header w (Some h) =
@@ -53,14 +53,14 @@ by_header w (Some h) =
 unfoldable pub header_read : WalkView → WalkView
 header_read w = if length w.header == header_bytes then by_header w (frame_header w.kind w.header) else w
 
--- bytes of the frame at the front: those of the header
+-- bytes of the frame at the front: first the bytes of the header
 abbrev pub with_bytes : WalkView → List ℕ → WalkView
 with_bytes w bytes = record w { header = w.header ++ take (missing w) bytes }
 
 unfoldable pub headed : WalkView → List ℕ → WalkView
 headed w bytes = if length w.header == header_bytes then w else header_read (with_bytes w bytes)
 
--- and those after them
+-- and then the bytes after the header
 abbrev pub shortened : WalkView → ℕ → WalkView
 shortened w count = record w { left = w.left - count }
 
@@ -70,14 +70,14 @@ passed_by w count = if w.lost then w else shortened w count
 unfoldable pub passed : WalkView → List ℕ → WalkView
 passed w bytes = if w.lost then w else passed_by (headed w bytes) (length bytes - missing w)
 
--- how many of these bytes are the frame's: all of them where they are no frame
+-- how many of these bytes are the frame's: all of them if they are no frame
 unfoldable pub count_by : WalkView → ℕ → ℕ → ℕ
 count_by w first count = if w.lost then count else first + min w.left (count - first)
 
 unfoldable pub count_passed : WalkView → List ℕ → ℕ
 count_passed w bytes = if w.lost then length bytes else count_by (headed w bytes) (min (missing w) (length bytes)) (length bytes)
 
--- the frames that begin in these bytes, from the place on where one ends, at most n of them
+-- the frames that begin in these bytes, from a place where a frame ends, at most n frames
 abbrev pub part_at : WalkView → ℕ → List ℕ → FramePart
 part_at w place bytes = record { place = place; size = count_passed w bytes; ahead = w.ahead }
 

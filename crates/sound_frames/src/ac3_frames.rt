@@ -5,7 +5,7 @@ ghost use Rattle.sound_frames.specs.FrameHeaders as spec;
 
 use crate::frame::{FrameHeader, sounding};
 
-// The samples a second of an fscod.
+// Returns the samples a second of an fscod.
 #[tactic(auto, unfolding(crate::specs::FrameHeaders::ac3_frequency))]
 fn ac3_frequency(code: u8) -> u32
     ensures { result ≡ spec.ac3_frequency code }
@@ -18,7 +18,7 @@ fn ac3_frequency(code: u8) -> u32
     }
 }
 
-// The kbit/s of a frmsizecod, by its half.
+// Returns the kbit/s of a frmsizecod, by its half.
 #[tactic(auto, unfolding(crate::specs::FrameHeaders::ac3_rate))]
 fn ac3_rate(index: u8) -> u32
     ensures value { result ≡ spec.ac3_rate index }
@@ -48,7 +48,7 @@ fn ac3_rate(index: u8) -> u32
     }
 }
 
-// The bytes of a frame.
+// Returns the bytes of a frame.
 #[tactic(auto, unfolding(crate::specs::FrameHeaders::ac3_size))]
 fn ac3_size(fscod: u8, rate: u32, odd: u8) -> u32
     requires { rate ≤ 640 }

@@ -12,7 +12,7 @@ pub(crate) struct FrameHeader {
     pub time: u64,
 }
 
-// A frame of these bytes and samples, at this number of samples a second.
+// Returns a frame of these bytes and samples, at this number of samples a second.
 #[tactic(auto, unfolding(crate::specs::FrameHeaders::sounding))]
 pub(crate) fn sounding(size: u32, samples: u32, frequency: u32) -> Option<FrameHeader>
     ensures { result ≡ spec.sounding size samples frequency }

@@ -21,7 +21,7 @@ pub enum FrameKind {
     Ac3,
 }
 
-// The samples a second of a sampling_frequency_index.
+// Returns the samples a second of a sampling_frequency_index.
 #[tactic(auto, unfolding(crate::specs::FrameHeaders::aac_frequency))]
 fn aac_frequency(index: u8) -> u32
     ensures value { result ≡ spec.aac_frequency index }
@@ -63,7 +63,7 @@ fn adts_frame(bytes: &[u8]) -> Option<FrameHeader>
     }
 }
 
-// By the configuration in the frame, or in an earlier frame.
+// Returns the header by the configuration in the frame, or in an earlier frame.
 #[tactic(auto, unfolding(crate::specs::FrameHeaders::loas_config))]
 fn loas_config(size: u32, d: u8, e: u8, f: u8, g: u8) -> Option<FrameHeader>
     ensures { result ≡ spec.loas_config size d e f g }

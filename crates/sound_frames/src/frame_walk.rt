@@ -9,7 +9,7 @@ use arrayvec::ArrayVec;
 use std::alloc::{AllocError, Global};
 use std::marker::Model;
 
-// The bytes in which any header is read: no frame is shorter.
+// The bytes that any header needs: no frame is shorter.
 const HEADER_BYTES: usize = 7;
 
 /// A frame that begins among some bytes.
@@ -53,7 +53,7 @@ impl Model for FrameWalk {
     } };
 }
 
-// The bytes after so many.
+// Returns the bytes after the first `count`.
 fn bytes_after(count: usize, bytes: &[u8]) -> &[u8]
     requires { count ≤ length bytes.now }
     ensures { result.now ≡ drop count bytes.now }
@@ -86,14 +86,14 @@ impl FrameWalk {
         self.lost = false;
     }
 
-    /// Says that the bytes that follow are no frames, up to the next unit.
+    /// Marks the bytes up to the next unit as no frames.
     pub fn stray(&mut self)
         ensures { self.new ≡ spec.strayed self.old }
     {
         self.lost = true;
     }
 
-    // Another frame of the unit begins; how long after the first of them it is due.
+    // Begins another frame of the unit, and returns how long after the first frame it is due.
     fn begin(&mut self) -> u64
         ensures walk { self.new ≡ spec.begun self.old }
         ensures ahead { result ≡ (spec.begun self.old).ahead }
@@ -104,7 +104,7 @@ impl FrameWalk {
         self.ahead
     }
 
-    // What the current frame's header says.
+    // Takes the size and the time from the current frame's header.
     #[tactic(auto, unfolding(crate::specs::FrameWalks::by_header))]
     fn take_header(&mut self, header: Option<FrameHeader>)
         ensures { self.new ≡ spec.by_header self.old header }
@@ -123,7 +123,7 @@ impl FrameWalk {
         }
     }
 
-    // The current frame's header, once it is whole.
+    // Reads the current frame's header, if it is whole.
     #[tactic(auto, unfolding(crate::specs::FrameWalks::header_read))]
     fn read_header(&mut self)
         ensures { self.new ≡ spec.header_read self.old }
@@ -134,7 +134,7 @@ impl FrameWalk {
         }
     }
 
-    // Bytes of its header, at most as many as it still lacks.
+    // Adds bytes to the header, at most as many as it still lacks.
     fn add_bytes(&mut self, bytes: &[u8])
         requires { length self.old.header + length bytes.now ≤ 7 }
         ensures { self.new ≡ record self.old { header = self.old.header ++ bytes.now } }
@@ -144,7 +144,7 @@ impl FrameWalk {
         };
     }
 
-    // The bytes of its header among these; how many.
+    // Takes the bytes of the frame's header from these, and returns how many they are.
     #[tactic(auto, unfolding(crate::specs::FrameWalks::headed))]
     fn head(&mut self, bytes: &[u8]) -> usize
         ensures walk { self.new ≡ spec.headed self.old bytes.now }
@@ -161,7 +161,7 @@ impl FrameWalk {
         count
     }
 
-    // The bytes of the current frame at the front; how many.
+    // Passes the bytes of the current frame at the front, and returns how many they are.
     #[tactic(auto, unfolding(crate::specs::FrameWalks::passed, crate::specs::FrameWalks::passed_by, crate::specs::FrameWalks::count_passed, crate::specs::FrameWalks::count_by))]
     fn pass(&mut self, bytes: &[u8]) -> usize
         ensures walk { self.new ≡ spec.passed self.old bytes.now }

@@ -41,7 +41,7 @@ impl UnitFrames {
     }
 }
 
-// One more frame of the unit.
+// Returns the frames of a unit with one more frame.
 #[tactic(auto, unfolding(crate::specs::Frames::with_frame))]
 fn with_frame(frames: UnitFrames, header: FrameHeader) -> UnitFrames
     requires { frames.count < 2 ^ 63 }
@@ -59,7 +59,7 @@ fn with_frame(frames: UnitFrames, header: FrameHeader) -> UnitFrames
     }
 }
 
-// The frame at the front, if it is whole, and the bytes after it.
+// Returns the frame at the front, if it is whole, and the bytes after it.
 #[tactic(auto, unfolding(crate::specs::Frames::next_frame))]
 fn next_frame(kind: FrameKind, bytes: &[u8]) -> Option<(FrameHeader, &[u8])>
     ensures { option_map (λ next. (next.0, next.1.now)) result ≡ spec.next_frame kind bytes.now }

@@ -5,7 +5,7 @@ ghost use Rattle.sound_frames.specs.FrameHeaders as spec;
 
 use crate::frame::{FrameHeader, sounding};
 
-// The kbit/s of ISO/IEC 11172-3, layer I.
+// Returns the kbit/s of ISO/IEC 11172-3, layer I.
 #[tactic(auto, unfolding(crate::specs::FrameHeaders::first_layer_rate))]
 fn first_layer_rate(index: u8) -> u32
     requires { index < 16 }
@@ -19,7 +19,7 @@ fn first_layer_rate(index: u8) -> u32
     }
 }
 
-// Layer II.
+// Returns the kbit/s of ISO/IEC 11172-3, layer II.
 #[tactic(auto, unfolding(crate::specs::FrameHeaders::second_layer_rate))]
 fn second_layer_rate(index: u8) -> u32
     ensures value { result ≡ spec.second_layer_rate index }
@@ -44,7 +44,7 @@ fn second_layer_rate(index: u8) -> u32
     }
 }
 
-// Layer III.
+// Returns the kbit/s of ISO/IEC 11172-3, layer III.
 #[tactic(auto, unfolding(crate::specs::FrameHeaders::third_layer_rate))]
 fn third_layer_rate(index: u8) -> u32
     ensures value { result ≡ spec.third_layer_rate index }
@@ -69,7 +69,7 @@ fn third_layer_rate(index: u8) -> u32
     }
 }
 
-// The kbit/s of ISO/IEC 13818-3, layer I.
+// Returns the kbit/s of ISO/IEC 13818-3, layer I.
 #[tactic(auto, unfolding(crate::specs::FrameHeaders::low_first_layer_rate))]
 fn low_first_layer_rate(index: u8) -> u32
     ensures value { result ≡ spec.low_first_layer_rate index }
@@ -94,7 +94,7 @@ fn low_first_layer_rate(index: u8) -> u32
     }
 }
 
-// Layers II and III.
+// Returns the kbit/s of ISO/IEC 13818-3, layers II and III.
 #[tactic(auto, unfolding(crate::specs::FrameHeaders::low_layer_rate))]
 fn low_layer_rate(index: u8) -> u32
     ensures value { result ≡ spec.low_layer_rate index }
@@ -140,7 +140,7 @@ fn layer_rate(id: u8, layer: u8, index: u8) -> u32
     }
 }
 
-// The samples a second.
+// Returns the samples a second.
 #[tactic(auto, unfolding(crate::specs::FrameHeaders::layer_frequency))]
 fn layer_frequency(id: u8, code: u8) -> u32
     ensures value { result ≡ spec.layer_frequency id code }
@@ -153,7 +153,7 @@ fn layer_frequency(id: u8, code: u8) -> u32
     }
 }
 
-// The samples of a frame.
+// Returns the samples of a frame.
 #[tactic(auto, unfolding(crate::specs::FrameHeaders::layer_samples))]
 fn layer_samples(id: u8, layer: u8) -> u32
     ensures { result ≡ spec.layer_samples id layer }
@@ -167,7 +167,7 @@ fn layer_samples(id: u8, layer: u8) -> u32
     }
 }
 
-// The bytes of a frame.
+// Returns the bytes of a frame.
 #[tactic(auto, unfolding(crate::specs::FrameHeaders::layer_size))]
 fn layer_size(id: u8, layer: u8, rate: u32, frequency: u32, padding: u8) -> u32
     requires rate { rate ≤ 480000 }

@@ -1,4 +1,4 @@
--- What a stream declares by groups: the best of what is tried; and whether by groups or by pace.
+-- The best of the groups and leads that are tried for a stream; and whether it declares groups or a pace.
 use Rattle.std.specs.Prelude.{◌≡◌, ℕ, zero, suc, ◌+◌, ◌-◌, ◌*◌, ◌^◌, ◌<◌, ◌≤◌, ◌&&◌, min, nat_le, nat_lt, if◌then◌else◌, List, length, slice_index, Option}
 use Rattle.std.specs.Prelude.{Some, None, IfSome}
 use Rattle.clock27.specs.Units.{slot_units_at_1bps}
@@ -12,9 +12,9 @@ use Rattle.stream_choice.specs.Shares.{lead_share, least_share}
 use Rattle.stream_choice.specs.Leads.{leads, sufficient_lead, numbered_lead}
 use Rattle.stream_choice.specs.Buffers.{drains, holds, waiting_bytes}
 
--- ---- what is tried
+-- ---- the choices that are tried
 
--- the choice of a group and a lead, where its buffers hold
+-- the choice of a group and a lead, if the buffers hold its units
 abbrev pub choice_of : Needs → ℕ → ℕ → ℕ → ℕ → Option Choice
 choice_of needs group packets delay lead = elim (lead_share needs group packets delay lead) [
   | None ↦ None
@@ -22,7 +22,7 @@ choice_of needs group packets delay lead = elim (lead_share needs group packets 
       then Some (record { allowance = Groups group packets; lead = lead; share = share }) else None
 ]
 
--- that of a lead by its number; no lead is tried above the sufficient one or the greatest
+-- the choice of a lead by its number; no lead above the sufficient one or the greatest is tried
 abbrev pub numbered_choice : Needs → ℕ → ℕ → ℕ → ℕ → ℕ → Option Choice
 numbered_choice needs delay max_lead group packets number =
     let sufficient = sufficient_lead needs group packets delay in
@@ -31,12 +31,11 @@ numbered_choice needs delay max_lead group packets number =
 
 -- ---- the best
 
--- of two choices that of the less share is better, then that of the shorter lead, then that of the fewer units: a lead
--- is below 2^17, and a group has less than 2^7 units
+-- a choice with a lower share is better, then with a shorter lead, then with fewer units: a lead is below 2^17, and a group has less than 2^7 units
 abbrev pub rank : Choice → ℕ
 rank c = (c.share * 2 ^ 17 + c.lead) * 2 ^ 7 + allowance_rows c.allowance
 
--- the first of two, where the second is not better
+-- the first of two choices, unless the second is better
 abbrev pub better : Option Choice → Option Choice → Option Choice
 better None d = d
 better (Some c) None = Some c
@@ -47,14 +46,14 @@ unfoldable pub best : ℕ → (ℕ → Option Choice) → Option Choice
 best zero f = None
 best (suc n) f = better (best n f) (f n)
 
--- of one group, and of all
+-- the best choice of one group, and of all groups
 abbrev pub group_choice : Needs → ℕ → ℕ → ℕ → ℕ → Option Choice
 group_choice needs delay max_lead group packets = best leads (numbered_choice needs delay max_lead group packets)
 
 abbrev pub groups_choice : Needs → List ℕ → ℕ → ℕ → Option Choice
 groups_choice needs max_packets delay max_lead = best (length max_packets) (λ i. group_choice needs delay max_lead (i + 1) (slice_index max_packets i))
 
--- ---- what holds of it
+-- ---- the properties of a choice
 
 -- a choice of either kind can be declared, its lead is in range, and its buffers hold
 pub record IsChoice (needs : Needs) (max_lead : ℕ) (c : Choice) : Type 0 where
@@ -64,7 +63,7 @@ pub record IsChoice (needs : Needs) (max_lead : ℕ) (c : Choice) : Type 0 where
   pub drained : c.share * slot_units_at_1bps ≤ needs.rx * parts
   pub held : waiting_bytes needs c.allowance c.lead c.share ≤ needs.main
 
--- its packets are those of its group, and its share is what its lead asks for and no less than the least of any group
+-- its packets are its group's, and its share is the share that its lead asks for, at least the least share of any group
 pub record IsGroupsChoice (needs : Needs) (max_packets : List ℕ) (delay : ℕ) (c : Choice) : Type 0 where
   pub group : ℕ
   pub packets : ℕ
@@ -87,7 +86,7 @@ IsRefused needs max_packets delay max_lead = (i number : ℕ) → i < length max
 
 -- ---- by groups or by pace
 
--- by groups where that asks for at most a 64th more
+-- by groups if groups ask for at most a 64th more
 abbrev pub preferred : Option Choice → Option Choice → Option Choice
 preferred None d = d
 preferred (Some c) None = Some c

@@ -10,7 +10,7 @@ unfoldable pub is_framing : Needs → Framing → Bool
 is_framing needs f = nat_lt 1 f.frames && nat_le f.frames 64 && nat_lt 0 f.frame && nat_le ((f.frames - 1) * f.frame) needs.interval
     && nat_lt 0 f.frame_size && nat_le f.frame_size needs.size
 
--- the bytes of later units that come within a lead: by their sizes, and by the packets of the share
+-- the bytes of later units that arrive within a lead: by their sizes, and by the packets of the share
 abbrev pub later_bytes : Needs → ℕ → ℕ → ℕ
 later_bytes needs lead share = min (div_ceil lead (max needs.interval 1) * (19 + needs.size)) (184 * packets_of_share lead share)
 
@@ -18,12 +18,12 @@ later_bytes needs lead share = min (div_ceil lead (max needs.interval 1) * (19 +
 abbrev pub ahead : Needs → Framing → ℕ → ℕ → ℕ
 ahead needs f lead i = min (needs.interval - i * f.frame) lead
 
--- what waits when i access units of a unit have been removed
+-- the bytes that wait when i access units of a unit have been removed
 unfoldable pub framed_bytes : Needs → Framing → ℕ → ℕ → ℕ → ℕ
 framed_bytes needs f lead share i = (f.frames - i) * f.frame_size
     + (if nat_lt (ahead needs f lead i) lead then later_bytes needs (lead - ahead needs f lead i) share else 0)
 
--- the main buffer holds it for 1, 2, .. access units, up to the number
+-- the main buffer holds these bytes for 1, 2, .. access units, up to the number
 unfoldable pub frames_hold : Needs → Framing → ℕ → ℕ → ℕ → Bool
 frames_hold needs f lead share zero = true
 frames_hold needs f lead share (suc i) = frames_hold needs f lead share i && nat_le (framed_bytes needs f lead share (suc i)) needs.main

@@ -5,16 +5,16 @@ use Rattle.own_slots.specs.Extremes.{greatest}
 use Rattle.stream_choice.specs.declared.needs.Needs.{Needs}
 use Rattle.stream_choice.specs.Shares.{packets_in_row}
 
--- the lead with which m units in a row ask for no more than the share of their groups
+-- the lead that m units in a row need to ask for no more than the share of their groups
 abbrev pub row_lead : Needs → ℕ → ℕ → ℕ → ℕ
 row_lead needs group packets m = div_ceil (packets_in_row needs packets m * group * needs.interval) packets - (m - 1) * needs.interval
 
--- the least lead with which no units in a row ask for more than their groups do
+-- the least lead that lets no units in a row ask for more than their groups do
 abbrev pub sufficient_lead : Needs → ℕ → ℕ → ℕ → ℕ
 sufficient_lead needs group packets delay =
     greatest group (λ before. row_lead needs group packets (before + 1)) + delay + div_ceil (group * needs.interval) packets
 
--- the number of leads that are tried of each group
+-- the number of leads that are tried for each group
 abbrev pub leads : ℕ
 leads = 129
 

@@ -1,4 +1,4 @@
--- What a stream declares by pace: the least pace that is found by halving, whose burst is known of the units.
+-- The declaration of a stream by pace: the least pace that halving finds, with the burst that its units need.
 use Rattle.std.specs.Prelude.{◌≡◌, ℕ, zero, suc, ◌+◌, ◌-◌, ◌*◌, ◌/◌, ◌^◌, ◌<◌, ◌≤◌, ◌&&◌, max, min, nat_le, nat_lt, Bool, false, if◌then◌else◌, Option, Some}
 use Rattle.std.specs.Prelude.{None, option_map}
 use Rattle.std.specs.Int.{div_ceil}
@@ -12,48 +12,47 @@ use Rattle.stream_choice.specs.Buffers.{drains}
 
 -- ---- the lead
 
--- leads that main lets: of units that it holds by their sizes, and of packets of that share that it holds
+-- leads that the main buffer allows: by the sizes of the units that it holds, and by the packets of the share that it holds
 abbrev pub lead_by_sizes : Needs → ℕ
 lead_by_sizes needs = needs.main / (19 + needs.size) * needs.interval
 
 abbrev pub lead_by_share : Needs → ℕ → ℕ
 lead_by_share needs share = ((needs.main / 184 - 1) * parts - 1) / share
 
--- the greatest of them, and none over the greatest of all
+-- the greatest of these leads, and none over the greatest lead
 abbrev pub longest_lead : Needs → ℕ → ℕ → ℕ
 longest_lead needs max_lead share = min (max (lead_by_sizes needs) (lead_by_share needs share)) max_lead
 
--- the least in which a burst comes
+-- the least lead that brings a burst in time
 abbrev pub burst_lead : ℕ → ℕ → ℕ → ℕ
 burst_lead delay share burst = lateness delay share + div_ceil (parts * burst) share
 
 -- ---- the pace
 
--- a burst can be declared, and comes within the longest lead at a share
+-- a burst can be declared, and arrives within the longest lead at a share
 abbrev pub comes_in_time : Needs → ℕ → ℕ → ℕ → ℕ → Bool
 comes_in_time needs delay max_lead burst share =
     is_within 1 100000 burst && nat_le (parts * burst) (share * (longest_lead needs max_lead share - lateness delay share))
 
--- it does at a pace, and the transport buffer is drained no slower
+-- a burst at a pace arrives in time, and the transport buffer is drained no slower
 abbrev pub serves_burst : Needs → ℕ → ℕ → ℕ → ℕ → Bool
 serves_burst needs delay max_lead burst pace = drains needs (pace_share pace) && comes_in_time needs delay max_lead burst (pace_share pace)
 
--- with the burst that the units need at it
+-- the same with the burst that the units need at the pace
 abbrev pub serves : Needs → (ℕ → ℕ) → ℕ → ℕ → ℕ → Bool
 serves needs burst delay max_lead pace = nat_lt 0 pace && serves_burst needs delay max_lead (burst pace) pace
 
--- the greatest pace that is tried, in bits a second: less than the rate out of the transport buffer, since a share is rounded up, and none
--- over that of an output
+-- the greatest pace that is tried, in bit/s: below the rate out of the transport buffer, since a share is rounded up, and at most the greatest rate of an
+-- output
 abbrev pub greatest_pace : Needs → ℕ
 greatest_pace needs = min (needs.rx - 1) 100000000
 
--- the first of p, p / 2, p / 4, .. that passes a test, of so many
+-- the first of n paces p, p / 2, p / 4, .. that passes a test
 unfoldable pub first_half : ℕ → (ℕ → Bool) → ℕ → Option ℕ
 first_half zero passes p = None
 first_half (suc n) passes p = if passes p then Some p else first_half n passes (p / 2)
 
--- of a low number that does not pass and a high one that does: the range between them is halved so many times, and each
--- time the half is taken whose ends are such
+-- between a low number that does not pass and a high number that does: halves the range n times, and keeps the half with such ends
 unfoldable pub halved : ℕ → (ℕ → Bool) → ℕ → ℕ → ℕ
 halved zero passes low high = high
 halved (suc n) passes low high =
@@ -61,7 +60,7 @@ halved (suc n) passes low high =
     (let middle = (low + high) / 2 in if passes middle then halved n passes low middle else halved n passes middle high)
     else halved n passes low high
 
--- with 27 halves any pace comes down to 1
+-- 27 halves bring any pace down to 1
 abbrev pub halves : ℕ
 halves = 27
 
@@ -71,7 +70,7 @@ least_pace needs burst delay max_lead =
 
 -- ---- the choice
 
--- of a pace: its burst, the least lead, and its share
+-- the choice of a pace: its burst, the least lead, and its share
 abbrev pub paced : (ℕ → ℕ) → ℕ → ℕ → Choice
 paced burst delay pace = record {
   allowance = Pace (burst pace) pace;
@@ -82,9 +81,9 @@ paced burst delay pace = record {
 abbrev pub pace_choice : Needs → (ℕ → ℕ) → ℕ → ℕ → Option Choice
 pace_choice needs burst delay max_lead = option_map (paced burst delay) (least_pace needs burst delay max_lead)
 
--- ---- what holds of it
+-- ---- the properties of a pace
 
--- the burst is what the units need at its pace, and comes within its lead; and at one bit a second less no burst serves
+-- its burst is the burst that the units need at its pace, and arrives within its lead; at one bit/s less no burst serves
 pub record IsPaceChoice (needs : Needs) (burst : ℕ → ℕ) (delay max_lead : ℕ) (c : Choice) : Type 0 where
   pub pace : ℕ
   pub is_choice : c ≡ paced burst delay pace
@@ -92,6 +91,6 @@ pub record IsPaceChoice (needs : Needs) (burst : ℕ → ℕ) (delay max_lead : 
   pub in_time : parts * burst pace ≤ c.share * (c.lead - lateness delay c.share)
   pub least : serves needs burst delay max_lead (pace - 1) ≡ false
 
--- none that is tried first serves
+-- no pace that is tried first serves
 abbrev pub HasNoPace : Needs → (ℕ → ℕ) → ℕ → ℕ → Type 0
 HasNoPace needs burst delay max_lead = (n : ℕ) → n < halves → serves needs burst delay max_lead (greatest_pace needs / 2 ^ n) ≡ false

@@ -5,7 +5,7 @@ use Rattle.unit_timing.specs.declared.allowance.Allowance.{Allowance}
 use Rattle.unit_timing.specs.declared.allowance.Allowance.TheVariants.{Groups, Pace}
 use Rattle.stream_choice.specs.declared.needs.Needs.{Needs}
 
--- what a description can declare of a stream
+-- the numbers that a description can declare for a stream
 pub record IsNeeds (needs : Needs) : Type 0 where
   pub some_interval : 1 ≤ needs.interval
   pub most_interval : needs.interval ≤ 90000

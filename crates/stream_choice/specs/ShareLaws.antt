@@ -1,4 +1,4 @@
--- What a share is for: own slots of that share serve the stream.
+-- The law of shares: own slots of a stream's share serve the stream.
 use Rattle.std.specs.Prelude.{◌≡◌, ℕ, ◌+◌, ◌-◌, ◌*◌, ◌<◌, ◌≤◌, Option, Some}
 use Rattle.clock27.specs.Units.{slot_units_at_1bps}
 use Rattle.unit_timing.specs.declared.allowance.Allowance.{Allowance}
@@ -12,7 +12,7 @@ use Rattle.stream_choice.specs.Ranges.{IsNeeds, IsAllowance}
 use Rattle.unit_timing.specs.Shares.{parts}
 use Rattle.stream_choice.specs.Shares.{packets_of_unit, held_bytes, delay_before, lateness, pace_share, lead_share}
 
--- what is declared with an allowance and a lead
+-- the declaration with an allowance and a lead
 abbrev pub declared : Needs → Allowance → ℕ → Declaration
 declared needs allowance lead = record {
   interval = needs.interval;
@@ -24,14 +24,13 @@ declared needs allowance lead = record {
   allowance = allowance;
 }
 
--- the share that is asked for with a delay: that of a group's lead; or that of the pace, whose burst comes within the lead
+-- the share that a declaration asks for with a delay: by the lead of its group; or by its pace, whose burst arrives within the lead
 abbrev pub AsksFor : Needs → Allowance → ℕ → ℕ → ℕ → Type 0
 AsksFor needs (Groups group packets) delay lead share = lead_share needs group packets delay lead ≡ Some share
 AsksFor needs (Pace burst pace) delay lead share = (share ≡ pace_share pace) × (parts * burst ≤ share * (lead - lateness delay share))
 
--- own slots of a plan at that rate: they are no fewer than the share asks for, they stray from even spacing by at most
--- one of their distances and two slots, and they leave at most so many bytes in the last buffer before that of units; and the
--- output has no fewer slots than all the least shares ask for
+-- own slots of a plan at this rate: no fewer than the share asks for, away from even spacing by at most a distance between them and two slots, with at most
+-- `held` bytes in the last buffer before the buffer of units; and the output has no fewer slots than all the least shares ask for
 pub record HasShare (held rate share all : ℕ) (own : Share) : Type 0 where
   pub enough : share * slot_units_at_1bps * own.period ≤ parts * (own.count * rate)
   pub even : own.spread ≤ 2 * own.count + own.period
@@ -43,8 +42,8 @@ pub record IsServed (rate : ℕ) (own : Share) (s : Declaration) : Type 0 where
   pub rate_serves : rate_needed s own ≤ rate_given rate s own
   pub lead_serves : (m : ℕ) → 0 < m → m ≤ allowance_rows s.allowance → lead_needed s own m ≤ time_given rate s own.count m
 
--- where the share of a lead was found with the delay of an output that all ask for, own slots of the share serve it: with a multiplexing
--- buffer at its leak, if that is what the needs have for the drain
+-- if the share of a lead was found with the delay of an output for all shares, own slots of the share serve the stream: with a multiplexing buffer at its leak
+-- rate, if the needs have it as their drain
 abbrev pub ShareLaw : Type 0
 ShareLaw = (buffer : Option MultiplexingBuffer) (needs : Needs) (allowance : Allowance) (lead share all rate : ℕ) (own : Share) →
     IsNeeds needs → IsAllowance allowance → 0 < all →

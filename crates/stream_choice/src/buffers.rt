@@ -1,4 +1,4 @@
-//! Whether a stream's buffers hold what comes.
+//! Whether a stream's buffers hold its packets.
 
 ghost use Rattle.std.specs.Prelude.{◌≡◌, ◌≤◌, ◌<◌, ◌^◌};
 ghost use Rattle.stream_choice.specs.Ranges.{IsNeeds, IsGroup, IsAllowance};
@@ -12,7 +12,7 @@ use clock27::SLOT_UNITS_AT_1BPS;
 use unit_timing::allowance::Allowance;
 use unit_timing::shares::PARTS;
 
-/// Returns whether the transport buffer is drained no slower than packets of that share come.
+/// Returns whether the transport buffer is drained no slower than packets of the share arrive.
 pub fn drains(needs: Needs, share: u64) -> bool
     ensures { result ≡ spec.drains needs share }
 {
@@ -33,7 +33,7 @@ fn grouped_packets(needs: Needs, group: u64, packets: u32, units: u64) -> u64
     units / group * packets + rest
 }
 
-/// Returns the most packets of units that wait at once: of so many, within a lead.
+/// Returns the most packets of `units` units that wait at once within a lead.
 fn packets_within(needs: Needs, allowance: Allowance, units: u64, lead: u32) -> u128
     requires ranges { IsNeeds needs }
     requires allowance { IsAllowance allowance }
@@ -53,7 +53,7 @@ fn packets_within(needs: Needs, allowance: Allowance, units: u64, lead: u32) -> 
     }
 }
 
-/// Returns the most packets of that share that come within a lead.
+/// Returns the most packets of this share that arrive within a lead.
 fn packets_of_share(lead: u32, share: u64) -> u128
     requires lead { lead ≤ 90000 }
     ensures value { result ≡ spec.packets_of_share lead share }
@@ -85,7 +85,7 @@ fn waiting_bytes(needs: Needs, allowance: Allowance, lead: u32, share: u64) -> u
     }
 }
 
-/// Returns whether the main buffer holds them.
+/// Returns whether the main buffer holds these bytes.
 pub fn holds(needs: Needs, allowance: Allowance, lead: u32, share: u64) -> bool
     requires ranges { IsNeeds needs }
     requires allowance { IsAllowance allowance }

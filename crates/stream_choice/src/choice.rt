@@ -16,7 +16,7 @@ pub struct Choice {
     pub share: u64,
 }
 
-/// Returns the rank of a choice among others: the better, the lower.
+/// Returns the rank of a choice; a better choice has a lower rank.
 fn rank(choice: Choice) -> u128
     ensures { result ≡ spec.rank choice }
 {
@@ -24,7 +24,7 @@ fn rank(choice: Choice) -> u128
         + u128::from(choice.allowance.rows())
 }
 
-/// Returns the first of two choices, where the second is not better.
+/// Returns the first of two choices, unless the second is better.
 pub fn better(one: Option<Choice>, other: Option<Choice>) -> Option<Choice>
     ensures { result ≡ spec.better one other }
 {

@@ -8,7 +8,7 @@ use crate::needs::Needs;
 use unit_timing::framing::Framing;
 use unit_timing::shares::PARTS;
 
-// Whether the numbers are in the ranges of a description, of two access units or more.
+// Returns whether the numbers are in the ranges of a description, of two access units or more.
 #[tactic(auto, unfolding(crate::specs::Frames::is_framing))]
 fn is_framing(needs: Needs, framing: Framing) -> bool
     ensures { result ≡ spec.is_framing needs framing }
@@ -22,7 +22,7 @@ fn is_framing(needs: Needs, framing: Framing) -> bool
         && framing.frame_size <= needs.size
 }
 
-// The most bytes of later units that come within a lead.
+// Returns the most bytes of later units that arrive within a lead.
 fn later_bytes(needs: Needs, lead: u32, share: u64) -> u128
     ensures value { result ≡ spec.later_bytes needs lead share }
     ensures bound { result < 2 ^ 70 }
@@ -32,7 +32,7 @@ fn later_bytes(needs: Needs, lead: u32, share: u64) -> u128
     (units * (19 + u128::from(needs.size))).min(184 * packets)
 }
 
-// The bytes that wait when `gone` access units of a unit have been removed.
+// Returns the bytes that wait when `gone` access units of a unit have been removed.
 #[tactic(auto, unfolding(crate::specs::Frames::framed_bytes))]
 fn framed_bytes(needs: Needs, framing: Framing, lead: u32, share: u64, gone: u8) -> u128
     ensures { result ≡ spec.framed_bytes needs framing lead share gone }
@@ -49,21 +49,21 @@ fn framed_bytes(needs: Needs, framing: Framing, lead: u32, share: u64, gone: u8)
     }
 }
 
-// Whether the main buffer holds what waits when `gone` access units of a unit have been removed.
+// Returns whether the main buffer holds the bytes that wait when `gone` access units of a unit have been removed.
 fn holds_after(needs: Needs, framing: Framing, lead: u32, share: u64, gone: u8) -> bool
     ensures { result ≡ nat_le (spec.framed_bytes needs framing lead share gone) needs.main }
 {
     framed_bytes(needs, framing, lead, share, gone) <= u128::from(needs.main)
 }
 
-// Whether both hold.
+// Returns whether both conditions hold.
 fn both(one: bool, other: bool) -> bool
     ensures { result ≡ (one && other) }
 {
     one && other
 }
 
-// Whether the main buffer holds what waits, for each number of access units up to `others`.
+// Returns whether the main buffer holds the bytes that wait, for each number of access units up to `others`.
 fn frames_hold(needs: Needs, framing: Framing, lead: u32, share: u64, others: u8) -> bool
     ensures { result ≡ spec.frames_hold needs framing lead share others }
 {
@@ -76,7 +76,7 @@ fn frames_hold(needs: Needs, framing: Framing, lead: u32, share: u64, others: u8
 }
 
 /// Returns whether a stream of this lead and share may declare these access units: their numbers are in the ranges of a
-/// description, and the main buffer holds what waits, however many of a unit's access units have been removed.
+/// description, and the main buffer holds the bytes that wait, however many of a unit's access units have been removed.
 pub fn keeps_framing(needs: Needs, framing: Framing, lead: u32, share: u64) -> bool
     ensures { result ≡ spec.keeps_framing needs framing lead share }
 {

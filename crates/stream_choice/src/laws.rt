@@ -1,4 +1,4 @@
-//! What a share is for.
+//! The law of shares.
 
 ghost use Rattle.stream_choice.specs.ShareLaws.{ShareLaw};
 

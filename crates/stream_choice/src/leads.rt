@@ -6,11 +6,10 @@ ghost use Rattle.stream_choice.specs.Leads as spec;
 
 use crate::needs::{Needs, packets_in_row};
 
-/// The number of leads that are tried of each group.
+/// The number of leads that are tried for each group.
 pub const LEADS: u64 = 129;
 
-/// Returns the lead with which `units` units in a row ask for no more than the share of their groups, in units of
-/// 90 kHz.
+/// Returns the lead, in units of 90 kHz, that `units` units in a row need to ask for no more than their groups' share.
 fn row_lead(needs: Needs, group: u64, packets: u32, units: u64) -> u64
     requires ranges { IsNeeds needs }
     requires group { IsGroup group packets }

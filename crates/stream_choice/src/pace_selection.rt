@@ -25,16 +25,16 @@ const HALVES: u32 = 27;
 pub trait PacedUnits {
     ghost burst: { Self → ℕ → ℕ };
 
-    /// Returns the packets of the least burst that the units keep with a pace in bits/s, or the greatest number where
-    /// they are more.
+    /// Returns the packets of the least burst that the units keep with a pace in bits/s, or the greatest number if they
+    /// exceed it.
     fn burst_at(&self, pace: u32) -> u64
         requires some { 1 ≤ pace }
         requires most { pace ≤ 100000000 }
         ensures { result ≡ burst self.now pace };
 }
 
-/// Returns the longest lead that the main buffer lets, of packets of that share: by the sizes of units, or by the
-/// packets that come within it.
+/// Returns the longest lead that the main buffer allows for packets of this share: by the sizes of units, or by the
+/// packets that arrive within the lead.
 fn longest_lead(needs: Needs, max_lead: u32, share: u64) -> u64
     requires ranges { IsNeeds needs }
     requires positive { 1 ≤ share }
@@ -47,7 +47,7 @@ fn longest_lead(needs: Needs, max_lead: u32, share: u64) -> u64
     by_sizes.max(by_share).min(u64::from(max_lead))
 }
 
-/// Returns whether a burst can be declared, and comes within the longest lead at a share.
+/// Returns whether a burst can be declared, and arrives within the longest lead at a share.
 #[tactic(auto, unfolding(crate::specs::Ranges::is_within))]
 fn comes_in_time(needs: Needs, delay: u32, max_lead: u32, burst: u64, share: u64) -> bool
     requires ranges { IsNeeds needs }
@@ -63,7 +63,7 @@ fn comes_in_time(needs: Needs, delay: u32, max_lead: u32, burst: u64, share: u64
     PARTS * burst <= share * free
 }
 
-/// Returns whether a burst at a pace does, and the transport buffer is drained no slower.
+/// Returns whether a burst at a pace arrives in time, and the transport buffer is drained no slower.
 fn serves_burst(needs: Needs, delay: u32, max_lead: u32, burst: u64, pace: u32) -> bool
     requires ranges { IsNeeds needs }
     requires lead { max_lead ≤ 90000 }
@@ -75,7 +75,7 @@ fn serves_burst(needs: Needs, delay: u32, max_lead: u32, burst: u64, pace: u32) 
     drains(needs, share) && comes_in_time(needs, delay, max_lead, burst, share)
 }
 
-/// Returns whether the burst that units need at a pace does.
+/// Returns whether the burst that units need at a pace arrives in time, and the transport buffer is drained no slower.
 fn serves<U: PacedUnits>(needs: Needs, units: &U, delay: u32, max_lead: u32, pace: u32) -> bool
     requires ranges { IsNeeds needs }
     requires lead { max_lead ≤ 90000 }
@@ -85,7 +85,7 @@ fn serves<U: PacedUnits>(needs: Needs, units: &U, delay: u32, max_lead: u32, pac
     0 < pace && serves_burst(needs, delay, max_lead, units.burst_at(pace), pace)
 }
 
-/// Returns the first of the greatest pace, its half, the half of that, .. that serves.
+/// Returns the first pace that serves of the greatest pace, its half, its quarter and so on.
 fn first_half<U: PacedUnits>(needs: Needs, units: &U, delay: u32, max_lead: u32) -> Option<u32>
     requires ranges { IsNeeds needs }
     requires lead { max_lead ≤ 90000 }
@@ -103,7 +103,7 @@ fn first_half<U: PacedUnits>(needs: Needs, units: &U, delay: u32, max_lead: u32)
     None
 }
 
-/// Returns a pace that serves where one bit/s less does not, found by halving the range up to one that serves.
+/// Returns a pace that serves when one bit/s less does not, by halving the range below `from`, a pace that serves.
 fn halved<U: PacedUnits>(needs: Needs, units: &U, delay: u32, max_lead: u32, from: u32) -> u32
     requires ranges { IsNeeds needs }
     requires lead { max_lead ≤ 90000 }
@@ -126,7 +126,7 @@ fn halved<U: PacedUnits>(needs: Needs, units: &U, delay: u32, max_lead: u32, fro
     high
 }
 
-/// Returns what is declared of units by a pace that serves, with the least lead in which their burst comes.
+/// Returns the declaration of units by a pace that serves, with the least lead that brings their burst in time.
 fn paced<U: PacedUnits>(needs: Needs, units: &U, delay: u32, max_lead: u32, pace: u32) -> Choice
     requires ranges { IsNeeds needs }
     requires lead { max_lead ≤ 90000 }

@@ -9,7 +9,7 @@ use crate::needs::Needs;
 /// The most packets of a group that can be declared.
 const MAX_PACKETS: u32 = 1 << 21;
 
-// Whether a number is in a range.
+// Returns whether a number is in a range.
 #[tactic(auto, unfolding(crate::specs::Ranges::is_within))]
 fn is_within(low: u32, high: u32, n: u32) -> bool
     ensures { result ≡ spec.is_within low high n }
@@ -31,7 +31,7 @@ impl Needs {
     }
 }
 
-// Whether each number of packets can be declared.
+// Returns whether each number of packets can be declared.
 #[tactic(auto, unfolding(crate::specs::Ranges::is_within))]
 fn are_packets(max_packets: &[u32]) -> bool
     ensures ranges { IsTrue result

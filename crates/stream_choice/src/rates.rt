@@ -8,7 +8,7 @@ use clock27::rate_search::{self, Load};
 use clock27::{LEAST_RATE, SLOT_MS_AT_1BPS, SLOT_UNITS_AT_1BPS};
 use unit_timing::shares::PARTS;
 
-/// The items that an output carries: streams by their shares, and what recurs.
+/// The items that an output carries: streams by their shares, and recurring items.
 #[derive(Clone, Copy)]
 struct Items<'a> {
     shares: &'a [u64],
@@ -32,7 +32,8 @@ fn stream_part(rate: u64, share: u64) -> u128
     (u128::from(share) * SLOT_UNITS_AT_1BPS).div_ceil(u128::from(rate))
 }
 
-/// Those of what recurs; more than all where its slots don't fit into its limit.
+/// Returns the parts of the slots that a recurring item takes; more than all parts if its slots don't fit into its
+/// limit.
 fn recurring_part(rate: u64, recurring: &Recurring) -> u128
     ensures { result ≡ spec.recurring_part rate recurring.now }
 {
@@ -44,7 +45,7 @@ fn recurring_part(rate: u64, recurring: &Recurring) -> u128
     (u128::from(PARTS) * slots).div_ceil(gap)
 }
 
-/// Those of all streams, or the greatest number where they are more.
+/// Returns the parts of all streams, or the greatest number if they exceed it.
 fn streams_parts(rate: u64, shares: &[u64]) -> u128
     requires positive { 1 ≤ rate }
     ensures { result ≡ min (sum_by (spec.stream_part rate) shares.now) (2 ^ 128 - 1) }
@@ -56,7 +57,7 @@ fn streams_parts(rate: u64, shares: &[u64]) -> u128
     total
 }
 
-/// Returns the same of all that recurs.
+/// Returns the parts of all recurring items.
 fn recurring_parts(rate: u64, recurring: &[Recurring]) -> u128
     ensures { result ≡ min (sum_by (spec.recurring_part rate) recurring.now) (2 ^ 128 - 1) }
 {

@@ -1,6 +1,6 @@
 //! PCRs and tables.
 
-/// What recurs, as PCRs and the sections of a table do.
+/// A recurring item: PCRs, or the sections of a table.
 #[derive(Clone, Copy)]
 pub struct Recurring {
     /// The slots of a round.

@@ -12,7 +12,7 @@ use crate::needs::Needs;
 use crate::shares::lead_share;
 use unit_timing::allowance::Allowance;
 
-/// Returns the choice of a group and a lead; None where the lead is too short or a buffer does not hold what comes.
+/// Returns the choice of a group and a lead; None if the lead is too short or a buffer does not hold the units.
 fn choice_of(needs: Needs, group: u8, packets: u32, delay: u32, lead: u32) -> Option<Choice>
     requires ranges { IsNeeds needs }
     requires group { IsGroup group packets }
@@ -35,7 +35,7 @@ fn choice_of(needs: Needs, group: u8, packets: u32, delay: u32, lead: u32) -> Op
     }
 }
 
-/// Returns the choice of a lead by its number, where it is not above the sufficient one or the greatest.
+/// Returns the choice of a lead by its number, if it is not above the sufficient lead or the greatest.
 fn numbered_choice(
     needs: Needs,
     delay: u32,
@@ -60,7 +60,7 @@ fn numbered_choice(
     }
 }
 
-/// Returns the best of one group.
+/// Returns the best choice of one group.
 fn group_choice(needs: Needs, delay: u32, max_lead: u32, group: u8, packets: u32) -> Option<Choice>
     requires ranges { IsNeeds needs }
     requires group { IsGroup group packets }

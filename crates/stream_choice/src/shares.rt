@@ -10,7 +10,7 @@ use unit_timing::buffers::TB_SIZE;
 use unit_timing::multiplexing_buffer::MultiplexingBuffer;
 use unit_timing::shares::PARTS;
 
-/// The most bytes of a multiplexing buffer that are reckoned with after a packet: those of four.
+/// The most bytes in a multiplexing buffer after a packet that are reckoned with: four packets.
 const STRAYED_BYTES: u64 = 4 * 188;
 
 /// Returns the share of `packets` packets in a time, in units of 90 kHz.
@@ -34,7 +34,7 @@ fn group_share(needs: Needs, group: u64, packets: u32) -> u64
     share_in(group * u64::from(needs.interval), u64::from(packets))
 }
 
-/// That of `units` units in a row, with a free time for each.
+/// Returns the share of `units` units in a row, with a free time for each.
 fn row_share(needs: Needs, packets: u32, free: u64, units: u64) -> u64
     requires ranges { IsNeeds needs }
     requires packets { packets ≤ 2 ^ 21 }
@@ -85,7 +85,7 @@ pub fn lateness(delay: u32, share: u64) -> u64
     u64::from(delay) + packet_distance(share)
 }
 
-/// Returns the share of packets that come at a pace, in bits/s of whole packets.
+/// Returns the share of packets that arrive at a pace, in bits/s of whole packets.
 pub fn pace_share(pace: u32) -> u64
     requires some { 1 ≤ pace }
     requires most { pace ≤ 100000000 }
@@ -96,7 +96,7 @@ pub fn pace_share(pace: u32) -> u64
     (u128::from(PARTS) * u128::from(pace)).div_ceil(SLOT_UNITS_AT_1BPS) as u64
 }
 
-/// Returns the share with a lead; None where the lead is too short.
+/// Returns the share with a lead; None if the lead is too short.
 pub fn lead_share(needs: Needs, group: u64, packets: u32, delay: u32, lead: u32) -> Option<u64>
     requires ranges { IsNeeds needs }
     requires group { IsGroup group packets }
@@ -132,8 +132,8 @@ pub fn least_share(needs: Needs, max_packets: &[u32]) -> u64
     least
 }
 
-/// The longest time from a packet's slot to its end in a buffer of which at most so many bytes wait, in units of 90
-/// kHz.
+/// Returns the longest time, in units of 90 kHz, from a packet's slot until its last byte leaves a buffer with at most
+/// `bytes` bytes waiting.
 fn buffer_delay(bytes: u64, drain: u32, share: u64) -> u32
     requires some { 1 ≤ bytes }
     requires most { bytes ≤ 753 }
@@ -159,8 +159,8 @@ fn held_bytes(buffer: Option<MultiplexingBuffer>) -> u64
     }
 }
 
-/// Returns the numbers of a stream with the leak of its multiplexing buffer, if it has one, for the rate out of its
-/// transport buffer: the last drain before the buffer of units.
+/// Returns the numbers of a stream with the leak rate of its multiplexing buffer, if it has one, in place of the rate
+/// out of its transport buffer: the last drain before the buffer of units.
 #[tactic(auto, unfolding(crate::specs::Shares::leaking_needs))]
 pub fn leaking_needs(buffer: Option<MultiplexingBuffer>, needs: Needs) -> Needs
     ensures { result ≡ spec.leaking_needs buffer needs }

@@ -1,4 +1,4 @@
--- What a sequence parameter set of ISO/IEC 14496-10 says; its bytes after the header of the NAL unit.
+-- The values of a sequence parameter set of ISO/IEC 14496-10; its bytes after the header of the NAL unit.
 use Rattle.std.specs.Prelude.{ℕ, zero, suc, ◌+◌, ◌-◌, ◌*◌, ◌/◌, ◌%◌, ◌^◌, ◌==◌, ◌&&◌, ◌||◌, nat_le, nat_lt, Bool, if◌then◌else◌, Option, None, Some, List, []}
 use Rattle.std.specs.Prelude.{◌∷◌, option_map, option_and_then, unwrap_or}
 use Rattle.std.specs.Option.{option_map_or}
@@ -15,7 +15,7 @@ value >>= f = option_and_then f value
 
 -- 1. Profile and level: the first three bytes, profile_idc, eight bits of constraints, level_idc
 
--- in the Baseline, Main and Extended profiles level 1b is 11 with constraint_set3_flag, which is 9 in others (A.3.1 and A.3.2)
+-- level 1b is 11 with constraint_set3_flag in the Baseline, Main and Extended profiles, and 9 in all further profiles (A.3.1 and A.3.2)
 unfoldable pub level_idc : ℕ → ℕ → ℕ → ℕ
 level_idc profile constraints level =
     if level == 11 && constraints / 16 % 2 == 1 && (profile == 66 || profile == 77 || profile == 88) then 9 else level
@@ -28,9 +28,9 @@ unfoldable pub profile : List ℕ → ℕ
 profile [] = 0
 profile (p ∷ rest) = p
 
--- cpbBrNalFactor of a profile_idc, by which MaxBR and MaxCPB are bits a second and bits of NAL units (A.3.1, A.3.3, table A-2; annexes
--- G, H and I): of High and the profiles that extend it, of High 10, of High 4:2:2, High 4:4:4 Predictive and CAVLC 4:4:4 Intra, with
--- those of intra pictures alone; of Baseline, Main, Extended, and if the profile is not known
+-- cpbBrNalFactor of a profile_idc, which scales MaxBR to bit/s and MaxCPB to bits of NAL units (A.3.1, A.3.3, table A-2; annexes G, H and I): of High and the
+-- profiles that extend it, of High 10, of High 4:2:2, High 4:4:4 Predictive and CAVLC 4:4:4 Intra, with their profiles of intra pictures alone; of Baseline,
+-- Main, Extended, and if the profile is not known
 unfoldable pub cpb_br_nal_factor : ℕ → ℕ
 cpb_br_nal_factor p =
     if p == 100 || p == 83 || p == 86 || p == 118 || p == 128 || p == 138 || p == 139 || p == 134 || p == 135 then 1_500
@@ -46,8 +46,8 @@ has_chroma_format p =
     p == 100 || p == 110 || p == 122 || p == 244 || p == 44 || p == 83 || p == 86 || p == 118 || p == 128 || p == 138 || p == 139
     || p == 134 || p == 135
 
--- scaling_list (7.3.2.1.1.1) with so many numbers to come after one that is lastScale. delta_scale is se(v): codeNum k is
--- (-1)^(k+1) Ceil(k / 2) (9.1.1); nextScale is (lastScale + delta_scale + 256) % 256, and where it is 0 no number comes after it
+-- scaling_list (7.3.2.1.1.1) with `left` numbers to go after the number lastScale. delta_scale is se(v): codeNum k is (-1)^(k+1) Ceil(k / 2) (9.1.1); nextScale
+-- is (lastScale + delta_scale + 256) % 256, and if it is 0 no number follows
 unfoldable pub next_scale : ℕ → ℕ → ℕ
 next_scale last code = if code % 2 == 1 then (last + (code + 1) / 2) % 256 else (last + (256 - code / 2 % 256)) % 256
 
@@ -57,18 +57,18 @@ scaling_list (suc left) last bytes at =
     option_map_or (λ delta. if next_scale last delta.0 == 0 then Some delta.1 else scaling_list left (next_scale last delta.0) bytes delta.1)
     (ue bytes at) None
 
--- seq_scaling_list_present_flag[i], and where it is 1 a list of 16 numbers if i is below 6, of 64 else; the first lastScale is 8
+-- seq_scaling_list_present_flag[i], and if it is 1 a list, of 16 numbers if i is below 6, otherwise of 64; the first lastScale is 8
 unfoldable pub scaling_list_at : ℕ → List ℕ → ℕ → Option ℕ
 scaling_list_at i bytes at =
     u 1 bytes at >>= (λ present. if present.0 == 1 then scaling_list (if nat_lt i 6 then 16 else 64) 8 bytes present.1 else Some present.1)
 
--- with so many to come from the one of number i on
+-- the place after `left` scaling lists, from number i on
 unfoldable pub scaling_matrix : ℕ → ℕ → List ℕ → ℕ → Option ℕ
 scaling_matrix zero i bytes at = Some at
 scaling_matrix (suc left) i bytes at = option_map_or (λ next. scaling_matrix left (i + 1) bytes next) (scaling_list_at i bytes at) None
 
--- after chroma_format_idc: separate_colour_plane_flag where it is 3, bit_depth_luma_minus8, bit_depth_chroma_minus8,
--- qpprime_y_zero_transform_bypass_flag; seq_scaling_matrix_present_flag, and where it is 1 eight lists, twelve where the format is 3
+-- after chroma_format_idc: separate_colour_plane_flag if it is 3, bit_depth_luma_minus8, bit_depth_chroma_minus8, qpprime_y_zero_transform_bypass_flag;
+-- seq_scaling_matrix_present_flag, and if it is 1 eight lists, or twelve if the format is 3
 unfoldable pub depths : ℕ → List ℕ → ℕ → Option ℕ
 depths format bytes at = if format == 3 then after (U 1 ∷ Ue ∷ Ue ∷ U 1 ∷ []) bytes at else after (Ue ∷ Ue ∷ U 1 ∷ []) bytes at
 
@@ -96,7 +96,7 @@ order_by type bytes at =
 unfoldable pub picture_order : List ℕ → ℕ → Option ℕ
 picture_order bytes at = ue bytes at >>= (λ type. order_by type.0 bytes type.1)
 
--- frame_mbs_only_flag, mb_adaptive_frame_field_flag where it is 0, direct_8x8_inference_flag
+-- frame_mbs_only_flag, mb_adaptive_frame_field_flag if it is 0, direct_8x8_inference_flag
 unfoldable pub frame_elements : List ℕ → ℕ → Option ℕ
 frame_elements bytes at =
     u 1 bytes at >>= (λ only. if only.0 == 1 then after (U 1 ∷ []) bytes only.1 else after (U 1 ∷ U 1 ∷ []) bytes only.1)
@@ -112,17 +112,17 @@ unfoldable pub picture_size : List ℕ → ℕ → Option ℕ
 picture_size bytes at =
     after (Ue ∷ U 1 ∷ Ue ∷ Ue ∷ []) bytes at >>= frame_elements bytes >>= after_flagged (Ue ∷ Ue ∷ Ue ∷ Ue ∷ []) bytes
 
--- the place after a flag, where it is 1
+-- the place after a flag, if the flag is 1
 unfoldable pub where_set : List ℕ → ℕ → Option ℕ
 where_set bytes at = u 1 bytes at >>= (λ flag. if flag.0 == 1 then Some flag.1 else None)
 
--- the place of vui_parameters, where vui_parameters_present_flag is 1
+-- the place of vui_parameters, if vui_parameters_present_flag is 1
 unfoldable pub vui_place : List ℕ → Option ℕ
 vui_place bytes = frame_number bytes 24 >>= picture_order bytes >>= picture_size bytes >>= where_set bytes
 
 -- 3. The VUI parameters up to the HRD parameters of NAL units (E.1.1)
 
--- aspect_ratio_info_present_flag, aspect_ratio_idc, and where it is 255 sar_width and sar_height
+-- aspect_ratio_info_present_flag, aspect_ratio_idc, and if it is 255 sar_width and sar_height
 unfoldable pub sample_size : ℕ → List ℕ → ℕ → Option ℕ
 sample_size idc bytes at = if idc == 255 then after (U 16 ∷ U 16 ∷ []) bytes at else Some at
 
@@ -154,7 +154,7 @@ unfoldable pub last_cpb_size : ℕ → List ℕ → ℕ → Option ℕ
 last_cpb_size scale bytes at =
     after (Ue ∷ []) bytes at >>= (λ value_at. option_map (λ value. (value.0 + 1) * size_unit scale) (ue bytes value_at))
 
--- of the schedule of number cpb_cnt_minus1
+-- CpbSize of the schedule of number cpb_cnt_minus1
 unfoldable pub cpb_size_after : ℕ → List ℕ → ℕ → Option ℕ
 cpb_size_after count bytes at =
     u 4 bytes at >>= (λ rate_scale. u 4 bytes rate_scale.1 >>= (λ scale.
@@ -163,7 +163,7 @@ cpb_size_after count bytes at =
 unfoldable pub hrd_cpb_size : List ℕ → ℕ → Option ℕ
 hrd_cpb_size bytes at = ue bytes at >>= (λ count. if nat_le count.0 31 then cpb_size_after count.0 bytes count.1 else None)
 
--- 5. What it says; 0 where it has no HRD parameters of NAL units
+-- 5. The values; CpbSize is 0 without HRD parameters of NAL units
 
 unfoldable pub cpb_size : List ℕ → Option ℕ
 cpb_size bytes = vui_place bytes >>= hrd_place bytes >>= hrd_cpb_size bytes

@@ -36,14 +36,13 @@ registers_pcm d = d.tag == 5 && bytes_eq (take 4 d.body) (66 ∷ 83 ∷ 83 ∷ 6
 abbrev pub is_pcm : List ℕ → Bool
 is_pcm descriptors = list_any registers_pcm (descriptors_in descriptors)
 
--- the pairs of channels by the header of a unit, 4 bytes: audio_packet_size in 16 bits, number_channels in 2, ..; the most, 4, where
--- the unit has no header
+-- the pairs of channels by the header of a unit, 4 bytes: audio_packet_size in 16 bits, number_channels in 2, ..; the most, 4, if the unit has no header
 unfoldable pub channel_pairs : List ℕ → ℕ
 channel_pairs (a ∷ b ∷ c ∷ rest) = c / 64 + 1
 channel_pairs _ = 4
 
--- 3. JPEG 2000 video by its J2K_video_descriptor (ISO/IEC 13818-1, 2.6.80): profile_and_level in 16 bits, horizontal_size, vertical_size,
--- max_bit_rate and max_buffer_size in 32 bits each, ..; 0 where there is none
+-- 3. JPEG 2000 video by its J2K_video_descriptor (ISO/IEC 13818-1, 2.6.80): profile_and_level in 16 bits, horizontal_size, vertical_size, max_bit_rate and
+-- max_buffer_size in 32 bits each, ..; 0 if there is none
 
 unfoldable pub is_j2k : DescriptorView → Bool
 is_j2k d = d.tag == 0x32
@@ -69,7 +68,7 @@ coding_by_descriptors stream_type descriptors unit =
     else (if stream_type == 6 && is_pcm descriptors then Pcm (channel_pairs unit)
     else Other)))
 
--- by stream_type (ISO/IEC 13818-1, table 2-34), and where it names none of these codings by descriptors
+-- by stream_type (ISO/IEC 13818-1, table 2-34); if it names none of these codings, by descriptors
 unfoldable pub coding_of : ℕ → List ℕ → List ℕ → Coding
 coding_of stream_type descriptors unit =
     if stream_type == 0x01 || stream_type == 0x02 then Mpeg (mpeg_sequence unit)

@@ -1,4 +1,4 @@
--- What a sequence parameter set of ISO/IEC 23008-2 says; its bytes after the header of the NAL unit.
+-- The values of a sequence parameter set of ISO/IEC 23008-2; its bytes after the header of the NAL unit.
 use Rattle.std.specs.Prelude.{ℕ, ◌*◌, ◌/◌, ◌%◌, ◌==◌, ◌&&◌, ◌||◌, Bool, if◌then◌else◌, List, unwrap_or}
 use Rattle.std.specs.List.{slice_get}
 use Rattle.stream_coding.specs.Structures.{bytes_of}
@@ -6,7 +6,7 @@ use Rattle.stream_coding.specs.declared.structures.Structure.TheVariants.{HevcPa
 use Rattle.stream_coding.specs.Rbsp.{rbsp_bytes}
 use Rattle.stream_coding.specs.declared.coding.HevcSequence.{HevcSequence}
 
--- a byte of it, 0 where it ends before
+-- a byte of the set, 0 if it ends before
 abbrev pub byte_or_zero : List ℕ → ℕ → ℕ
 byte_or_zero bytes number = unwrap_or (slice_get (rbsp_bytes bytes) number) 0
 
@@ -18,7 +18,7 @@ byte_or_zero bytes number = unwrap_or (slice_get (rbsp_bytes bytes) number) 0
 unfoldable pub has_limit_flags : ℕ → Bool
 has_limit_flags idc = idc == 4 || idc == 5 || idc == 9 || idc == 10 || idc == 11
 
--- of four numbers the one for samples of up to 8, 10, 12 and 16 bits
+-- one number of four, for samples of up to 8, 10, 12 or 16 bits
 unfoldable pub by_depth : ℕ → ℕ → ℕ → ℕ → ℕ → ℕ
 by_depth depths eight ten twelve sixteen =
     if depths / 2 % 2 == 1 then eight
@@ -26,7 +26,7 @@ by_depth depths eight ten twelve sixteen =
     else (if depths / 8 % 2 == 1 then twelve
     else sixteen))
 
--- CpbNalFactor (A.4.2): of monochrome, 4:2:0, 4:2:2 and 4:4:4 pictures
+-- CpbNalFactor (A.4.2) of these profiles: for monochrome, 4:2:0, 4:2:2 and 4:4:4 pictures
 unfoldable pub limited_factor : ℕ → ℕ → ℕ
 limited_factor depths formats =
     if formats / 64 % 2 == 1 then by_depth depths 733 917 1_100 1_467
@@ -34,7 +34,7 @@ limited_factor depths formats =
     else (if depths % 2 == 1 then by_depth depths 1_833 1_833 2_200 4_400
     else by_depth depths 2_200 2_750 3_300 4_400))
 
--- of the others, Main, Main 10 and Main Still Picture, and if the profile is not known, 1,100
+-- CpbNalFactor of all profiles: 1,100 for Main, Main 10, Main Still Picture, and if the profile is not known
 unfoldable pub cpb_nal_factor : ℕ → ℕ → ℕ → ℕ
 cpb_nal_factor idc depths formats = if has_limit_flags idc then limited_factor depths formats else 1_100
 

@@ -22,8 +22,7 @@ rbsp_bytes (a ∷ b ∷ c ∷ rest) =
 unfoldable pub bit_at : List ℕ → ℕ → Option ℕ
 bit_at bytes at = if nat_lt at 1048576 then option_map (λ b. b / 2 ^ (7 - at % 8) % 2) (slice_get (rbsp_bytes bytes) (at / 8)) else None
 
--- 2. The elements of the syntax (ISO/IEC 14496-10, 7.2 and 9.1): each from a place on, with the place after it; none where the bits
--- end before
+-- 2. The elements of the syntax (ISO/IEC 14496-10, 7.2 and 9.1): each from a place on, with the place after it; none if the bits end before
 
 -- u(n), the number of n bits; of more than 32 the last 32
 unfoldable pub number_from : List ℕ → ℕ → ℕ → ℕ → Option (ℕ × ℕ)
@@ -55,16 +54,16 @@ unfoldable pub after_element : Element → List ℕ → ℕ → Option ℕ
 after_element (U n) bytes at = option_map (λ read. read.1) (u n bytes at)
 after_element Ue bytes at = option_map (λ read. read.1) (ue bytes at)
 
--- after several in a row
+-- after several elements in a row
 unfoldable pub after : List Element → List ℕ → ℕ → Option ℕ
 after [] bytes at = Some at
 after (e ∷ es) bytes at = option_map_or (λ next. after es bytes next) (after_element e bytes at) None
 
--- after several that come so many times
+-- after several elements, repeated n times
 unfoldable pub after_times : ℕ → List Element → List ℕ → ℕ → Option ℕ
 after_times zero es bytes at = Some at
 after_times (suc n) es bytes at = option_map_or (λ next. after_times n es bytes next) (after es bytes at) None
 
--- after a flag, and those that come where it is 1
+-- after a flag, and the elements that follow it if it is 1
 unfoldable pub after_flagged : List Element → List ℕ → ℕ → Option ℕ
 after_flagged es bytes at = option_and_then (λ flag. if flag.0 == 1 then after es bytes flag.1 else Some flag.1) (u 1 bytes at)

@@ -43,6 +43,6 @@ is_recovery_point _ = false
 unfoldable pub place_after : SeiPlace → List ℕ → SeiPlace
 place_after place bytes = fold next_place place (rbsp_bytes (nal_bytes bytes))
 
--- one of the messages that begin with the first of these bytes is a recovery point
+-- a recovery point is among the messages that begin with the first of these bytes
 abbrev pub has_recovery_point : List ℕ → Bool
 has_recovery_point bytes = is_recovery_point (place_after AtType bytes)

@@ -1,4 +1,4 @@
--- What the sequence header and the sequence extension of ISO/IEC 13818-2 say; each without its start code.
+-- The values of the sequence header and the sequence extension of ISO/IEC 13818-2; each without its start code.
 use Rattle.std.specs.Prelude.{ℕ, ◌+◌, ◌*◌, ◌/◌, ◌%◌, ◌^◌, List, ◌∷◌}
 use Rattle.stream_coding.specs.Structures.{bytes_of}
 use Rattle.stream_coding.specs.declared.structures.Structure.TheVariants.{SequenceHeader, SequenceExtension}
@@ -41,6 +41,6 @@ sequence_of header extension = record {
   vbv_buffer_size = vbv_buffer_size_extension extension * 2 ^ 10 + vbv_buffer_size_value header;
 }
 
--- those of a unit
+-- the sequence header and extension of a unit
 unfoldable pub mpeg_sequence : List ℕ → MpegSequence
 mpeg_sequence unit = sequence_of (bytes_of SequenceHeader unit) (bytes_of SequenceExtension unit)

@@ -5,7 +5,7 @@ ghost use Rattle.stream_coding.specs.AccessPoints as spec;
 
 use crate::structures::{Structure, bytes_of, has};
 
-// The coding type of the picture with these bytes after the start code of its header.
+// Returns the coding type of the picture with these bytes after the start code of its header.
 #[tactic(auto, unfolding(crate::specs::AccessPoints::picture_coding_type))]
 fn picture_coding_type(header: &[u8]) -> u8
     ensures { result ≡ spec.picture_coding_type header.now }

@@ -3,7 +3,7 @@
 ghost use Rattle.std.specs.Prelude.{◌≡◌, drop};
 ghost use Rattle.stream_coding.specs.Adts as spec;
 
-// The channels of a channel_configuration.
+// Returns the channels of a channel_configuration.
 #[tactic(auto, unfolding(crate::specs::Adts::channel_count))]
 fn channel_count(configuration: u8) -> u8
     ensures { result ≡ spec.channel_count configuration }
@@ -11,7 +11,7 @@ fn channel_count(configuration: u8) -> u8
     if configuration == 7 { 8 } else { configuration }
 }
 
-// The elements of a program_config_element at the front, each of which has a channel or two.
+// Returns the number of elements in a program_config_element at the front; each has one or two channels.
 #[tactic(auto, unfolding(crate::specs::Adts::element_count))]
 fn element_count(bytes: &[u8]) -> u8
     ensures { result ≡ spec.element_count bytes.now }
@@ -28,7 +28,7 @@ fn element_count(bytes: &[u8]) -> u8
     }
 }
 
-/// Returns the bytes from a place on; none where they are fewer.
+/// Returns the bytes from a place on; none if they are fewer.
 pub(crate) fn bytes_from(place: usize, bytes: &[u8]) -> &[u8]
     ensures { result.now ≡ drop place bytes.now }
 {
@@ -39,7 +39,7 @@ pub(crate) fn bytes_from(place: usize, bytes: &[u8]) -> &[u8]
     }
 }
 
-// The channels of a channel_configuration, with what follows it.
+// Returns the channels of a channel_configuration, with the bytes after it.
 #[tactic(auto, unfolding(crate::specs::Adts::channels_by))]
 fn channels_by(absent: u8, configuration: u8, rest: &[u8]) -> u8
     ensures { result ≡ spec.channels_by absent configuration rest.now }

@@ -1,4 +1,4 @@
-//! What a sequence parameter set of ISO/IEC 14496-10 says.
+//! The values of a sequence parameter set of ISO/IEC 14496-10.
 
 ghost use Rattle.std.specs.Prelude.{◌≡◌, ◌≤◌, ◌<◌, ◌^◌, IfSome};
 ghost use Rattle.stream_coding.specs.Avc as spec;
@@ -42,7 +42,7 @@ fn profile(bytes: &[u8]) -> u8
     }
 }
 
-// cpbBrNalFactor of a profile.
+// Returns cpbBrNalFactor of a profile.
 #[tactic(auto, unfolding(crate::specs::Avc::cpb_br_nal_factor))]
 fn cpb_br_nal_factor(profile: u8) -> u32
     ensures { result ≡ spec.cpb_br_nal_factor profile }
@@ -79,7 +79,7 @@ fn next_scale(last: u64, code: u64) -> u64
     }
 }
 
-// The place after the numbers of a scaling list that are to come.
+// Returns the place after the remaining numbers of a scaling list.
 #[tactic(auto, using(crate::proofs::ScalingLists::list_done, crate::proofs::ScalingLists::list_end, crate::proofs::ScalingLists::list_stop, crate::proofs::ScalingLists::list_step))]
 fn scaling_list(count: u8, first: u64, bytes: &[u8], at: usize) -> Option<usize>
     requires first { first < 256 }
@@ -116,7 +116,7 @@ fn scaling_list_at(i: u8, bytes: &[u8], at: usize) -> Option<usize>
     }
 }
 
-// The place after the scaling lists.
+// Returns the place after the scaling lists.
 #[tactic(auto, using(crate::proofs::ScalingLists::matrix_done, crate::proofs::ScalingLists::matrix_step, crate::proofs::ScalingLists::matrix_end))]
 fn scaling_matrix(count: u8, bytes: &[u8], at: usize) -> Option<usize>
     requires count { count ≤ 12 }
@@ -260,7 +260,7 @@ fn picture_size(bytes: &[u8], at: usize) -> Option<usize>
     after_flagged(&[Ue, Ue, Ue, Ue], bytes, next)
 }
 
-// The place of the VUI parameters.
+// Returns the place of the VUI parameters.
 #[tactic(auto, unfolding(crate::specs::Avc::vui_place))]
 fn vui_place(bytes: &[u8]) -> Option<usize>
     ensures value { result ≡ spec.vui_place bytes.now }
@@ -272,7 +272,7 @@ fn vui_place(bytes: &[u8]) -> Option<usize>
     where_set(bytes, next)
 }
 
-// CpbSize of the last schedule of the HRD parameters of NAL units.
+// Returns CpbSize of the last schedule of the HRD parameters of NAL units.
 #[tactic(auto, unfolding(crate::specs::Avc::cpb_size))]
 fn cpb_size(bytes: &[u8]) -> Option<u64>
     ensures { result ≡ spec.cpb_size bytes.now }
@@ -282,7 +282,7 @@ fn cpb_size(bytes: &[u8]) -> Option<u64>
     hrd_cpb_size(bytes, next)
 }
 
-/// Returns what the first sequence parameter set of a unit says.
+/// Returns the values of the first sequence parameter set of a unit.
 #[tactic(auto, unfolding(crate::specs::Avc::avc_sequence))]
 pub(crate) fn avc_sequence(unit: &[u8]) -> AvcSequence
     ensures { result ≡ spec.avc_sequence unit.now }

@@ -6,7 +6,7 @@ ghost use Rattle.stream_coding.specs.Avc as spec;
 use crate::rbsp::Element::{U, Ue};
 use crate::rbsp::{after, after_flagged, after_times, u, ue};
 
-/// Returns the place after a flag, where it is 1.
+/// Returns the place after a flag, if the flag is 1.
 #[tactic(auto, unfolding(crate::specs::Avc::where_set))]
 pub(crate) fn where_set(bytes: &[u8], at: usize) -> Option<usize>
     requires { at ≤ 1048576 }
@@ -75,7 +75,7 @@ pub(crate) fn hrd_place(bytes: &[u8], at: usize) -> Option<usize>
     where_set(bytes, next)
 }
 
-// The bits that cpb_size_value_minus1 counts.
+// Returns the bits that cpb_size_value_minus1 counts.
 #[tactic(auto, unfolding(crate::specs::Avc::size_unit), using(crate::proofs::Elements::unit_bound))]
 fn size_unit(scale: u32) -> u64
     ensures value { result ≡ spec.size_unit scale }
@@ -84,7 +84,7 @@ fn size_unit(scale: u32) -> u64
     1u64 << (4 + scale % 16)
 }
 
-// CpbSize of the schedule that begins at a place.
+// Returns CpbSize of the schedule that begins at a place.
 #[tactic(auto, unfolding(crate::specs::Avc::last_cpb_size))]
 fn last_cpb_size(scale: u32, bytes: &[u8], at: usize) -> Option<u64>
     requires { at ≤ 1048576 }
@@ -106,7 +106,7 @@ fn cpb_size_after(count: u64, bytes: &[u8], at: usize) -> Option<u64>
     last_cpb_size(scale, bytes, next)
 }
 
-/// CpbSize of the last schedule of HRD parameters.
+/// Returns CpbSize of the last schedule of HRD parameters.
 #[tactic(auto, unfolding(crate::specs::Avc::hrd_cpb_size))]
 pub(crate) fn hrd_cpb_size(bytes: &[u8], at: usize) -> Option<u64>
     requires { at ≤ 1048576 }

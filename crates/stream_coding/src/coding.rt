@@ -21,7 +21,7 @@ const TELETEXT: u8 = 0x56;
 // stream_type of private data in PES packets (ISO/IEC 13818-1, table 2-34).
 const PRIVATE_DATA: u8 = 6;
 
-/// What ISO/IEC 11172-2 and 13818-2 video says of itself; a number is 0 where it is not said.
+/// The values in the headers of ISO/IEC 11172-2 and 13818-2 video; 0 for an absent value.
 #[derive(Clone, Copy, PartialEq, Eq)]
 pub struct MpegSequence {
     /// profile_and_level_indication.
@@ -32,7 +32,7 @@ pub struct MpegSequence {
     pub vbv_buffer_size: u32,
 }
 
-/// What ISO/IEC 14496-10 video says of itself; a number is 0 where it is not said.
+/// The values in the headers of ISO/IEC 14496-10 video; 0 for an absent value.
 #[derive(Clone, Copy, PartialEq, Eq)]
 pub struct AvcSequence {
     /// level_idc, 9 for level 1b.
@@ -43,7 +43,7 @@ pub struct AvcSequence {
     pub cpb_size: u64,
 }
 
-/// What ISO/IEC 23008-2 video says of itself; a number is 0 where it is not said.
+/// The values in the headers of ISO/IEC 23008-2 video; 0 for an absent value.
 #[derive(Clone, Copy, PartialEq, Eq)]
 pub struct HevcSequence {
     /// general_level_idc.
@@ -56,7 +56,7 @@ pub struct HevcSequence {
     pub br_nal_factor: u32,
 }
 
-/// What the J2K_video_descriptor of JPEG 2000 video says; a number is 0 where it is not said.
+/// The values of the J2K_video_descriptor of JPEG 2000 video; 0 for an absent value.
 #[derive(Clone, Copy, PartialEq, Eq)]
 pub struct J2kLimits {
     /// In bits a second.
@@ -93,7 +93,7 @@ pub enum Coding {
     Other,
 }
 
-// By the descriptors of a stream whose stream_type leaves its coding open.
+// Returns the coding by a stream's descriptors, if its stream_type leaves the coding open.
 #[tactic(auto, unfolding(crate::specs::Codings::coding_by_descriptors))]
 fn coding_by_descriptors(stream_type: u8, descriptors: &[u8], unit: &[u8]) -> Coding
     ensures { result ≡ spec.coding_by_descriptors stream_type descriptors.now unit.now }

@@ -1,4 +1,4 @@
-//! What a sequence parameter set of ISO/IEC 23008-2 says.
+//! The values of a sequence parameter set of ISO/IEC 23008-2.
 
 ghost use Rattle.std.specs.Prelude.{◌≡◌, ◌≤◌};
 ghost use Rattle.stream_coding.specs.Hevc as spec;
@@ -14,7 +14,7 @@ pub(crate) fn byte_or_zero(bytes: &[u8], number: usize) -> u8
     rbsp_byte(number, bytes).unwrap_or(0)
 }
 
-// Whether a profile has flags of its limits.
+// Returns whether a profile has flags of its limits.
 #[tactic(auto, unfolding(crate::specs::Hevc::has_limit_flags))]
 fn has_limit_flags(idc: u8) -> bool
     ensures { result ≡ spec.has_limit_flags idc }
@@ -22,7 +22,7 @@ fn has_limit_flags(idc: u8) -> bool
     idc == 4 || idc == 5 || idc == 9 || idc == 10 || idc == 11
 }
 
-// Of four numbers the one for samples of up to 8, 10, 12 and 16 bits.
+// Returns one number of four, for samples of up to 8, 10, 12 or 16 bits.
 #[tactic(auto, unfolding(crate::specs::Hevc::by_depth))]
 fn by_depth(depths: u8, eight: u32, ten: u32, twelve: u32, sixteen: u32) -> u32
     ensures { result ≡ spec.by_depth depths eight ten twelve sixteen }
@@ -38,7 +38,7 @@ fn by_depth(depths: u8, eight: u32, ten: u32, twelve: u32, sixteen: u32) -> u32
     }
 }
 
-// CpbNalFactor by these flags.
+// Returns CpbNalFactor by these flags.
 #[tactic(auto, unfolding(crate::specs::Hevc::limited_factor, crate::specs::Hevc::by_depth))]
 fn limited_factor(depths: u8, formats: u8) -> u32
     ensures value { result ≡ spec.limited_factor depths formats }
@@ -55,7 +55,7 @@ fn limited_factor(depths: u8, formats: u8) -> u32
     }
 }
 
-// CpbNalFactor of a profile.
+// Returns CpbNalFactor of a profile.
 #[tactic(auto, unfolding(crate::specs::Hevc::cpb_nal_factor))]
 fn cpb_nal_factor(idc: u8, depths: u8, formats: u8) -> u32
     ensures value { result ≡ spec.cpb_nal_factor idc depths formats }
@@ -68,7 +68,7 @@ fn cpb_nal_factor(idc: u8, depths: u8, formats: u8) -> u32
     }
 }
 
-// BrNalFactor of a profile.
+// Returns BrNalFactor of a profile.
 #[tactic(auto, unfolding(crate::specs::Hevc::br_nal_factor))]
 fn br_nal_factor(idc: u8, depths: u8, formats: u8) -> u32
     ensures { result ≡ spec.br_nal_factor idc depths formats }
@@ -81,7 +81,7 @@ fn br_nal_factor(idc: u8, depths: u8, formats: u8) -> u32
     }
 }
 
-// What these bytes of a sequence parameter set say.
+// Returns the values in these bytes of a sequence parameter set.
 fn sequence_of(profile: u8, depths: u8, formats: u8, level: u8) -> HevcSequence
     ensures { result ≡ spec.sequence_of profile depths formats level }
 {
@@ -94,7 +94,7 @@ fn sequence_of(profile: u8, depths: u8, formats: u8, level: u8) -> HevcSequence
     }
 }
 
-/// Returns what the first sequence parameter set of a unit says.
+/// Returns the values of the first sequence parameter set of a unit.
 #[tactic(auto, unfolding(crate::specs::Hevc::hevc_sequence))]
 pub(crate) fn hevc_sequence(unit: &[u8]) -> HevcSequence
     ensures { result ≡ spec.hevc_sequence unit.now }

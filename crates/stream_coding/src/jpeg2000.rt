@@ -1,4 +1,4 @@
-//! What the J2K_video_descriptor of JPEG 2000 video says (ISO/IEC 13818-1, 2.6.80).
+//! The values of the J2K_video_descriptor of JPEG 2000 video (ISO/IEC 13818-1, 2.6.80).
 
 ghost use Rattle.std.specs.Prelude.{◌≡◌, drop, find};
 ghost use Rattle.std.specs.Option.{option_map_or};
@@ -19,7 +19,7 @@ fn is_j2k(descriptor: Descriptor<'_>) -> bool
     descriptor.tag == J2K_VIDEO
 }
 
-// The number in four bytes at the front; 0 if they are fewer.
+// Returns the number in four bytes at the front; 0 if they are fewer.
 #[tactic(auto, unfolding(crate::specs::Codings::four_bytes))]
 fn four_bytes(bytes: &[u8]) -> u32
     ensures { result ≡ spec.four_bytes bytes.now }
@@ -35,7 +35,7 @@ fn four_bytes(bytes: &[u8]) -> u32
     }
 }
 
-// What the body of a descriptor says.
+// Returns the limits in the body of a descriptor.
 #[tactic(auto, unfolding(crate::specs::Codings::j2k_limits))]
 fn limits_in(body: &[u8]) -> J2kLimits
     ensures { result ≡ spec.j2k_limits body.now }
@@ -46,7 +46,7 @@ fn limits_in(body: &[u8]) -> J2kLimits
     }
 }
 
-// The body of the first such descriptor; no bytes where there is none.
+// Returns the body of the first such descriptor; no bytes if there is none.
 fn j2k_body(descriptors: &[u8]) -> &[u8]
     ensures { result.now ≡ spec.j2k_body descriptors.now }
 {
@@ -58,7 +58,7 @@ fn j2k_body(descriptors: &[u8]) -> &[u8]
     &[]
 }
 
-/// Returns what the first J2K_video_descriptor among these descriptors says.
+/// Returns the values of the first J2K_video_descriptor among these descriptors.
 pub(crate) fn j2k_limits(descriptors: &[u8]) -> J2kLimits
     ensures { result ≡ spec.j2k_limits (spec.j2k_body descriptors.now) }
 {

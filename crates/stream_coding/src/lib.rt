@@ -1,9 +1,9 @@
 //! How an elementary stream is coded.
 //!
-//! The coding is the coding of its entry in the program map (`specs/Codings`), with what its first access unit says in
-//! the structures of `specs/Structures`: its profile, level, video buffer or number of channels (`specs/Sequences`,
-//! `Avc`, `Hevc`, `Adts`). The units at which a decoder may begin are those of `specs/AccessPoints`. `specs/Profiles`
-//! has the profile and level by their numbers.
+//! The coding is the coding of its entry in the program map (`specs/Codings`), with the profile, level, video buffer or
+//! number of channels (`specs/Sequences`, `Avc`, `Hevc`, `Adts`) from the structures of its first access unit
+//! (`specs/Structures`). `specs/AccessPoints` defines the units where a decoder may begin, `specs/Profiles` the profile
+//! and level by their numbers.
 #![tactic(auto)]
 
 mod ac3;

@@ -16,7 +16,7 @@ fn registers_pcm(descriptor: Descriptor<'_>) -> bool
     descriptor.tag == REGISTRATION && descriptor.body.starts_with(b"BSSD")
 }
 
-/// Returns whether a stream is SMPTE 302M audio: one of its descriptors registers "BSSD".
+/// Returns whether a stream is SMPTE 302M audio: a descriptor registers "BSSD".
 pub(crate) fn is_pcm(descriptors: &[u8]) -> bool
     ensures { result ≡ spec.is_pcm descriptors.now }
 {

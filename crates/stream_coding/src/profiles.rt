@@ -17,7 +17,7 @@ const AVC_VIDEO: u8 = 0x1b;
 
 const HEVC_VIDEO: u8 = 0x24;
 
-/// What the headers of a stream say of its profile and its level, by the numbers of the standards.
+/// The profile and the level in the headers of a stream, by the numbers of the standards.
 #[derive(Clone, Copy, PartialEq, Eq)]
 pub enum ProfileLevel {
     /// No header says it.
@@ -28,7 +28,7 @@ pub enum ProfileLevel {
     Avc {
         /// profile_idc.
         profile: u8,
-        /// The constraint_set flags, the one of set 0 in the first bit.
+        /// The constraint_set flags, constraint_set0_flag in the first bit.
         constraints: u8,
         /// level_idc, 9 for level 1b.
         level: u8,
@@ -53,7 +53,7 @@ pub enum ProfileLevel {
     },
 }
 
-// By the bytes of a sequence parameter set of ISO/IEC 14496-10.
+// Returns profile and level by the bytes of a sequence parameter set of ISO/IEC 14496-10.
 #[tactic(auto, unfolding(crate::specs::Profiles::avc_profile))]
 fn avc_profile(bytes: &[u8]) -> ProfileLevel
     ensures { result ≡ spec.avc_profile bytes.now }
@@ -68,7 +68,7 @@ fn avc_profile(bytes: &[u8]) -> ProfileLevel
     }
 }
 
-// By the bytes of a sequence parameter set of ISO/IEC 23008-2.
+// Returns profile and level by the bytes of a sequence parameter set of ISO/IEC 23008-2.
 #[tactic(auto, unfolding(crate::specs::Profiles::hevc_profile))]
 fn hevc_profile(bytes: &[u8]) -> ProfileLevel
     ensures { result ≡ spec.hevc_profile bytes.now }
@@ -81,7 +81,7 @@ fn hevc_profile(bytes: &[u8]) -> ProfileLevel
     }
 }
 
-// By the bytes of an ADTS header.
+// Returns the profile by the bytes of an ADTS header.
 #[tactic(auto, unfolding(crate::specs::Profiles::aac_profile))]
 fn aac_profile(bytes: &[u8]) -> ProfileLevel
     ensures { result ≡ spec.aac_profile bytes.now }
@@ -95,7 +95,7 @@ fn aac_profile(bytes: &[u8]) -> ProfileLevel
     }
 }
 
-/// Returns what an access unit says of the profile and the level of a stream of this stream_type.
+/// Returns the profile and the level in an access unit of a stream of this stream_type.
 #[tactic(auto, unfolding(crate::specs::Profiles::profile_level))]
 pub fn profile_level(stream_type: u8, unit: &[u8]) -> ProfileLevel
     ensures { result ≡ spec.profile_level stream_type unit.now }

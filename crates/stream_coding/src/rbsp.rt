@@ -7,7 +7,7 @@ ghost use Rattle.stream_coding.specs.Rbsp as spec;
 /// The places that are read: the bits of 131,072 bytes.
 const PLACES: usize = 1_048_576;
 
-/// An element of the syntax: a number of so many bits, or in Exp-Golomb code.
+/// An element of the syntax: a number with this many bits, or in Exp-Golomb code.
 #[derive(Clone, Copy)]
 pub(crate) enum Element {
     U(u8),
@@ -40,7 +40,7 @@ pub(crate) fn rbsp_byte(number: usize, bytes: &[u8]) -> Option<u8>
     None
 }
 
-// The bit at a place.
+// Returns the bit at a place.
 #[tactic(auto, unfolding(crate::specs::Rbsp::bit_at))]
 fn bit_at(bytes: &[u8], at: usize) -> Option<u8>
     ensures value { result ≡ spec.bit_at bytes.now at }
@@ -84,7 +84,7 @@ fn is_one(bytes: &[u8], at: usize) -> bool
     }
 }
 
-// leadingZeroBits.
+// Returns leadingZeroBits.
 #[tactic(auto, unfolding(crate::specs::Rbsp::leading_zero_bits))]
 fn leading_zero_bits(bytes: &[u8], at: usize) -> Option<u8>
     requires { at ≤ 1048576 }
@@ -118,7 +118,7 @@ pub(crate) fn ue(bytes: &[u8], at: usize) -> Option<(u64, usize)>
     ue_after(zeros, bytes, at)
 }
 
-// The place after an element.
+// Returns the place after an element.
 #[tactic(auto, unfolding(crate::specs::Rbsp::after_element))]
 fn after_element(element: Element, bytes: &[u8], at: usize) -> Option<usize>
     requires { at ≤ 1048576 }
@@ -153,7 +153,7 @@ pub(crate) fn after(elements: &[Element], bytes: &[u8], at: usize) -> Option<usi
     Some(place)
 }
 
-/// Returns the place after several elements that come so many times.
+/// Returns the place after several elements, repeated `times` times.
 #[tactic(auto, using(crate::proofs::Elements::times_done, crate::proofs::Elements::times_step, crate::proofs::Elements::times_end))]
 pub(crate) fn after_times(
     times: u64,
@@ -174,7 +174,7 @@ pub(crate) fn after_times(
     Some(place)
 }
 
-/// Returns the place after a flag, and the elements that come where it is 1.
+/// Returns the place after a flag, and the elements that follow it if it is 1.
 #[tactic(auto, unfolding(crate::specs::Rbsp::after_flagged))]
 pub(crate) fn after_flagged(elements: &[Element], bytes: &[u8], at: usize) -> Option<usize>
     requires { at ≤ 1048576 }

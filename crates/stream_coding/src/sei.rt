@@ -6,19 +6,19 @@ ghost use Rattle.stream_coding.specs.Sei as spec;
 /// Where the next byte of SEI messages is.
 #[derive(Clone, Copy, PartialEq, Eq)]
 pub(crate) enum SeiPlace {
-    /// The first byte of a message, that of its payloadType.
+    /// The first byte of a message, where its payloadType begins.
     AtType,
     /// A later byte of its payloadType.
     InType,
     /// A byte of its payloadSize, after bytes of this sum.
     InSize(u64),
-    /// A byte of its payload, of which this number of bytes is left.
+    /// A byte of its payload, with this number of bytes left.
     InPayload(u64),
     /// After the payloadType of a recovery point.
     AtRecoveryPoint,
 }
 
-// Whether the last byte of a NAL unit is before these bytes.
+// Returns whether the last byte of a NAL unit is before these bytes.
 #[tactic(auto, unfolding(crate::specs::Sei::ends_nal))]
 fn ends_nal(bytes: &[u8]) -> bool
     ensures { result ≡ spec.ends_nal bytes.now }
@@ -40,7 +40,7 @@ fn in_payload(left: u64) -> SeiPlace
     }
 }
 
-// The place after one more byte.
+// Returns the place after one more byte.
 #[tactic(auto, unfolding(crate::specs::Sei::next_place))]
 fn next_place(place: SeiPlace, byte: u8) -> SeiPlace
     ensures { result ≡ spec.next_place place byte }
@@ -56,7 +56,7 @@ fn next_place(place: SeiPlace, byte: u8) -> SeiPlace
     }
 }
 
-// The place after the bytes of a NAL unit from the first of these on.
+// Returns the place after the bytes of a NAL unit from the first of these on.
 #[tactic(auto, using(crate::proofs::SeiPlaces::after_nothing, crate::proofs::SeiPlaces::after_end, crate::proofs::SeiPlaces::after_byte, crate::proofs::SeiPlaces::after_prevention))]
 fn place_after(start: SeiPlace, bytes: &[u8]) -> SeiPlace
     ensures { result ≡ spec.place_after start bytes.now }
@@ -81,7 +81,7 @@ fn place_after(start: SeiPlace, bytes: &[u8]) -> SeiPlace
     place
 }
 
-/// Returns whether one of the SEI messages that begin with the first of these bytes is a recovery point.
+/// Returns whether a recovery point is among the SEI messages that begin with the first of these bytes.
 #[tactic(auto, unfolding(crate::specs::Sei::is_recovery_point))]
 pub(crate) fn has_recovery_point(bytes: &[u8]) -> bool
     ensures { result ≡ spec.has_recovery_point bytes.now }

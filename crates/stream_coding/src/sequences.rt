@@ -1,4 +1,4 @@
-//! What the sequence header and the sequence extension of ISO/IEC 13818-2 say.
+//! The values of the sequence header and the sequence extension of ISO/IEC 13818-2.
 
 ghost use Rattle.std.specs.Prelude.{◌≡◌, ◌<◌, ◌^◌};
 ghost use Rattle.stream_coding.specs.Sequences as spec;
@@ -62,7 +62,7 @@ fn vbv_buffer_size_extension(extension: &[u8]) -> u8
     }
 }
 
-// What a sequence header and a sequence extension say.
+// Returns the values of a sequence header and a sequence extension.
 fn sequence_of(header: &[u8], extension: &[u8]) -> MpegSequence
     ensures { result ≡ spec.sequence_of header.now extension.now }
 {
@@ -74,7 +74,7 @@ fn sequence_of(header: &[u8], extension: &[u8]) -> MpegSequence
     }
 }
 
-/// Returns what the first sequence header and the first sequence extension of a unit say.
+/// Returns the values of the first sequence header and the first sequence extension of a unit.
 #[tactic(auto, unfolding(crate::specs::Sequences::mpeg_sequence))]
 pub(crate) fn mpeg_sequence(unit: &[u8]) -> MpegSequence
     ensures { result ≡ spec.mpeg_sequence unit.now }

@@ -6,7 +6,7 @@ ghost use Rattle.stream_coding.specs.Structures as spec;
 
 use crate::sei::has_recovery_point;
 
-/// What is looked for in a unit.
+/// The structures that are looked for in a unit.
 #[derive(Clone, Copy)]
 pub(crate) enum Structure {
     /// The sequence header of ISO/IEC 11172-2 and 13818-2 video.
@@ -29,7 +29,7 @@ pub(crate) enum Structure {
     AdtsHeader,
 }
 
-// The bytes after a start code prefix at the front.
+// Returns the bytes after a start code prefix at the front.
 #[tactic(auto, unfolding(crate::specs::Structures::after_start_code))]
 fn after_start_code(bytes: &[u8]) -> Option<&[u8]>
     ensures { option_map (λ rest. rest.now) result ≡ spec.after_start_code bytes.now }
@@ -37,7 +37,7 @@ fn after_start_code(bytes: &[u8]) -> Option<&[u8]>
     bytes.strip_prefix(&[0, 0, 1])
 }
 
-// The bytes after the start code of a sequence header.
+// Returns the bytes after the start code of a sequence header.
 #[tactic(auto, unfolding(crate::specs::Structures::sequence_header))]
 fn sequence_header(bytes: &[u8]) -> Option<&[u8]>
     ensures { option_map (λ rest. rest.now) result ≡ spec.sequence_header bytes.now }
@@ -48,7 +48,7 @@ fn sequence_header(bytes: &[u8]) -> Option<&[u8]>
     }
 }
 
-// The bytes after the start code of a picture header.
+// Returns the bytes after the start code of a picture header.
 #[tactic(auto, unfolding(crate::specs::Structures::picture_header))]
 fn picture_header(bytes: &[u8]) -> Option<&[u8]>
     ensures { option_map (λ rest. rest.now) result ≡ spec.picture_header bytes.now }
@@ -59,7 +59,7 @@ fn picture_header(bytes: &[u8]) -> Option<&[u8]>
     }
 }
 
-// The bytes of an extension, if it is of a sequence.
+// Returns the bytes of an extension, if it is of a sequence.
 #[tactic(auto, unfolding(crate::specs::Structures::is_identified))]
 fn is_identified(bytes: &[u8]) -> Option<&[u8]>
     ensures { option_map (λ rest. rest.now) result ≡ spec.is_identified bytes.now }
@@ -70,7 +70,7 @@ fn is_identified(bytes: &[u8]) -> Option<&[u8]>
     }
 }
 
-// The bytes after the start code of a sequence extension.
+// Returns the bytes after the start code of a sequence extension.
 #[tactic(auto, unfolding(crate::specs::Structures::sequence_extension))]
 fn sequence_extension(bytes: &[u8]) -> Option<&[u8]>
     ensures { option_map (λ rest. rest.now) result ≡ spec.sequence_extension bytes.now }
@@ -85,7 +85,7 @@ fn sequence_extension(bytes: &[u8]) -> Option<&[u8]>
     }
 }
 
-// The bytes of a sequence parameter set of ISO/IEC 14496-10.
+// Returns the bytes of a sequence parameter set of ISO/IEC 14496-10.
 #[tactic(auto, unfolding(crate::specs::Structures::avc_parameters))]
 fn avc_parameters(bytes: &[u8]) -> Option<&[u8]>
     ensures { option_map (λ rest. rest.now) result ≡ spec.avc_parameters bytes.now }
@@ -96,7 +96,7 @@ fn avc_parameters(bytes: &[u8]) -> Option<&[u8]>
     }
 }
 
-// The bytes of a slice of an IDR picture.
+// Returns the bytes of a slice of an IDR picture.
 #[tactic(auto, unfolding(crate::specs::Structures::idr_slice))]
 fn idr_slice(bytes: &[u8]) -> Option<&[u8]>
     ensures { option_map (λ rest. rest.now) result ≡ spec.idr_slice bytes.now }
@@ -107,7 +107,7 @@ fn idr_slice(bytes: &[u8]) -> Option<&[u8]>
     }
 }
 
-// The bytes of SEI messages with a recovery point.
+// Returns the bytes of SEI messages with a recovery point.
 #[tactic(auto, unfolding(crate::specs::Structures::recovery_point))]
 fn recovery_point(bytes: &[u8]) -> Option<&[u8]>
     ensures { option_map (λ rest. rest.now) result ≡ spec.recovery_point bytes.now }
@@ -124,7 +124,7 @@ fn recovery_point(bytes: &[u8]) -> Option<&[u8]>
     }
 }
 
-// The bytes of a sequence parameter set of ISO/IEC 23008-2.
+// Returns the bytes of a sequence parameter set of ISO/IEC 23008-2.
 #[tactic(auto, unfolding(crate::specs::Structures::hevc_parameters))]
 fn hevc_parameters(bytes: &[u8]) -> Option<&[u8]>
     ensures { option_map (λ rest. rest.now) result ≡ spec.hevc_parameters bytes.now }
@@ -141,7 +141,7 @@ fn hevc_parameters(bytes: &[u8]) -> Option<&[u8]>
     }
 }
 
-// The bytes of a slice of an IRAP picture.
+// Returns the bytes of a slice of an IRAP picture.
 #[tactic(auto, unfolding(crate::specs::Structures::irap_slice))]
 fn irap_slice(bytes: &[u8]) -> Option<&[u8]>
     ensures { option_map (λ rest. rest.now) result ≡ spec.irap_slice bytes.now }
@@ -158,7 +158,7 @@ fn irap_slice(bytes: &[u8]) -> Option<&[u8]>
     }
 }
 
-// The bytes of an ADTS header from protection_absent on.
+// Returns the bytes of an ADTS header from protection_absent on.
 #[tactic(auto, unfolding(crate::specs::Structures::adts_header))]
 fn adts_header(bytes: &[u8]) -> Option<&[u8]>
     ensures { option_map (λ rest. rest.now) result ≡ spec.adts_header bytes.now }
@@ -175,7 +175,7 @@ fn adts_header(bytes: &[u8]) -> Option<&[u8]>
     }
 }
 
-// What follows the beginning of a structure, where it begins with the first of these bytes.
+// Returns the bytes after the beginning of a structure, if it begins with the first of these bytes.
 #[tactic(auto, unfolding(crate::specs::Structures::at_front))]
 fn at_front(structure: Structure, bytes: &[u8]) -> Option<&[u8]>
     ensures { option_map (λ rest. rest.now) result ≡ spec.at_front structure bytes.now }
@@ -193,7 +193,7 @@ fn at_front(structure: Structure, bytes: &[u8]) -> Option<&[u8]>
     }
 }
 
-// The bytes of a structure at the first place in a unit that has it.
+// Returns the bytes of a structure at the first place in a unit that has it.
 #[tactic(auto, using(crate::proofs::StructureSearch::found_here, crate::proofs::StructureSearch::found_later, crate::proofs::StructureSearch::found_nowhere))]
 fn found_in(structure: Structure, unit: &[u8]) -> Option<&[u8]>
     ensures { option_map (λ rest. rest.now) result ≡ spec.found_in structure unit.now }
@@ -218,7 +218,7 @@ pub(crate) fn has(structure: Structure, unit: &[u8]) -> bool
     }
 }
 
-/// Returns the bytes of the first structure of this kind in a unit, without its beginning; none where there is none.
+/// Returns the bytes of the first structure of this kind in a unit, without its beginning; none if there is none.
 pub(crate) fn bytes_of(structure: Structure, unit: &[u8]) -> &[u8]
     ensures { result.now ≡ spec.bytes_of structure unit.now }
 {

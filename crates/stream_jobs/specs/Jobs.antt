@@ -5,7 +5,7 @@ use Rattle.std.specs.Option.{option_or}
 use Rattle.std.specs.Str.{bytes_eq}
 use Rattle.pes_packet.specs.AccessUnits.{AccessUnit}
 use Rattle.pes_packet.specs.Units.{units_of}
-use Rattle.demux.specs.Views.{FindingView}
+use Rattle.pid_findings.specs.Views.{FindingView}
 use Rattle.description_parts.specs.Described.{Described, DescribedEntry, DescribedProgram, DescribedStream, DescribedTable}
 use Rattle.unit_timing.specs.declared.allowance.Allowance.{Allowance}
 use Rattle.unit_timing.specs.declared.allowance.Allowance.TheVariants.{Groups, Pace}
@@ -42,7 +42,7 @@ is_entry s t =
     && (bytes_eq s.descriptors t.descriptors
     && bytes_eq s.shared_with t.shared_with))))
 
--- and what it declares of its units is what they need
+-- its entry agrees, and its declaration is what its units need
 pub record Agrees (d : Described) (s : DescribedStream) (t : TimedStreamView) : Type 0 where
   pub entry : IsEntry s t
   pub declares : Declares d s t.units
@@ -95,7 +95,7 @@ unfoldable pub TablesInTurn : List DescribedTable → List JobTableView → Type
 TablesInTurn (s ∷ ss) (t ∷ ts) = IsTable s t × TablesInTurn ss ts
 TablesInTurn _ _ = ⊤
 
--- a description has the programs, the streams and the private tables of an input, and at moment 0 its clock shows what that of the input does
+-- a description has the programs, the streams and the private tables of an input, and at moment 0 the same clock
 pub record AllAgree (d : Described) (input : JobInputView) : Type 0 where
   pub base_is : d.base0 ≡ input.base0
   pub programs_same : length input.programs ≡ length d.programs
@@ -133,12 +133,12 @@ unfoldable pub first_disagreeing : Described → List DescribedStream → List T
 first_disagreeing d (s ∷ ss) (t ∷ ts) = if is_entry s t && keeps d s t.units then first_disagreeing d ss ts else Some t.pid
 first_disagreeing d _ _ = None
 
--- that of the first private table that is not the declared one in its place
+-- the PID of the first private table that differs from the declared table in its place
 unfoldable pub first_other_table : List DescribedTable → List JobTableView → Option ℕ
 first_other_table (s ∷ ss) (t ∷ ts) = if is_table s t then first_other_table ss ts else Some t.pid
 first_other_table _ _ = None
 
--- as many programs, streams and tables, and the same clock
+-- whether a description has as many programs, streams and tables as the input, and the same clock
 unfoldable pub are_counted : Described → JobInputView → Bool
 are_counted d input =
     d.base0 == input.base0
@@ -155,8 +155,8 @@ disagreeing d input =
 
 -- 2. Units
 
--- the units of a job, each with the number of its stream: those of a stream are what is found of its PID, in order, and keep
--- what the description declares
+-- the units of a job, each with the number of its stream: the units of a stream are found on its PID, in order, and are within the
+-- description's declaration
 pub record IsStream (made : Bool) (findings : List FindingView) (d : Described) (s : DescribedStream) (us : List AccessUnit) : Type 0 where
   pub found : AreFound made findings s.pid us
   pub declares : Declares d s us
@@ -168,7 +168,7 @@ pub record AreUnits (made : Bool) (findings : List FindingView) (d : Described) 
 
 -- 3. A job
 
--- the description of these streams: at the rate that is asked for, else at one of those that are tried, which a plan serves
+-- the description of these streams: at the rate that is asked for, otherwise at a tried rate that a plan serves
 pub record IsDescription (options : JobOptionsView) (input : JobInputView) (text : List ℕ) : Type 0 where
   pub rate : ℕ
   pub rate_is : IsRate options.rate options input rate

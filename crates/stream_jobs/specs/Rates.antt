@@ -89,7 +89,7 @@ pub record IsUnserved (options : JobOptionsView) (input : JobInputView) (rate : 
   pub read : IsText description (description_text options input rate)
   pub fails : serves description (plain_plan description) ≡ false
 
--- one of the rates from a first one on is tried only after those before it, none of which is served
+-- a rate is tried only after the rates before it, from the first on, and no plan serves an earlier rate
 pub record IsTriedFrom (options : JobOptionsView) (input : JobInputView) (first rate : ℕ) : Type 0 where
   pub before : List ℕ
   pub after : List ℕ
@@ -101,17 +101,17 @@ pub record IsTried (options : JobOptionsView) (input : JobInputView) (rate : ℕ
   pub is_first : IsFirstRate options input first
   pub tried : IsTriedFrom options input first rate
 
--- the rate that is asked for, else one that is tried
+-- the rate that is asked for, otherwise a rate that is tried
 abbrev pub IsRate : Option ℕ → JobOptionsView → JobInputView → ℕ → Type 0
 IsRate (Some asked) options input rate = rate ≡ asked
 IsRate None options input rate = IsTried options input rate
 
--- nor at one of those that are tried, of which this is the first
+-- no rate is served among the tried rates, which begin with this rate
 pub record AreUnserved (options : JobOptionsView) (input : JobInputView) (first : ℕ) : Type 0 where
   pub is_first : IsFirstRate options input first
   pub none : All (IsUnserved options input) (tried_rates first)
 
--- no plan is found: at the rate that is asked for; else at the first and those after it; or no rate has slots for all
+-- no plan is found: at the rate that is asked for; otherwise at the first rate and the rates after it; or no rate has slots for all
 abbrev pub HasNoPlan : Option ℕ → JobOptionsView → JobInputView → ℕ → Type 0
 HasNoPlan (Some asked) options input rate = (rate ≡ asked) × IsUnserved options input rate
 HasNoPlan None options input rate = AreUnserved options input rate ⊎ ((rate ≡ greatest_rate) × HasNoFirstRate options input)

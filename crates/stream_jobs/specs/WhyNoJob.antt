@@ -32,16 +32,16 @@ IsWhyNotReadAt options input rate error = IsWhyNotRead (description_text options
 
 -- 1. At which rate
 
--- the one that is asked for; else the greatest, by which what recurs is known, or one that is tried
+-- the rate that is asked for; otherwise the greatest rate, which shows what recurs, or a tried rate
 abbrev pub IsReadFor : Option ℕ → JobOptionsView → JobInputView → ℕ → Type 0
 IsReadFor (Some asked) options input rate = rate ≡ asked
 IsReadFor None options input rate = (rate ≡ greatest_rate) ⊎ IsTried options input rate
 
--- where reasons are looked for: the greatest, or the first
+-- the rate at which reasons are looked for: the greatest, or the first
 abbrev pub IsGreatestOrFirst : JobOptionsView → JobInputView → ℕ → Type 0
 IsGreatestOrFirst options input rate = (rate ≡ greatest_rate) ⊎ IsFirstRate options input rate
 
--- the description that is written at one of these rates is not read
+-- the description that is written at a rate of these can't be read
 pub record IsWhyNotReadAtOne (IsRead : ℕ → Type 0) (options : JobOptionsView) (input : JobInputView) (error : JobError) : Type 0 where
   pub rate : ℕ
   pub is_read : IsRead rate
@@ -72,7 +72,7 @@ abbrev pub IsWhyNoDescription : Option ℕ → JobOptionsView → JobInputView �
 IsWhyNoDescription (Some asked) options input error = error ≡ Memory
 IsWhyNoDescription None options input error = IsWhyNoPlan None options input error
 
--- the description that a plan serves at its rate is not that of its programs, or does not declare what the units of a stream need
+-- the description that a plan serves at its rate has other programs than the input, or does not declare what the units of a stream need
 pub record Disagrees (options : JobOptionsView) (input : JobInputView) (pid : ℕ) : Type 0 where
   pub rate : ℕ
   pub rate_is : IsRate options.rate options input rate

@@ -17,7 +17,7 @@ use pes_packet::Unit;
 use std::alloc::{AllocError, Global};
 use unit_timing::allowance::Allowance;
 
-// Whether the first unit is due no earlier than a moment.
+// Returns whether the first unit is due no earlier than a moment.
 #[tactic(auto, unfolding(es_units::specs::Laws::FirstDue, crate::specs::Jobs::first_due))]
 fn first_due(from: u64, units: &[Unit]) -> bool
     ensures due { IsTrue result → FirstDue from units.now }
@@ -29,7 +29,7 @@ fn first_due(from: u64, units: &[Unit]) -> bool
     }
 }
 
-// Whether the packets of units are as declared.
+// Returns whether the packets of units are as declared.
 fn packets_fit(
     alloc: Global,
     base0: u64,
@@ -59,7 +59,7 @@ fn packets_fit(
     }
 }
 
-// Whether a description declares what units need.
+// Returns whether a description declares what units need.
 #[tactic(auto, unfolding(crate::specs::Jobs::keeps))]
 fn declares(
     alloc: Global,
@@ -80,7 +80,7 @@ fn declares(
     packets_fit(alloc, description.base0(), declared, units)
 }
 
-// Whether a stream is the declared one, as its PES packets and its entry in the program map say.
+// Returns whether a stream is the declared one, as its PES packets and its entry in the program map say.
 #[tactic(auto, unfolding(crate::specs::Jobs::is_entry), using(crate::proofs::Agreement::entry_is))]
 fn is_entry(declared: &StreamDescription, stream: &TimedStream) -> bool
     ensures value { result ≡ spec.is_entry declared.now stream.now }
@@ -94,7 +94,7 @@ fn is_entry(declared: &StreamDescription, stream: &TimedStream) -> bool
         && declared.shared_with.as_slice() == stream.shared_with.as_slice()
 }
 
-// Whether a stream is the declared one, and its units are as declared.
+// Returns whether a stream is the declared one, and its units are as declared.
 fn agrees(
     alloc: Global,
     description: &Description,
@@ -111,7 +111,7 @@ fn agrees(
     declares(alloc, description, declared, &stream.units)
 }
 
-// The PID of the first stream that is not the declared one in its place.
+// Returns the PID of the first stream that differs from the declared stream in its place.
 #[tactic(auto, unfolding(crate::specs::Jobs::AgreeInTurn, crate::specs::Jobs::first_disagreeing))]
 fn first_disagreeing(
     alloc: Global,
@@ -137,7 +137,7 @@ fn first_disagreeing(
     Ok(None)
 }
 
-// Whether a program is the declared one.
+// Returns whether a program is the declared one.
 #[tactic(auto, unfolding(crate::specs::Jobs::is_program), using(crate::proofs::Agreement::program_is))]
 fn is_program(declared: &ProgramDescription, program: &JobProgram) -> bool
     ensures value { result ≡ spec.is_program declared.now program.now }
@@ -148,7 +148,7 @@ fn is_program(declared: &ProgramDescription, program: &JobProgram) -> bool
         && declared.pcr_pid() == program.pcr_pid
 }
 
-// The PID of the clock references of the first program that is not the declared one in its place.
+// Returns the PCR_PID of the first program that differs from the declared program in its place.
 #[tactic(auto, unfolding(crate::specs::Jobs::AreInTurn, crate::specs::Jobs::first_other_program))]
 fn first_other_program(declared: &[ProgramDescription], programs: &[JobProgram]) -> Option<u16>
     ensures value { result ≡ spec.first_other_program declared.now programs.now }
@@ -169,7 +169,7 @@ fn first_other_program(declared: &[ProgramDescription], programs: &[JobProgram])
     None
 }
 
-// Whether there are as many programs, streams and private tables, and the clock begins alike.
+// Returns whether there are as many programs, streams and private tables, and the clock begins alike.
 #[tactic(auto, unfolding(crate::specs::Jobs::are_counted))]
 fn are_counted(description: &Description, input: &JobInput) -> bool
     ensures { result ≡ spec.are_counted description.now input.now }
@@ -180,9 +180,9 @@ fn are_counted(description: &Description, input: &JobInput) -> bool
         && description.private_tables().len() == input.tables.len()
 }
 
-/// Returns the PID of the clock references of the first program that is not the declared one, else that of the first
-/// private table that is not, else that of the first stream that is not, or of whose units the description does not
-/// declare what they need; 0 where there are not as many of any, or the clock begins otherwise.
+/// Returns a PID where a description disagrees with the input it was made of, `None` if all agree. In this order: 0 if
+/// the number of any items or the first value of the clock differs; the PCR_PID of a program; the PID of a private
+/// table; the PID of a stream, also if its units need more than it declares.
 #[tactic(auto, using(crate::proofs::WholeAgreement::in_turn), unfolding(crate::specs::Jobs::disagreeing))]
 pub(crate) fn disagreeing(
     alloc: Global,

@@ -79,7 +79,7 @@ impl<'a> DescriptionDraft<'a> {
     }
 }
 
-// The lines of a program with what is said of its service.
+// Appends the lines of a program and its service.
 #[tactic(auto, unfolding(crate::specs::Texts::program_with))]
 fn write_program(
     pcr_limit: u8,
@@ -103,7 +103,7 @@ fn write_program(
     entry.write_text(text)
 }
 
-// The lines of all programs.
+// Appends the lines of all programs.
 fn write_programs(
     pcr_limit: u8,
     programs: &[JobProgram],
@@ -126,7 +126,7 @@ fn write_programs(
     Ok(())
 }
 
-// The access units that a stream declares: those that its choice keeps.
+// Returns the framing that a stream declares: the framing of its units, if its choice keeps it.
 #[tactic(auto, unfolding(job_units::specs::Declarations::kept_framing))]
 fn kept_framing(unit_counts: &UnitCounts, choice: Choice) -> Option<Framing>
     ensures { result ≡ kept_framing unit_counts.now choice }
@@ -170,7 +170,7 @@ fn write_stream(
     entry.write_text(text)
 }
 
-// The lines of all streams.
+// Appends the lines of all streams.
 fn write_streams(
     streams: &[TimedStream],
     unit_counts: &[UnitCounts],

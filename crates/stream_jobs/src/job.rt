@@ -2,7 +2,7 @@
 
 ghost use Rattle.std.specs.Prelude.{◌≡◌, ◌≤◌, All, Bool, IfErr, IfOk, List, None, length, map, string_bytes};
 ghost use Rattle.std.specs.List.{AllZip};
-ghost use Rattle.demux.specs.Views.{FindingView};
+ghost use Rattle.pid_findings.specs.Views.{FindingView};
 ghost use Rattle.slot_plan.specs.Conditions.{IsServing};
 ghost use Rattle.es_moments.specs.Merging.{AreMerged};
 ghost use Rattle.stream_jobs.specs.Jobs.{AllAgree, AreUnits, IsDescription, IsJob, IsText, IsUnplanned};
@@ -37,7 +37,7 @@ pub struct Job {
     pub units: Vec<(u8, Unit)>,
 }
 
-// The units of each stream.
+// Returns the units of each stream.
 fn queues_of(alloc: Global, streams: Vec<TimedStream>) -> Result<Vec<VecDeque<Unit>>, AllocError>
     ensures { IfOk result (λ queues. map (λ q. q.items) queues.items ≡ map (λ t. t.units) streams.items) }
 {
@@ -48,7 +48,7 @@ fn queues_of(alloc: Global, streams: Vec<TimedStream>) -> Result<Vec<VecDeque<Un
     Ok(queues)
 }
 
-// The units of all streams, each with the number of its stream.
+// Returns the units of all streams, each with the number of its stream.
 fn merged_units(alloc: Global, streams: Vec<TimedStream>) -> Result<Vec<(u8, Unit)>, AllocError>
     requires { length streams.items ≤ 32 }
     ensures { IfOk result (λ units. AreMerged (map (λ t. t.units) streams.items) units.items) }
@@ -56,7 +56,7 @@ fn merged_units(alloc: Global, streams: Vec<TimedStream>) -> Result<Vec<(u8, Uni
     merged(alloc, queues_of(alloc, streams)?)
 }
 
-// A plan for the description, which has the programs and declares what the units of the streams need.
+// Returns a plan for the description, if the description agrees with the input.
 fn agreed_plan(
     alloc: Global,
     options: &JobOptions<'_>,
@@ -102,7 +102,7 @@ pub fn make_job(alloc: Global, options: &JobOptions<'_>, input: JobInput) -> Res
     })
 }
 
-// The text of a description that a plan serves.
+// Returns the text of a description that a plan serves.
 fn served_text(planned: PlannedDescription) -> String
     ensures text { result ≡ planned.text }
     ensures serving { IsServing planned.plan.description planned.plan.plan }
@@ -111,7 +111,7 @@ fn served_text(planned: PlannedDescription) -> String
     planned.text
 }
 
-// The rate of a description that a plan serves.
+// Returns the rate of a description that a plan serves.
 fn served_rate(planned: PlannedDescription) -> u64
     ensures rate { result ≡ planned.rate }
     ensures serving { IsServing planned.plan.description planned.plan.plan }
@@ -120,8 +120,8 @@ fn served_rate(planned: PlannedDescription) -> u64
     planned.rate
 }
 
-/// Returns the text of the description of a job, at the rate of the options, else at the least at which a plan is
-/// found.
+/// Returns the text of the description of a job, at the rate of the options, or otherwise at the least rate with a
+/// plan.
 pub fn describe(
     alloc: Global,
     options: &JobOptions<'_>,
@@ -147,7 +147,7 @@ pub fn units(alloc: Global, input: JobInput) -> Result<Vec<(u8, Unit)>, JobError
     Ok(merged_units(alloc, input.streams)?)
 }
 
-// The rate of the options, else the least at which all have slots.
+// Returns the rate of the options, or otherwise the least rate at which every item has slots.
 fn rate_of(alloc: Global, draft: &DescriptionDraft<'_>) -> Result<u64, JobError>
     ensures rate { IfOk result (IsAskedOrFirst draft.now.options.now.rate draft.now.options.now draft.now.input.now) }
     ensures refused { IfErr result (IsWhyNoReasons draft.now.options.now.rate draft.now.options.now draft.now.input.now) }
@@ -175,7 +175,7 @@ pub fn unplanned_description(
     described(alloc, &text)
 }
 
-/// Returns the least of the tried rates that has a plan, whatever rate is asked for.
+/// Returns the least of the tried rates that has a plan, whatever the rate of the options.
 pub fn found_rate(
     alloc: Global,
     options: &JobOptions<'_>,

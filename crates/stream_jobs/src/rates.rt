@@ -18,7 +18,7 @@ use plan_maker::{MakeError, make};
 use std::alloc::{AllocError, Global};
 use stream_choice::{Recurring, least_rate};
 
-/// The number of rates that are tried, and of those that follow by small steps.
+/// The number of rates to try, and how many of them follow by small steps.
 const TRIES: u32 = 96;
 
 const SMALL_STEPS: u32 = 32;
@@ -31,7 +31,7 @@ pub(crate) struct PlannedDescription {
     pub plan: CheckedPlan,
 }
 
-// How often the sections of a table recur.
+// Returns how often the sections of a table recur.
 #[tactic(auto, unfolding(crate::specs::Rates::table_recurs))]
 fn table_recurs(description: &Description, table: usize) -> Recurring
     requires { table < table_count description.now }
@@ -43,7 +43,7 @@ fn table_recurs(description: &Description, table: usize) -> Recurring
     }
 }
 
-// Appends those of all tables.
+// Appends how often each table recurs.
 fn push_tables(description: &Description, recurring: &mut Vec<Recurring>) -> Result<(), AllocError>
     ensures { OnOk result (recurring.new.items ≡ recurring.old.items
         ++ map (spec.table_recurs description.now) (range_with_len 0 (table_count description.now))) }
@@ -54,7 +54,7 @@ fn push_tables(description: &Description, recurring: &mut Vec<Recurring>) -> Res
     Ok(())
 }
 
-// How often the clock references of a program recur.
+// Returns how often the clock references of a program recur.
 #[tactic(auto, unfolding(crate::specs::Rates::clock_recurs))]
 fn clock_recurs(program: &ProgramDescription) -> Recurring
     ensures { result ≡ spec.clock_recurs program.now }
@@ -65,7 +65,7 @@ fn clock_recurs(program: &ProgramDescription) -> Recurring
     }
 }
 
-// Appends those of all programs.
+// Appends how often the clock references of each program recur.
 fn push_clocks(
     programs: &[ProgramDescription],
     recurring: &mut Vec<Recurring>,
@@ -78,7 +78,7 @@ fn push_clocks(
     Ok(())
 }
 
-// All that recurs.
+// Returns how often each table and each program's clock references recur.
 fn recurring_of(alloc: Global, description: &Description) -> Result<Vec<Recurring>, AllocError>
     ensures { IfOk result (λ all. all.items ≡ spec.recurring_of description.now) }
 {
@@ -88,7 +88,7 @@ fn recurring_of(alloc: Global, description: &Description) -> Result<Vec<Recurrin
     Ok(recurring)
 }
 
-// The shares of the streams.
+// Returns the shares of the streams.
 fn shares_of(alloc: Global, choices: &[StreamChoice]) -> Result<Vec<u64>, AllocError>
     ensures { IfOk result (λ all. all.items ≡ map (λ c. c.choice.share) choices.now) }
 {
@@ -114,7 +114,7 @@ pub(crate) fn first_rate(alloc: Global, draft: &DescriptionDraft<'_>) -> Result<
     }
 }
 
-// The plan at a rate, where one is found.
+// Returns the plan at a rate, if there is one.
 fn plan_at(
     alloc: Global,
     draft: &DescriptionDraft<'_>,
@@ -137,7 +137,7 @@ fn plan_at(
     }
 }
 
-// The rate that is tried after one: by small steps at first.
+// Returns the next rate to try: by small steps at first.
 #[tactic(auto, unfolding(crate::specs::Rates::next_rate))]
 fn next_rate(tried: u32, rate: u64) -> u64
     requires { rate ≤ 100000000 }
@@ -150,7 +150,7 @@ fn next_rate(tried: u32, rate: u64) -> u64
     }
 }
 
-// The first plan that is found of those from a rate on.
+// Tries rates from `first` on, and returns the first description with a plan.
 fn plan_from(
     alloc: Global,
     draft: &DescriptionDraft<'_>,
@@ -198,7 +198,7 @@ pub(crate) fn first_plan(
     }
 }
 
-// The plan at a rate that is asked for.
+// Returns the plan at the rate of the options.
 fn asked_plan(
     alloc: Global,
     draft: &DescriptionDraft<'_>,
@@ -214,8 +214,7 @@ fn asked_plan(
     }
 }
 
-/// Returns the description at the rate of the options, else at the least at which a plan is found, with a plan that
-/// serves it.
+/// Returns the description at the rate of the options, or otherwise at the least rate with a plan, with its plan.
 pub(crate) fn plan_draft(
     alloc: Global,
     draft: &DescriptionDraft<'_>,

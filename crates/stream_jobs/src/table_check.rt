@@ -8,7 +8,7 @@ use description_parts::{MapEntry, PrivateTable};
 use description_values::PrivateSection;
 use job_inputs::JobTable;
 
-// Whether these are the declared sections.
+// Returns whether these are the declared sections.
 #[tactic(auto, unfolding(crate::specs::Jobs::are_sections))]
 fn are_sections(declared: &[PrivateSection], sections: &[Vec<u8>]) -> bool
     ensures { result ≡ spec.are_sections declared.now (map (λ b. b.items) sections.now) }
@@ -28,7 +28,7 @@ fn are_sections(declared: &[PrivateSection], sections: &[Vec<u8>]) -> bool
     rest.is_empty()
 }
 
-// Whether a table has the entry of this one in the map of its program.
+// Returns whether a table has the entry of this one in the map of its program.
 #[tactic(auto, unfolding(crate::specs::Jobs::has_entry))]
 fn has_entry(declared: Option<&MapEntry>, table: &JobTable) -> bool
     ensures { result ≡ spec.has_entry (option_map (λ e. e.now) declared.entry) table.now }
@@ -43,7 +43,7 @@ fn has_entry(declared: Option<&MapEntry>, table: &JobTable) -> bool
     }
 }
 
-// Whether the PID, the sections and the entry of a table are the declared ones.
+// Returns whether the PID, the sections and the entry of a table are the declared ones.
 #[tactic(auto, unfolding(crate::specs::Jobs::is_table))]
 fn has_parts(declared: &PrivateTable, table: &JobTable) -> bool
     ensures { result ≡ spec.is_table declared.now table.now }
@@ -53,7 +53,7 @@ fn has_parts(declared: &PrivateTable, table: &JobTable) -> bool
         && has_entry(declared.entry(), table)
 }
 
-// Whether a table is the declared one.
+// Returns whether a table is the declared one.
 #[tactic(auto, using(crate::proofs::TableAgreement::table_is))]
 fn is_table(declared: &PrivateTable, table: &JobTable) -> bool
     ensures value { result ≡ spec.is_table declared.now table.now }

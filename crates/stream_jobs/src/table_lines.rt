@@ -12,7 +12,7 @@ use job_text::TablePart;
 use pes_packet::Unit;
 use std::alloc::{AllocError, Global};
 
-// The time between the DTS of the first of some units and of the last, in units of 90 kHz.
+// Returns the time from the DTS of the first unit to the DTS of the last, in units of 90 kHz.
 #[tactic(auto, unfolding(job_programs::specs::JobTables::dts_at, job_programs::specs::JobTables::tick_span))]
 fn tick_span(units: &[Unit]) -> u64
     ensures { result ≡ spec.tick_span units.now }
@@ -27,14 +27,14 @@ fn tick_span(units: &[Unit]) -> u64
     }
 }
 
-// The first stream of a program.
+// Returns the first stream of a program.
 fn first_of(number: u16, streams: &[TimedStream]) -> Option<&TimedStream>
     ensures { option_map (λ s. s.now) result ≡ find (is_stream_of number) streams.now }
 {
     streams.iter().find(|stream| is_stream_of(number, stream))
 }
 
-// The time between the DTS of its first unit and of its last.
+// Returns the time between the DTS of the first unit and the last unit of a program's first stream.
 #[tactic(auto, unfolding(job_programs::specs::JobTables::ticks_if))]
 fn ticks_of(number: u16, streams: &[TimedStream]) -> u64
     ensures { result ≡ spec.ticks_if (find (is_stream_of number) streams.now) }
@@ -45,8 +45,8 @@ fn ticks_of(number: u16, streams: &[TimedStream]) -> u64
     }
 }
 
-// The time of a number of packets where others of a stream take so many ticks of 90 kHz, in ms, up; 1 to 30,000, which
-// is what it is where no packets are known.
+// Returns the time of `gap` packets in ms, rounded up, if `packets` packets take `ticks` ticks of 90 kHz. At least 1
+// and at most 30,000; 30,000 if `packets` is 0.
 #[tactic(auto, unfolding(job_programs::specs::JobTables::limit_of))]
 fn limit_of(gap: u64, packets: u64, ticks: u64) -> u16
     ensures { result ≡ spec.limit_of gap packets ticks }
@@ -58,7 +58,7 @@ fn limit_of(gap: u64, packets: u64, ticks: u64) -> u16
     time.min(30_000).max(1) as u16
 }
 
-// The lines of a table.
+// Appends the lines of a table.
 #[tactic(auto, unfolding(job_programs::specs::JobTables::table_part))]
 fn write_table(
     alloc: Global,

@@ -14,7 +14,7 @@ use Rattle.std.specs.Option.{option_or}
 use Rattle.std.specs.Prelude.{is_none, not}
 use Rattle.psi_tables.specs.ProgramMap.{StreamView, PmtView}
 use Rattle.psi_tables.specs.declared.pat.programs.Program.{Program}
-use Rattle.demux.specs.Views.{FindingView}
+use Rattle.pid_findings.specs.Views.{FindingView}
 use Rattle.stream_programs.specs.FreePids.{is_taken, least_free}
 use Rattle.stream_programs.specs.Laws.{PidsAreDistinct, EachHasPids}
 use Rattle.stream_programs.specs.PidAssignment.{IsPid, AreDistinctPids, stream_pids, map_pids, assigned_map_pid, assigned_map_pids, with_pcr_pids}

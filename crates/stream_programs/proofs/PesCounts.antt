@@ -4,7 +4,7 @@ use Rattle.std.proofs.Common.{None, Some, refl, sym, ap, ◌∙◌, arith, inl, 
 use Rattle.std.specs.Prelude.{slice_set, slice_index, replicate}
 use Rattle.std.proofs.lemmas.Bool.{eq-eqb, ne_eqb, cases_eq}
 use Rattle.std.proofs.lemmas.List.{drop_more, drop_all, length-set, get_or-set_same, get_or-set_other, get_or-replicate, length-replicate}
-use Rattle.demux.specs.Views.{FindingView}
+use Rattle.pid_findings.specs.Views.{FindingView}
 use Rattle.demux.specs.Laws.{has_pid}
 use Rattle.stream_programs.specs.StrayPids.{is_pes, pes_count, pes_number}
 use Rattle.stream_programs.specs.PesCounts.{AreCounts, counted_on, counted_with, pes_pid}

@@ -1,6 +1,6 @@
 -- PES packets of no program, finding by finding.
 use Rattle.std.proofs.Common.{◌≡◌, ◌≤◌, ◌<◌, ℕ, ◌+◌, List, ◌++◌, length, map, drop, get_or, refl}
-use Rattle.demux.specs.Views.{FindingView}
+use Rattle.pid_findings.specs.Views.{FindingView}
 use Rattle.stream_programs.specs.StrayPids.{stray_pid, stray_pids}
 use Rattle.program_tables.proofs.Slices.{more, done}
 

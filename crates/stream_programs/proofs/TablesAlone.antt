@@ -3,7 +3,7 @@ use Rattle.std.proofs.Common.{◌≡◌, ℕ, false, List, [], ◌∷◌, ◌++�
 use Rattle.std.specs.Option.{option_or}
 use Rattle.std.proofs.lemmas.Bool.{cases_Bool}
 use Rattle.psi_tables.specs.declared.pat.programs.Program.{Program}
-use Rattle.demux.specs.Views.{FindingView}
+use Rattle.pid_findings.specs.Views.{FindingView}
 use Rattle.demux.specs.Laws.{has_pid, found_of}
 use Rattle.program_tables.specs.Sections.{section_on}
 use Rattle.program_tables.specs.Association as a

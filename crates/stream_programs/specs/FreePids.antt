@@ -9,7 +9,7 @@ is_taken pid taken = list_any (λ other. other == pid) taken
 abbrev pub AreTaken : ℕ → ℕ → List ℕ → Type 0
 AreTaken from to taken = (pid : ℕ) → from ≤ pid → pid < to → is_taken pid taken ≡ true
 
--- the first one that is not, of those that a stream may have
+-- the first PID that is not taken, among the PIDs that a stream may have
 pub record IsLeastFree (from : ℕ) (taken : List ℕ) (pid : ℕ) : Type 0 where
   pub after : from ≤ pid
   pub below : pid < 8191

@@ -4,7 +4,7 @@ use Rattle.stream_programs.specs.declared.omission.TableOmission.{TableOmission}
 use Rattle.stream_programs.specs.declared.omission.TableOmission.TheVariants.{NoMap, ConditionalAccess, Multiplex, NoPes, Reserved, Taken, SharedOtherwise}
 use Rattle.stream_programs.specs.declared.omission.TableOmission.TheVariants.{NoStream}
 
--- a stream: of sections, on a PID that none may have, or of a second program, or what the second says of one that it shares
+-- whether a stream is lost: a stream of sections, on a PID that no stream may have, of a second program, or described otherwise by the second program
 abbrev pub is_loss : TableOmission → Bool
 is_loss (NoPes program pid stream_type) = true
 is_loss (Reserved program pid) = true

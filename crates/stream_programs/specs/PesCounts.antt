@@ -1,6 +1,6 @@
--- What is counted for each PID while the findings are gone through.
+-- The counts for each PID in a walk over the findings.
 use Rattle.std.specs.Prelude.{◌≡◌, ◌<◌, ℕ, ◌+◌, if◌then◌else◌, List, length, slice_index, slice_set, Option, Some, None}
-use Rattle.demux.specs.Views.{FindingView}
+use Rattle.pid_findings.specs.Views.{FindingView}
 use Rattle.stream_programs.specs.StrayPids.{is_pes, pes_count}
 
 -- the PID of a PES packet

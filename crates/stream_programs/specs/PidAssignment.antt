@@ -6,7 +6,7 @@ use Rattle.stream_programs.specs.Programs.{FoundProgramsView}
 use Rattle.stream_programs.specs.Streams.{is_reserved}
 use Rattle.stream_programs.specs.declared.pid_assignment.ProgramPids.{ProgramPids}
 
--- those of streams, and of sections
+-- the PIDs of streams and of sections
 abbrev pub stream_pids : FoundProgramsView → List ℕ
 stream_pids found = map (λ s. s.pid) found.streams ++ map (λ s. s.pid) found.tables
 
@@ -15,12 +15,12 @@ map_pids found = map (λ p. p.map_pid) found.programs
 
 -- 1. Maps
 
--- the PID of a map beside those of streams and those given before: its own where a stream might have it and none of them has,
--- else the least one from 32 on that is not taken
+-- the PID of a map, beside the PIDs of streams and the PIDs given before: its own, if a stream might have it and none of these has it;
+-- otherwise the least free PID from 32 on
 unfoldable pub assigned_map_pid : List ℕ → List ℕ → List ℕ → ℕ → Option ℕ
 assigned_map_pid streams given taken pid = if is_reserved pid || (is_taken pid streams || is_taken pid given) then least_free 32 taken else Some pid
 
--- those given before, and those of further maps one after another; taken are those of streams, of all maps, and those given before
+-- the PIDs given before, and the PIDs of further maps in order; taken are the PIDs of streams, of all maps, and the PIDs given before
 unfoldable pub assigned_map_pids : List ℕ → List ℕ → List ℕ → List ℕ → Option (List ℕ)
 assigned_map_pids streams maps given [] = Some given
 assigned_map_pids streams maps given (pid ∷ pids) =
@@ -28,7 +28,7 @@ assigned_map_pids streams maps given (pid ∷ pids) =
 
 -- 2. Clocks
 
--- those given before, and further maps each with the least PID from 256 on that none has before it
+-- the places given before, and for each further map the least PID from 256 on that nothing before it has
 unfoldable pub with_pcr_pids : List ℕ → List ProgramPids → List ℕ → Option (List ProgramPids)
 with_pcr_pids used given [] = Some given
 with_pcr_pids used given (place ∷ places) =
@@ -42,11 +42,11 @@ assigned_pids found =
 
 -- 4. The PIDs of all
 
--- of maps, of clocks and of streams, as a description names them
+-- the PIDs of maps, of clocks and of streams, as a description names them
 abbrev pub all_pids : List ProgramPids → List ℕ → List ℕ
 all_pids places streams = map (λ p. p.map_pid) places ++ map (λ p. p.pcr_pid) places ++ streams
 
--- neither one of tables that stand on a fixed PID nor that of null packets
+-- neither a fixed PID of tables nor the PID of null packets
 pub record IsPid (pid : ℕ) : Type 0 where
   pub low : 32 ≤ pid
   pub high : pid ≤ 8190

@@ -4,7 +4,7 @@ use Rattle.std.specs.List.{list_any}
 use Rattle.std.specs.Option.{option_or}
 use Rattle.psi_tables.specs.ProgramMap.{StreamView, PmtView}
 use Rattle.psi_tables.specs.declared.pat.programs.Program.{Program}
-use Rattle.demux.specs.Views.{FindingView}
+use Rattle.pid_findings.specs.Views.{FindingView}
 use Rattle.descriptor_loops.specs.Descriptors.{has_ca, kept_descriptors, has_of_multiplex}
 use Rattle.program_tables.specs.ProgramMaps.{program_map}
 use Rattle.stream_programs.specs.Streams.{FoundStreamView, is_alike, is_shared_with, is_stream_of, holder, is_reserved, omission_of, shared_by}
@@ -18,7 +18,7 @@ pub record FoundProgramView : Type 0 where
   pub pcr_pid : ℕ
   pub descriptors : List ℕ
 
--- programs, the streams of all of them, those of them that are sections, each on a PID of its own, and what is left out: these sections too
+-- programs; the streams of all programs, each on its own PID; streams of sections; and what is left out, these sections too
 pub record FoundProgramsView : Type 0 where
   pub programs : List FoundProgramView
   pub streams : List FoundStreamView
@@ -28,7 +28,7 @@ pub record FoundProgramsView : Type 0 where
 abbrev pub nothing : FoundProgramsView
 nothing = record { programs = []; streams = []; tables = []; left_out = [] }
 
--- 1. A stream of a program's map beside what is kept of the maps before it
+-- 1. A stream of a program's map, by the streams of the maps before it
 
 abbrev pub kept_stream : ℕ → StreamView → FoundStreamView
 kept_stream number s = record {
@@ -116,7 +116,7 @@ is_scrambled_map pmt = has_ca pmt.program_info || any_ca pmt.streams
 unfoldable pub with_access : FoundProgramsView → ℕ → PmtView → FoundProgramsView
 with_access found number pmt = if is_scrambled_map pmt then with_left_out found (ConditionalAccess number) else found
 
--- a loop of descriptors of its map has one that speaks of the multiplex
+-- whether a descriptor loop of its map has a descriptor about the multiplex
 unfoldable pub any_of_multiplex : List StreamView → Bool
 any_of_multiplex streams = list_any (λ s. has_of_multiplex s.descriptors) streams
 

@@ -1,6 +1,6 @@
 -- PIDs with PES packets that no program has.
 use Rattle.std.specs.Prelude.{ℕ, ◌+◌, Bool, true, false, ◌&&◌, ◌||◌, if◌then◌else◌, List, [], ◌∷◌, ◌++◌, map, flat_map, Option, Some, None}
-use Rattle.demux.specs.Views.{WhatView, IsPes, FindingView}
+use Rattle.pid_findings.specs.Views.{WhatView, IsPes, FindingView}
 use Rattle.demux.specs.Laws.{has_pid}
 use Rattle.stream_programs.specs.FreePids.{is_taken}
 use Rattle.stream_programs.specs.Programs.{FoundProgramsView}
@@ -10,7 +10,7 @@ use Rattle.stream_programs.specs.declared.omission.TableOmission.TheVariants.{No
 
 -- 1. The PIDs that maps name
 
--- of a stream that is left out
+-- the PID of a stream that is left out
 unfoldable pub omitted_pid : TableOmission → List ℕ
 omitted_pid (NoPes program pid stream_type) = pid ∷ []
 omitted_pid (Reserved program pid) = pid ∷ []
@@ -24,22 +24,22 @@ omitted_pid (NoStream program) = []
 abbrev pub mapped_pids : FoundProgramsView → List ℕ
 mapped_pids found = map (λ s. s.pid) found.streams ++ flat_map omitted_pid found.left_out
 
--- 2. The others
+-- 2. PIDs that no map names
 
 unfoldable pub is_pes : WhatView → Bool
 is_pes (IsPes header unended body) = true
 is_pes _ = false
 
--- a PID that is none of these, nor of those that are found
+-- a PID, if it is neither known nor found before
 unfoldable pub unknown_pid : List ℕ → List ℕ → Option ℕ → List ℕ
 unknown_pid known found None = []
 unknown_pid known found (Some pid) = if is_taken pid known || is_taken pid found then [] else pid ∷ []
 
--- that of a PES packet
+-- the stray PID of a PES packet
 unfoldable pub stray_pid : List ℕ → List ℕ → FindingView → List ℕ
 stray_pid known found finding = if is_pes finding.what then unknown_pid known found finding.pid else []
 
--- those of all PES packets in order, each once
+-- the stray PIDs of all PES packets in order, each once
 unfoldable pub stray_pids : List ℕ → List ℕ → List FindingView → List ℕ
 stray_pids known found [] = found
 stray_pids known found (finding ∷ findings) = stray_pids known (found ++ stray_pid known found finding) findings

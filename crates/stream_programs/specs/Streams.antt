@@ -5,8 +5,8 @@ use Rattle.std.specs.Str.{bytes_eq}
 use Rattle.stream_programs.specs.declared.omission.TableOmission.{TableOmission}
 use Rattle.stream_programs.specs.declared.omission.TableOmission.TheVariants.{NoPes, Reserved, Taken}
 
--- an elementary stream of a program, with its whole descriptors but for those of conditional access and of a multiplex, and the other programs whose
--- maps name it too
+-- an elementary stream of a program, with its whole descriptors except descriptors of conditional access and of a multiplex, and the further
+-- programs whose maps name it
 pub record FoundStreamView : Type 0 where
   pub program : ℕ
   pub stream_type : ℕ
@@ -14,13 +14,13 @@ pub record FoundStreamView : Type 0 where
   pub descriptors : List ℕ
   pub shared_with : List ℕ
 
--- stream_types whose data are sections (ISO/IEC 13818-1, table 2-34; SCTE 35 for 0x86), and DSM-CC (0x08), whose stream_id
--- is one of its own: private sections, ISO/IEC 13818-6 A to D, ISO/IEC 14496 sections, synchronized download, metadata
+-- stream_types whose data are sections (ISO/IEC 13818-1, table 2-34; SCTE 35 for 0x86), and DSM-CC (0x08), which has its own
+-- stream_id: private sections, ISO/IEC 13818-6 A to D, ISO/IEC 14496 sections, synchronized download, metadata
 unfoldable pub has_no_pes : ℕ → Bool
 has_no_pes t =
     t == 0x05 || (t == 0x08 || (nat_le 0x0A t && nat_le t 0x0D || (t == 0x13 || (t == 0x14 || (nat_le 0x16 t && nat_le t 0x19 || t == 0x86)))))
 
--- PIDs that no elementary stream may have: below 32 those of tables, and that of null packets
+-- PIDs that no elementary stream may have: the PIDs of tables, below 32, and the PID of null packets
 unfoldable pub is_reserved : ℕ → Bool
 is_reserved pid = nat_lt pid 32 || nat_le 8191 pid
 
@@ -57,7 +57,7 @@ with_sharer number s = record {
   shared_with = s.shared_with ++ number ∷ [];
 }
 
--- streams of which a program shares that of a PID
+-- streams, where the stream on a PID is shared by one more program
 unfoldable pub shared_by : ℕ → ℕ → List FoundStreamView → List FoundStreamView
 shared_by number pid [] = []
 shared_by number pid (s ∷ ss) = if s.pid == pid then with_sharer number s ∷ ss else s ∷ shared_by number pid ss

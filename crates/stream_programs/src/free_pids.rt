@@ -3,7 +3,7 @@
 ghost use Rattle.std.specs.Prelude.{◌≡◌, IfSome, IfNone};
 ghost use Rattle.stream_programs.specs.FreePids as spec;
 
-// Whether a PID is one of these.
+// Returns whether a PID is taken.
 #[tactic(auto, unfolding(crate::specs::FreePids::is_taken))]
 fn is_taken(pid: u16, taken: &[u16]) -> bool
     ensures { result ≡ spec.is_taken pid taken.now }

@@ -3,7 +3,7 @@
 ghost use Rattle.std.specs.Prelude.{◌≡◌, ◌==◌, ◌&&◌, [], true, IfOk, Some, is_some, map};
 ghost use Rattle.std.specs.List.{list_any};
 ghost use Rattle.psi_tables.specs.ProgramMap.{pmt_view, stream_view, streams_of};
-ghost use Rattle.demux.specs.Shown.{finding_view};
+ghost use Rattle.pid_findings.specs.Shown.{finding_view};
 ghost use Rattle.program_tables.specs.MapPlaces.{places_in};
 ghost use Rattle.program_tables.specs.ProgramMaps.{program_map};
 ghost use Rattle.stream_programs.specs.Programs as spec;
@@ -14,15 +14,15 @@ use crate::number_pairs::{NumberPairs, add_pair, has_pair};
 use crate::omission::TableOmission;
 use crate::programs::{FoundProgram, FoundPrograms, any_ca, any_of_multiplex};
 use crate::streams::{FoundStream, has_alike, holder, is_reserved, omission_of, share};
-use demux::Finding;
 use descriptor_loops::{has_ca, has_of_multiplex, kept_descriptors};
 use indexmap::IndexMap;
+use pid_findings::Finding;
 use program_tables::map_places::{MapPlaces, map_at};
 use psi_tables::{Pmt, Program, Stream, Streams};
 use std::alloc::{AllocError, Allocator};
 use std::marker::Model;
 
-/// The PID that a map names where its program has no clock references (ISO/IEC 13818-1, 2.4.4.9).
+/// The PCR_PID of a program without clock references (ISO/IEC 13818-1, 2.4.4.9).
 const NO_CLOCK_REFERENCES: u16 = 0x1fff;
 
 /// The programs of a stream so far, with pairs of numbers that say who shares, has and clocks what, in the time of one
@@ -41,7 +41,7 @@ pub(crate) struct Gathered<A: Allocator> {
     clocks: NumberPairs<A>,
 }
 
-// A contract sees what is gathered as lists.
+// A contract sees the programs, streams and tables gathered so far as lists.
 impl<A: Allocator> Model for Gathered<A> {
     ghost use Rattle.stream_programs.specs.NumberPairs.{ArePairs};
     ghost use Rattle.stream_programs.specs.Programs.{FoundProgramsView};
@@ -59,14 +59,14 @@ impl<A: Allocator> Model for Gathered<A> {
 }
 
 impl<A: Allocator> Gathered<A> {
-    // Whether there is a program of this number with its clock references on a PID.
+    // Returns whether there is a program of this number with its clock references on a PID.
     fn has_program(&self, number: u16, pcr_pid: u16) -> bool
         ensures { result ≡ list_any (λ p. p.number == number && p.pcr_pid == pcr_pid) self.now.programs }
     {
         has_pair(&self.clocks, pcr_pid, number)
     }
 
-    // Whether a program of this number has its clock references on a PID.
+    // Returns whether a program of this number has its clock references on a PID.
     #[tactic(auto, unfolding(crate::specs::Programs::has_clock))]
     fn has_clock(&self, number: u16, pcr_pid: u16) -> bool
         ensures { result ≡ spec.has_clock self.now.programs number pcr_pid }
@@ -74,29 +74,29 @@ impl<A: Allocator> Gathered<A> {
         pcr_pid != NO_CLOCK_REFERENCES && self.has_program(number, pcr_pid)
     }
 
-    // Whether a program shares the stream of a PID already.
+    // Returns whether a program shares the stream of a PID already.
     fn shares(&self, number: u16, pid: u16) -> bool
         ensures { result ≡ spec.shares self.now.streams number pid }
     {
         has_pair(&self.sharers, pid, number)
     }
 
-    // Whether a program has a stream, its own or a shared one.
+    // Returns whether a program has a stream, its own or a shared one.
     fn has_stream(&self, number: u16) -> bool
         ensures { result ≡ list_any (held.is_stream_of number) self.now.streams }
     {
         has_pair(&self.owners, 0, number)
     }
 
-    // Whether one of the streams is as another map's entry says.
+    // Returns whether any stream gathered has the same entry as `stream`, from another program's map.
     fn has_alike_to(&self, stream: &FoundStream<A>) -> bool
         ensures { result ≡ list_any (held.is_alike stream.now) self.now.streams }
     {
         has_alike(&self.streams, stream)
     }
 
-    // Whether a program can share the stream that another has, no sections: both have one clock, and it does not share
-    // it already.
+    // Returns whether a program can share the stream of the program `other`: it is no stream of sections, both programs
+    // have one clock, and the program does not share it already.
     #[tactic(auto, unfolding(crate::specs::Programs::can_share))]
     fn can_share(&self, other: u16, pcr_pid: u16, stream: &FoundStream<A>) -> bool
         ensures { result ≡ spec.can_share self.now other pcr_pid stream.now }
@@ -106,7 +106,7 @@ impl<A: Allocator> Gathered<A> {
             && !self.shares(stream.program, stream.pid)
     }
 
-    // The program of the stream, or else of the sections, that have a PID.
+    // Returns the program whose stream, or otherwise whose sections, have a PID.
     #[tactic(auto, unfolding(crate::specs::Programs::holder_in))]
     fn holder_of(&self, pid: u16) -> Option<u16>
         ensures { result ≡ spec.holder_in self.now pid }
@@ -117,7 +117,7 @@ impl<A: Allocator> Gathered<A> {
         }
     }
 
-    // Whether sections can be kept on a PID: it is none of a table's, and nothing has it.
+    // Returns whether sections can be kept on a PID: it is not reserved for tables, and no stream or table has it.
     #[tactic(auto, unfolding(crate::specs::Programs::can_place))]
     fn can_place(&self, pid: u16) -> bool
         ensures { result ≡ spec.can_place self.now pid }
@@ -142,7 +142,7 @@ impl<A: Allocator + Copy> Gathered<A> {
         }
     }
 
-    /// Returns what is gathered.
+    /// Returns the programs, streams and tables gathered.
     pub(crate) fn into_found(self) -> FoundPrograms<A>
         ensures { result ≡ self }
     {
@@ -172,7 +172,7 @@ impl<A: Allocator + Copy> Gathered<A> {
         Ok(self)
     }
 
-    // Leaves out a stream of sections, and keeps it beside the streams where its PID is free.
+    // Leaves out a stream of sections, but keeps its sections if its PID is free.
     #[tactic(auto, unfolding(crate::specs::Programs::with_table))]
     fn note_table(mut self, stream: FoundStream<A>) -> Result<Gathered<A>, AllocError>
         ensures { IfOk result (λ g. g ≡ spec.with_table self stream) }
@@ -189,7 +189,7 @@ impl<A: Allocator + Copy> Gathered<A> {
         Ok(self)
     }
 
-    // Adds a program to those that share the stream of a PID.
+    // Adds a program to the programs that share the stream of a PID.
     fn add_sharer(mut self, program: u16, pid: u16) -> Result<Gathered<A>, AllocError>
         requires { is_some (held.holder pid self.streams) ≡ true }
         ensures { IfOk result (λ g. g ≡ record self { streams = held.shared_by program pid self.streams }) }
@@ -243,7 +243,7 @@ impl<A: Allocator + Copy> Gathered<A> {
         }
     }
 
-    // A stream of a program's map, and why it is not kept as it is, if so.
+    // Keeps or shares a stream of a program's map, or notes why it is left out.
     #[tactic(auto, unfolding(crate::specs::Programs::with_stream_if))]
     fn note_if(
         self,

@@ -12,7 +12,7 @@ use std::hash::{BuildHasherDefault, FoldHasher};
 /// Pairs of a PID and a number, each by its key, with its number.
 pub(crate) type NumberPairs<A> = IndexMap<u32, u16, BuildHasherDefault<FoldHasher>, A>;
 
-// The key of a PID and a number, which no others have.
+// Returns the key of a PID and a number; each pair has its own key.
 fn key_of(pid: u16, number: u16) -> u32
     ensures { result ≡ pair_key pid number }
 {

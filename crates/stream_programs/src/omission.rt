@@ -29,14 +29,14 @@ pub enum TableOmission {
         program: u16,
         pid: u16,
     },
-    /// The PID is that of a stream of the program `holder` already, which may be the same program, and can't be shared.
+    /// A stream of the program `holder` (perhaps the same program) already has the PID, and can't be shared.
     Taken {
         program: u16,
         pid: u16,
         holder: u16,
     },
-    /// The stream of this PID is one of the program `holder`, and shared; the program's map says of it another
-    /// stream_type or other descriptors.
+    /// The program `holder` shares the stream of this PID, but this program's map gives it another stream_type or other
+    /// descriptors.
     SharedOtherwise {
         program: u16,
         pid: u16,

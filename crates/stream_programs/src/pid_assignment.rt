@@ -26,7 +26,7 @@ fn pids_of<A: Allocator>(alloc: A, streams: &[FoundStream<A>]) -> Result<Vec<u16
     streams.iter().map(|stream| stream.pid).collect(alloc)
 }
 
-// The PIDs of streams, and of sections.
+// Returns the PIDs of streams, and of sections.
 fn stream_pids<A: Allocator + Copy>(
     alloc: A,
     found: &FoundPrograms<A>,
@@ -47,7 +47,7 @@ fn map_pids<A: Allocator>(alloc: A, programs: &[FoundProgram<A>]) -> Result<Vec<
         .collect(alloc)
 }
 
-// These PIDs and those.
+// Returns the PIDs of both lists.
 fn joined<A: Allocator>(alloc: A, one: &[u16], other: &[u16]) -> Result<Vec<u16, A>, AllocError>
     ensures { IfOk result (λ pids. pids.items ≡ one.now ++ other.now) }
 {
@@ -56,7 +56,8 @@ fn joined<A: Allocator>(alloc: A, one: &[u16], other: &[u16]) -> Result<Vec<u16,
     Ok(pids)
 }
 
-// The PID of a map, which is none of the streams' and none assigned before (`own`); a new one is none of those taken.
+// Returns the PID of a map: the same PID, unless it is reserved, or a stream or an earlier map has it (`own`); then the
+// first PID from 32 on that is not among `taken`.
 #[tactic(auto, unfolding(crate::specs::PidAssignment::assigned_map_pid), using(crate::proofs::PidLists::taken_both))]
 fn assigned_map_pid<A: Allocator>(own: &PidList<A>, taken: &PidList<A>, pid: u16) -> Option<u16>
     ensures { (streams given : List ℕ) → own.now ≡ streams ++ given →
@@ -69,7 +70,7 @@ fn assigned_map_pid<A: Allocator>(own: &PidList<A>, taken: &PidList<A>, pid: u16
     }
 }
 
-// The PIDs of maps one after another.
+// Returns the PIDs of maps, assigned one after another.
 fn assigned_map_pids<A: Allocator + Copy>(
     alloc: A,
     streams: &[u16],

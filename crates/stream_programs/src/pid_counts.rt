@@ -1,11 +1,11 @@
 //! The numbers of PES packets, by PID.
 
 ghost use Rattle.std.specs.Prelude.{◌≡◌, ◌<◌, ◌-◌, ◌^◌, [], ℕ, IfOk, Some, length, map, slice_index};
-ghost use Rattle.demux.specs.Shown.{finding_view, what_view};
+ghost use Rattle.pid_findings.specs.Shown.{finding_view, what_view};
 ghost use Rattle.stream_programs.specs.PesCounts as counted;
 ghost use Rattle.stream_programs.specs.StrayPids as spec;
 
-use demux::{Finding, What};
+use pid_findings::{Finding, What};
 use std::alloc::{AllocError, Allocator};
 
 /// How many numbers 16 bits have; a PID has 13.
@@ -19,7 +19,7 @@ pub(crate) fn is_pes<A: Allocator>(what: &What<'_, A>) -> bool
     matches!(what, What::Pes { .. })
 }
 
-// The PID of a finding that is a PES packet.
+// Returns the PID of a finding that is a PES packet.
 #[tactic(auto, unfolding(crate::specs::PesCounts::pes_pid))]
 fn pes_pid<A: Allocator>(finding: &Finding<'_, A>) -> Option<u16>
     ensures { result ≡ counted.pes_pid (finding_view finding.now) }
@@ -31,14 +31,14 @@ fn pes_pid<A: Allocator>(finding: &Finding<'_, A>) -> Option<u16>
     }
 }
 
-// A count of none for each PID.
+// Returns a count of 0 for each PID.
 fn no_counts<A: Allocator + Clone>(alloc: A) -> Result<Vec<usize, A>, AllocError>
     ensures { IfOk result (λ counts. counted.AreCounts counts.items []) }
 {
     Ok(vec![in alloc; 0usize; PID_NUMBERS]?)
 }
 
-// Counts one more where a finding is a PES packet.
+// Counts a finding that is a PES packet.
 #[tactic(auto, unfolding(crate::specs::PesCounts::counted_on))]
 fn count_pes<A: Allocator>(finding: &Finding<'_, A>, counts: &mut Vec<usize, A>)
     requires size { length counts.old.items ≡ 65_536 }

@@ -6,14 +6,14 @@ ghost use Rattle.stream_programs.specs.FreePids.{is_taken, least_free};
 use std::alloc::{AllocError, Allocator};
 use std::marker::Model;
 
-/// How many numbers of 16 bits there are, of which 8,192 are PIDs.
+/// The number of values of 16 bits; 8,192 of them are PIDs.
 const NUMBERS: usize = 65_536;
 
 /// PIDs in order, one or more times each.
 #[derive(Drop)]
 pub struct PidList<A: Allocator> {
     pids: Vec<u16, A>,
-    // by PID: whether it is one of them
+    // by PID: whether it is in the list
     taken: [bool; NUMBERS],
 }
 
@@ -68,14 +68,14 @@ impl<A: Allocator> PidList<A> {
         Ok(list)
     }
 
-    /// Returns whether a PID is one of them.
+    /// Returns whether a PID is in the list.
     pub fn has(&self, pid: u16) -> bool
         ensures { result ≡ is_taken pid self.now }
     {
         self.taken[pid as usize]
     }
 
-    /// Returns the least PID from one on that is none of them, up to 8,190.
+    /// Returns the least PID from `from` to 8,190 that is not in the list, if there is one.
     pub fn free_from(&self, from: u16) -> Option<u16>
         ensures { result ≡ least_free from self.now }
     {

@@ -2,14 +2,14 @@
 
 ghost use Rattle.std.specs.Prelude.{◌≡◌, IfOk, map};
 ghost use Rattle.psi_tables.specs.ProgramMap.{streams_of};
-ghost use Rattle.demux.specs.Shown.{finding_view};
+ghost use Rattle.pid_findings.specs.Shown.{finding_view};
 ghost use Rattle.stream_programs.specs.Programs as spec;
 
 use crate::gathering::Gathered;
 use crate::omission::TableOmission;
 use crate::streams::FoundStream;
-use demux::Finding;
 use descriptor_loops::{has_ca, has_of_multiplex};
+use pid_findings::Finding;
 use program_tables::map_places::map_places;
 use psi_tables::{Program, Streams};
 use std::alloc::{AllocError, Allocator, Global};
@@ -21,7 +21,7 @@ pub struct FoundProgram<A: Allocator = Global> {
     pub number: u16,
     /// The PID of its program map table.
     pub map_pid: u16,
-    /// As declared: 0x1FFF where it has no PCR.
+    /// As declared: 0x1FFF without a PCR.
     pub pcr_pid: u16,
     /// Its whole descriptors except descriptors of conditional access and of a multiplex.
     pub descriptors: Vec<u8, A>,
@@ -49,7 +49,7 @@ pub struct FoundPrograms<A: Allocator = Global> {
     /// By program, then in the order of its program map table. No two have the same PID: a stream that several programs
     /// have belongs to the first.
     pub streams: Vec<FoundStream<A>, A>,
-    /// Streams of sections, each on a PID that no stream and none of these has before it.
+    /// Streams of sections, each on a PID that no stream and no earlier entry has.
     pub tables: Vec<FoundStream<A>, A>,
     /// The omissions, program by program; all streams of sections are left out.
     pub left_out: Vec<TableOmission, A>,
@@ -69,7 +69,7 @@ impl<A: Allocator> Model for FoundPrograms<A> {
     } };
 }
 
-/// Returns whether the descriptors of a stream have one of conditional access.
+/// Returns whether any stream has a CA descriptor.
 #[tactic(auto, unfolding(crate::specs::Programs::any_ca))]
 pub(crate) fn any_ca(streams: Streams<'_>) -> bool
     ensures { result ≡ spec.any_ca (streams_of streams.entry) }
@@ -82,7 +82,7 @@ pub(crate) fn any_ca(streams: Streams<'_>) -> bool
     false
 }
 
-/// Returns whether the descriptors of a stream have one that speaks of the multiplex.
+/// Returns whether any stream has a descriptor about the multiplex.
 #[tactic(auto, unfolding(crate::specs::Programs::any_of_multiplex))]
 pub(crate) fn any_of_multiplex(streams: Streams<'_>) -> bool
     ensures { result ≡ spec.any_of_multiplex (streams_of streams.entry) }

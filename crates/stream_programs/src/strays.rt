@@ -1,7 +1,7 @@
 //! PIDs with PES packets that no program has.
 
 ghost use Rattle.std.specs.Prelude.{◌≡◌, ◌++◌, [], IfOk, OnOk, flat_map, map, option_to_list};
-ghost use Rattle.demux.specs.Shown.{finding_view};
+ghost use Rattle.pid_findings.specs.Shown.{finding_view};
 ghost use Rattle.stream_programs.specs.StrayPids as spec;
 
 use crate::omission::TableOmission;
@@ -9,7 +9,7 @@ use crate::pid_counts::is_pes;
 use crate::pid_list::PidList;
 use crate::programs::FoundPrograms;
 use crate::streams::FoundStream;
-use demux::Finding;
+use pid_findings::Finding;
 use std::alloc::{AllocError, Allocator};
 
 // Appends the PIDs of streams.
@@ -25,7 +25,7 @@ fn push_streams<A: Allocator>(
     Ok(())
 }
 
-// The PID of a stream that is left out.
+// Returns the PID of a stream that is left out.
 #[tactic(auto, unfolding(crate::specs::StrayPids::omitted_pid))]
 fn omitted_pid(omission: TableOmission) -> Option<u16>
     ensures { option_to_list result ≡ spec.omitted_pid omission }
@@ -81,7 +81,7 @@ pub fn mapped_pids<A: Allocator>(
     Ok(pids)
 }
 
-// The PID of a PES packet that is none of these.
+// Returns the PID of a PES packet, if it is neither known nor already found.
 #[tactic(auto, unfolding(crate::specs::StrayPids::stray_pid, crate::specs::StrayPids::unknown_pid))]
 fn stray_pid<A: Allocator>(
     known: &PidList<A>,
@@ -103,7 +103,7 @@ fn stray_pid<A: Allocator>(
     Some(pid)
 }
 
-// Appends the PID of a PES packet that is none of these.
+// Appends the PID of a PES packet, if it is neither known nor already found.
 fn push_stray<A: Allocator>(
     known: &PidList<A>,
     finding: &Finding<'_, A>,
@@ -117,7 +117,7 @@ fn push_stray<A: Allocator>(
     Ok(())
 }
 
-// Appends the PIDs of PES packets that are none of these, each once.
+// Appends the PIDs of PES packets that are not known, each once.
 fn push_strays<A: Allocator>(
     known: &PidList<A>,
     findings: &[Finding<'_, A>],
@@ -131,7 +131,7 @@ fn push_strays<A: Allocator>(
     Ok(())
 }
 
-/// Returns the PIDs with PES packets that are none of these, each once, in the order of their first PES packet.
+/// Returns the PIDs with PES packets that are not known, each once, in the order of their first PES packet.
 pub fn stray_pids<A: Allocator + Copy>(
     alloc: A,
     known: &[u16],

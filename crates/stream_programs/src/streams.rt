@@ -39,8 +39,8 @@ impl<A: Allocator> Model for FoundStream<A> {
     } };
 }
 
-// Whether streams of a type are sections (ISO/IEC 13818-1, table 2-34; SCTE 35 for 0x86), and DSM-CC (0x08), whose
-// stream_id is one of its own.
+// Returns whether streams of a type have no PES packets that a job carries: sections (ISO/IEC 13818-1, table 2-34; SCTE
+// 35 for 0x86), and DSM-CC (0x08), which has its own stream_id.
 #[tactic(auto, unfolding(crate::specs::Streams::has_no_pes))]
 fn has_no_pes(stream_type: u8) -> bool
     ensures { result ≡ spec.has_no_pes stream_type }
@@ -75,7 +75,7 @@ pub(crate) fn holder<A: Allocator>(pid: u16, streams: &[FoundStream<A>]) -> Opti
 }
 
 impl<A: Allocator> FoundStream<A> {
-    // Whether another map's entry says the same of it.
+    // Returns whether both entries have the same PID, stream_type and descriptors.
     #[tactic(auto, unfolding(crate::specs::Streams::is_alike))]
     fn is_alike(&self, other: &FoundStream<A>) -> bool
         ensures { result ≡ spec.is_alike self.now other.now }
@@ -93,14 +93,14 @@ impl<A: Allocator> FoundStream<A> {
     }
 }
 
-/// Returns whether one of these streams is as another map's entry says.
+/// Returns whether any of these streams has the same entry as `other`, from another program's map.
 pub(crate) fn has_alike<A: Allocator>(streams: &[FoundStream<A>], other: &FoundStream<A>) -> bool
     ensures { result ≡ list_any (spec.is_alike other.now) streams.now }
 {
     streams.iter().any(|stream| other.is_alike(stream))
 }
 
-/// Adds a program to those that share the stream of a PID.
+/// Adds a program to the programs that share the stream of a PID.
 pub(crate) fn share<A: Allocator>(
     number: u16,
     pid: u16,
@@ -117,7 +117,7 @@ pub(crate) fn share<A: Allocator>(
     Ok(())
 }
 
-/// Returns why a stream is left out, where its PID has this holder.
+/// Returns why a stream is left out; `holder`: the program that already has its PID.
 #[tactic(auto, unfolding(crate::specs::Streams::omission_of))]
 pub(crate) fn omission_of(
     program: u16,

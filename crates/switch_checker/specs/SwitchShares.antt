@@ -1,4 +1,4 @@
--- A stream's own slots in two plans, one after the other, in numbers.
+-- A stream's own slots in two plans in turn, in numbers.
 use Rattle.std.specs.Prelude.{ℕ, ◌^◌, ◌<◌, ◌≤◌, length}
 use Rattle.own_slots.specs.Period.{per_period}
 use Rattle.own_slots.specs.Switch.{shift}

@@ -61,7 +61,7 @@ pub fn frame_switches<A: Allocator>(
     framed_switches(plans, i, stream, framing, search);
 }
 
-/// One access unit removed, and up to all but one.
+/// Checks the room when one access unit has been removed, and so on up to all but one.
 fn framed_switches<A: Allocator>(
     plans: &PlanPair<'_, A>,
     i: usize,
@@ -81,7 +81,7 @@ fn framed_switches<A: Allocator>(
     }
 }
 
-/// So many access units removed.
+/// Checks the room of the main buffer over both plans when `gone` access units of a unit have been removed.
 fn frame_switch<A: Allocator>(
     plans: &PlanPair<'_, A>,
     i: usize,

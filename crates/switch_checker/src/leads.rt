@@ -45,7 +45,7 @@ impl<A: Allocator> ItemCondition<PlanPair<'_, A>> for LeadSwitches {
     }
 }
 
-/// The deadlines of one stream at its transport buffer, if its own slots change.
+/// Checks the deadlines of one stream at its transport buffer, if its own slots change.
 fn lead_switch<A: Allocator>(
     plans: &PlanPair<'_, A>,
     i: usize,
@@ -96,7 +96,7 @@ impl<A: Allocator> ItemCondition<PlanPair<'_, A>> for ElementarySwitches {
     }
 }
 
-/// The deadlines of one stream at its elementary stream buffer, if its own slots change.
+/// Checks the deadlines of one stream at its elementary stream buffer, if its own slots change.
 fn changed_elementary<A: Allocator>(
     plans: &PlanPair<'_, A>,
     i: usize,
@@ -117,7 +117,7 @@ fn changed_elementary<A: Allocator>(
     elementary_switch(plans, i, stream, search);
 }
 
-/// The deadlines of one stream at its elementary stream buffer, where it has a multiplexing buffer.
+/// Checks the deadlines of one stream at its elementary stream buffer, if it has a multiplexing buffer.
 #[tactic(auto, using(plan_checker::proofs::Leaks::leak_most))]
 fn elementary_switch<A: Allocator>(
     plans: &PlanPair<'_, A>,
@@ -198,7 +198,7 @@ fn elementary_shares_of<A: Allocator>(plans: &PlanPair<'_, A>, i: usize) -> Swit
     }
 }
 
-/// The deadlines of one stream, behind a buffer with that drain in bits a second.
+/// Checks the deadlines of one stream, behind a buffer with that drain in bits a second.
 fn row_switches(
     condition: Condition,
     rate: u64,
@@ -233,7 +233,7 @@ fn row_switches(
     }
 }
 
-/// The deadline of the last of `units` units in a row, behind that buffer.
+/// Checks the deadline of the last of `units` units in a row, behind that buffer.
 #[tactic(auto, using(description::proofs::Allowed::rows_most))]
 fn deadline(
     condition: Condition,

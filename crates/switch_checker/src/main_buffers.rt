@@ -18,7 +18,7 @@ use plan_checker::waiting_units::bytes_led;
 use slot_plan::{Condition, StreamDescription};
 use std::alloc::Allocator;
 
-/// Returns the bytes that can wait at once across the switch where units are sent at most `lead` units of 90 kHz
+/// Returns the bytes that can wait at once across the switch if units are sent at most `lead` units of 90 kHz
 /// before their decoding times.
 pub fn bytes_across<A: Allocator>(
     plans: &PlanPair<'_, A>,
@@ -62,7 +62,7 @@ impl<A: Allocator> ItemCondition<PlanPair<'_, A>> for MainSwitches {
     }
 }
 
-/// The main buffer of one stream, if its own slots change.
+/// Checks the main buffer of one stream, if its own slots change.
 fn changed_mains<A: Allocator>(
     plans: &PlanPair<'_, A>,
     i: usize,
@@ -84,7 +84,7 @@ fn changed_mains<A: Allocator>(
     main_switches(plans, i, stream, search);
 }
 
-/// The main buffer of one stream, for whole units and for their access units one by one.
+/// Checks the main buffer of one stream, for whole units and for their access units one by one.
 fn main_switches<A: Allocator>(
     plans: &PlanPair<'_, A>,
     i: usize,
@@ -103,7 +103,7 @@ fn main_switches<A: Allocator>(
     frame_switches(plans, i, stream, search);
 }
 
-/// The main buffer of one stream, for whole units.
+/// Checks the main buffer of one stream, for whole units.
 fn main_switch<A: Allocator>(
     plans: &PlanPair<'_, A>,
     i: usize,

@@ -36,7 +36,7 @@ pub struct SwitchShares {
     pub shift: u64,
 }
 
-/// Returns how far the own slots stray in the two plans, each times the own slots of the other.
+/// Returns the sum of both plans' spreads, each times the number of own slots in the opposite plan.
 fn strayed(first: PlanShare, second: PlanShare) -> u64
     requires count { first.count ≤ 65536 }
     requires next_count { second.count ≤ 65536 }

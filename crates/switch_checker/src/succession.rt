@@ -50,8 +50,8 @@ fn joint<A: Allocator>(
     search.first()
 }
 
-/// Returns the first condition that a second plan after a first one does not keep: its own, then those of the two
-/// together.
+/// Returns the first condition that a second plan after a first plan does not keep: its own conditions first, then
+/// the joint conditions.
 fn switch_conditions<A: Allocator>(
     description: &Description,
     first: &Plan<A>,
@@ -68,8 +68,8 @@ fn switch_conditions<A: Allocator>(
 
 /// Returns the two plans as a checked switch, if the second may follow the first at the end of any of its periods: the
 /// second serves the first's description and the two keep every condition together. Otherwise returns the first broken
-/// condition (conditions of the second plan in the order of [`check`](plan_checker::check), then joint conditions by number,
-/// item and part) with its two numbers, and hands both plans back.
+/// condition (conditions of the second plan in the order of [`check`](plan_checker::check), then joint conditions by
+/// number, item and part) with its two numbers, and hands both plans back.
 pub fn check_switch<A: Allocator>(
     first: CheckedPlan<A>,
     second: Plan<A>,

@@ -22,7 +22,8 @@ use std::alloc::Allocator;
 use unit_timing::buffers::{BSYS_DRAIN, SYSTEM_TB_DRAIN};
 use unit_timing::multiplexing_buffer::MultiplexingBuffer;
 
-/// One buffer: its item's number, what fills it, its drain and the works with which the two plans' periods begin.
+/// Checks one buffer at the switch; takes its item and number, its drain and the works that both plans' periods begin
+/// with.
 fn work_switch(
     slots: &[Slot],
     item: Item,
@@ -52,8 +53,8 @@ fn work_switch(
     );
 }
 
-/// One buffer that has to be empty at least once a second: its item's number, what fills it in the two plans, its drain
-/// and the works with which the two plans' periods begin.
+/// Checks at the switch one buffer that has to be empty at least once a second; takes its item and number, its drain
+/// and the works that both plans' periods begin with.
 fn emptied_switch(
     slots: &[Slot],
     next_slots: &[Slot],
@@ -106,7 +107,7 @@ impl<A: Allocator> ItemCondition<PlanPair<'_, A>> for StreamWorks {
     }
 }
 
-/// The transport buffer of one stream.
+/// Checks the transport buffer of one stream.
 fn stream_works<A: Allocator>(
     plans: &PlanPair<'_, A>,
     i: usize,
@@ -123,7 +124,7 @@ fn stream_works<A: Allocator>(
     stream_emptied(plans, i, stream, search);
 }
 
-/// Whether it is left with no more work than the second plan begins with.
+/// Checks whether it is left with no more work than the second plan begins with.
 fn stream_work<A: Allocator>(
     plans: &PlanPair<'_, A>,
     i: usize,
@@ -148,7 +149,7 @@ fn stream_work<A: Allocator>(
     );
 }
 
-/// Whether it is empty at least once a second across the switch, if there is a multiplexing buffer after it.
+/// Checks whether it is empty at least once a second across the switch, if there is a multiplexing buffer after it.
 fn stream_emptied<A: Allocator>(
     plans: &PlanPair<'_, A>,
     i: usize,
@@ -255,7 +256,7 @@ impl<A: Allocator> ItemCondition<PlanPair<'_, A>> for MultiplexingWorks {
     }
 }
 
-/// The multiplexing buffer of one stream, where it has one.
+/// Checks the multiplexing buffer of one stream, if it has one.
 fn multiplexing_work<A: Allocator>(
     plans: &PlanPair<'_, A>,
     i: usize,
@@ -274,7 +275,7 @@ fn multiplexing_work<A: Allocator>(
     leaking_work(plans, i, stream, buffer, search);
 }
 
-/// A multiplexing buffer.
+/// Checks a multiplexing buffer.
 #[tactic(auto, using(plan_checker::proofs::Leaks::leak_most))]
 fn leaking_work<A: Allocator>(
     plans: &PlanPair<'_, A>,

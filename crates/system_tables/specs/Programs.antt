@@ -18,7 +18,7 @@ use Rattle.system_tables.specs.declared.table_excess.TableBuffer.{TableBuffer}
 use Rattle.system_tables.specs.declared.table_excess.TableBuffer.TheVariants.{Transport, System}
 use Rattle.system_tables.specs.declared.table_excess.TableExcess.{TableExcess}
 
--- a program, the PID of its map, its two buffers, the number of bytes that have come, and that of the excesses of each buffer that have ended
+-- a program, the PID of its map, its two buffers, the number of bytes that have come, and the numbers of ended excesses of each buffer
 pub record ProgramState : Type 0 where
   pub number : ℕ
   pub map_pid : ℕ
@@ -49,7 +49,7 @@ program_of arrival found = record {
 
 -- 1. Bytes of the stream
 
--- n bytes from byte i on enter, where they have times and no more than `most_bytes` come
+-- n bytes from byte i on enter, if they have times and no more than `most_bytes` come
 abbrev pub enters : Arrival → ℕ → ℕ → ProgramState → Bool
 enters arrival i n p = nat_le (p.bytes + n) most_bytes && has_times arrival i n
 
@@ -70,7 +70,7 @@ transport_ended arrival i n p = if enters arrival i n p then ended_by p.transpor
 abbrev pub system_ended : Arrival → ℕ → ℕ → ProgramState → List Excess
 system_ended arrival i n p = if enters arrival i n p then ended_by p.system (left_at p.transport (times_at arrival 2000000 i n)) else []
 
--- 2. A packet: its first bytes up to where another line begins, and the others
+-- 2. A packet: its first bytes up to where another line begins, and the remaining bytes
 
 abbrev pub lead_in : Arrival → ℕ → ℕ
 lead_in arrival index = min (lead_of arrival (188 * index)) 188
@@ -89,7 +89,7 @@ system_in arrival index p =
     system_ended arrival (188 * index) (lead_in arrival index) p
     ++ system_ended arrival (188 * index + lead_in arrival index) (188 - lead_in arrival index) (after_lead arrival index p)
 
--- so many excesses more; numbers stop at 2^64 - 1
+-- numbers of further excesses are added; they stop at 2^64 - 1
 abbrev pub with_ended : ℕ → ℕ → ProgramState → ProgramState
 with_ended transport system p = record p {
   transport_excesses = min (p.transport_excesses + transport) (2 ^ 64 - 1);
@@ -101,14 +101,14 @@ with_packet arrival index p =
     with_ended (length (transport_in arrival index p)) (length (system_in arrival index p))
     (passed arrival (188 * index + lead_in arrival index) (188 - lead_in arrival index) (after_lead arrival index p))
 
--- a packet of a PID enters where it is of one of the tables of all programs or of the program's map
+-- a packet of a PID enters if the PID carries a table of all programs or the program's map
 abbrev pub is_of : ℕ → ℕ → ProgramState → Bool
 is_of index pid p = nat_lt index last_index && (nat_le pid 3 || pid == p.map_pid)
 
 abbrev pub entered : Arrival → ℕ → ℕ → ProgramState → ProgramState
 entered arrival index pid p = if is_of index pid p then with_packet arrival index p else p
 
--- the excesses that end with it, each with its program: those of the transport buffer, and then those of the system buffer
+-- the excesses that end with a packet, each with its program: first the excesses of the transport buffer, and then the excesses of the system buffer
 abbrev pub all_of : ℕ → TableBuffer → List Excess → List TableExcess
 all_of program buffer excesses = map (λ e. record { program = program; buffer = buffer; excess = e }) excesses
 
@@ -127,7 +127,7 @@ begun arrival named (Some programs) = Some programs
 abbrev pub taken : Arrival → ℕ → NamedView → ℕ → Option (List ProgramState) → Option (List ProgramState)
 taken arrival index named pid programs = option_map (λ ps. map (entered arrival index pid) ps) (begun arrival named programs)
 
--- those that are known
+-- the known programs
 unfoldable pub known : Option (List ProgramState) → List ProgramState
 known None = []
 known (Some programs) = programs

@@ -18,12 +18,10 @@ const MOST_BYTES: u64 = 1 << 40;
 /// The rate in bits a second whose buffer gives the unit of time: the buffers count time in its units.
 pub const DRAIN: u32 = 2_000_000;
 
-// How many of these units a byte takes to leave a buffer that is drained at a 500th of the stream's constant rate,
-// whatever that is.
+// How many of these units a byte takes to leave a buffer that is drained at a 500th of the stream's constant rate.
 const STEP_AT_A_500TH: u64 = 500 * DRAIN as u64;
 
-// The last of the PIDs whose packets enter the buffers of each program: those of PAT, CAT, TSDT and IPMP control
-// information.
+// The last of the PIDs whose packets enter the buffers of every program: PAT, CAT, TSDT and IPMP control information.
 const LAST_SYSTEM_PID: u16 = 3;
 
 /// A program, the PID of its map, the buffers of its tables, and the number of excesses of each that have ended.
@@ -52,8 +50,8 @@ impl Model for ProgramTables {
     } };
 }
 
-// How long a byte takes to leave a system buffer: 25 steps at 80,000 bits a second, and at a constant rate no longer
-// than at a 500th of it.
+// Returns how long a byte takes to leave a system buffer: 25 steps at 80,000 bits a second, and at a constant rate no
+// longer than at a 500th of it.
 #[tactic(auto, unfolding(crate::specs::Programs::system_step))]
 fn system_step(arrival: &Arrival) -> u64
     ensures step { result ≡ spec.system_step arrival.now }
@@ -68,7 +66,7 @@ fn system_step(arrival: &Arrival) -> u64
 }
 
 impl ProgramTables {
-    /// Before its first packet.
+    /// Returns the state before the program's first packet.
     pub(crate) fn new(arrival: &Arrival, program: &FoundProgram) -> ProgramTables
         ensures { result ≡ spec.program_of arrival.now program.now }
     {
@@ -130,7 +128,7 @@ impl ProgramTables {
         self.view.system.watch.under_way
     }
 
-    // Bytes of the stream from byte `byte` on: the excesses that end with them are appended.
+    // Takes bytes of the stream from byte `byte` on, and appends the excesses that end with them.
     fn pass(
         &mut self,
         arrival: &Arrival,
@@ -153,7 +151,7 @@ impl ProgramTables {
         Ok(())
     }
 
-    // So many excesses of each buffer have ended.
+    // Counts the excesses of each buffer that have ended.
     fn count(&mut self, ended: &EndedExcesses)
         ensures { self.new
             ≡ spec.with_ended (length ended.now.transport.items) (length ended.now.system.items) self.old }
@@ -166,7 +164,7 @@ impl ProgramTables {
             .saturating_add(ended.system.len() as u64);
     }
 
-    // A packet that is of its tables, at an index: the excesses that end with it.
+    // Takes a packet of the program's tables, and returns the excesses that end with it.
     fn enter(
         &mut self,
         alloc: Global,

@@ -26,7 +26,7 @@ impl Model for SystemTables {
     ghost view = { λ t. option_map (λ programs. programs.items) t.programs };
 }
 
-// The programs before their first packets.
+// Returns the programs before their first packets.
 fn programs_of(
     alloc: Global,
     arrival: &Arrival,
@@ -40,7 +40,7 @@ fn programs_of(
         .collect(alloc)
 }
 
-// A packet comes to the programs: the excesses that end with it are appended.
+// Gives a packet to each program, and appends the excesses that end with it.
 fn take_each(
     alloc: Global,
     programs: &mut [ProgramTables],
@@ -70,7 +70,7 @@ impl SystemTables {
         }
     }
 
-    // The buffers begin, once the programs are known.
+    // Begins the buffers, once the programs are known.
     #[tactic(auto, unfolding(crate::specs::Programs::begun))]
     fn begin(&mut self, arrival: &Arrival, named: &NamedStreams) -> Result<(), AllocError>
         ensures { OnOk result (self.new ≡ spec.begun arrival.now named.now self.old) }

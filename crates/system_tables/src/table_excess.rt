@@ -20,7 +20,7 @@ pub struct TableExcess {
     pub excess: Excess,
 }
 
-// Appends those of a buffer.
+// Appends the excesses of a buffer.
 fn append(
     all: &mut Vec<TableExcess>,
     program: u16,
@@ -39,7 +39,7 @@ fn append(
     Ok(())
 }
 
-/// Appends those of both buffers of a program.
+/// Appends the excesses of both buffers of a program.
 pub(crate) fn append_ended(
     all: &mut Vec<TableExcess>,
     program: u16,

@@ -1,4 +1,4 @@
--- The state of a table between its slots, and what it stands for.
+-- The state of a table between its slots, and the table that it represents.
 use Rattle.std.specs.Prelude.{◌≡◌, ℕ, ◌+◌, ◌*◌, ◌/◌, ◌%◌, ◌==◌, ◌<◌, nat_lt, Bool, cond, List, [], map, slice_index_or, length, Option, is_some}
 use Rattle.clock27.specs.Units.{slot_seconds_at_1bps}
 use Rattle.own_slots.specs.Slots.{own_before}
@@ -6,7 +6,7 @@ use Rattle.slot_contents.specs.Contents.{Content, Piece}
 use Rattle.table_rounds.specs.Parts.{places_of, part_of, part_content}
 use Rattle.table_rounds.specs.Tables.{Table, round_places, place_at, moment_before, payloads_before}
 
--- the next place, the moment of the round, the bytes of the section under way, and the number of payloads sent modulo 256
+-- the next place, the moment of the round, the bytes of the current section, and the number of payloads sent modulo 256
 pub record Carousel : Type 0 where
   pub pid : ℕ
   pub rate : ℕ
@@ -18,7 +18,7 @@ pub record Carousel : Type 0 where
   pub counter : ℕ
   pub bytes : List ℕ
 
--- before slot s the state stands for the table
+-- before slot `slots` the state represents the table
 pub record CarouselHolds (table : Table) (slots : ℕ) (carousel : Carousel) : Type 0 where
   pub pid : carousel.pid ≡ table.pid
   pub rate : carousel.rate ≡ table.rate
@@ -34,38 +34,38 @@ abbrev pub first_carousel : ℕ → ℕ → ℕ → List ℕ → Carousel
 first_carousel pid rate start lengths =
     record { pid = pid; rate = rate; start = start; packets_per_section = map places_of lengths; section = 0; part = 0; moment = 0; counter = 0; bytes = [] }
 
--- in slot s a round takes its moment where it begins
+-- the moment of the round in slot s: section 0 takes the time of the slot, other sections keep the moment
 abbrev pub moment_now : ℕ → Carousel → ℕ
 moment_now s carousel = cond (carousel.section == 0) (carousel.start + s * slot_seconds_at_1bps / carousel.rate) carousel.moment
 
--- at the first place of a section its bytes are made, and at that of section 0 the round's moment taken
+-- at the first place of a section its bytes are made, and with section 0 the moment of the round is taken
 unfoldable pub begun : (ℕ → ℕ → List ℕ) → ℕ → Carousel → Carousel
 begun source s carousel =
     cond (carousel.part == 0) (record carousel { moment = moment_now s carousel; bytes = source carousel.section (moment_now s carousel) }) carousel
 
--- the next section, after the last one the first
+-- the next section; after the last section the first
 unfoldable pub section_advanced : Carousel → Carousel
 section_advanced carousel =
     record carousel { section = cond (nat_lt (carousel.section + 1) (length carousel.packets_per_section)) (carousel.section + 1) 0; part = 0 }
 
--- the next place of the section, after the last one the first of the next section
+-- the next place of the section; after the last place the first place of the next section
 unfoldable pub advanced : Carousel → Carousel
 advanced carousel =
     cond (nat_lt (carousel.part + 1) (slice_index_or carousel.packets_per_section carousel.section 0)) (record carousel { part = carousel.part + 1 })
     (section_advanced carousel)
 
--- a payload is counted
+-- the state with a payload counted, if it was sent
 abbrev pub counted : Bool → Carousel → Carousel
 counted sent carousel = cond sent (record carousel { counter = (carousel.counter + 1) % 256 }) carousel
 
--- the part at the place that a state stands at, once its section is made
+-- the part at the current place of a state, once its section is made
 abbrev pub part_now : Carousel → Option Piece
 part_now carousel = part_of carousel.bytes carousel.part
 
 abbrev pub content_now : Carousel → Content
 content_now carousel = part_content carousel.pid carousel.counter (part_now carousel)
 
--- what the own slot s carries, as the state has it
+-- what the own slot s carries, by the state
 abbrev pub carousel_content : (ℕ → ℕ → List ℕ) → ℕ → Carousel → Content
 carousel_content source s carousel = content_now (begun source s carousel)
 

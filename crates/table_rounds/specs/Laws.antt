@@ -1,23 +1,23 @@
--- What the laws of a table on its own slots say.
+-- The laws of a table on its own slots.
 use Rattle.std.specs.Prelude.{◌≡◌, ℕ, suc, ◌+◌, ◌<◌, true, false, List, take, sum_by, slice_index_or, length}
 use Rattle.slot_contents.specs.Contents.{packet_of}
 use Rattle.table_rounds.specs.Parts.{places_of}
 use Rattle.table_rounds.specs.Tables.{Table, SectionPlace, round_places, place_in, table_content}
 use Rattle.table_rounds.specs.Carousels.{Carousel, CarouselHolds, first_carousel, carousel_content, carousel_after}
 
--- a round has a place
+-- a round has at least one place
 abbrev pub HasPlaces : Table → Type 0
 HasPlaces table = 0 < round_places table.lengths
 
--- these source are the table's, for each section that there is
+-- the source gives the bytes of each section of the table
 abbrev pub IsSourceOf : Table → (ℕ → ℕ → List ℕ) → Type 0
 IsSourceOf table source = (j moment : ℕ) → j < length table.lengths → source j moment ≡ table.bytes j moment
 
--- before slot 0
+-- the first state represents the table before slot 0
 abbrev pub FirstCarouselLaw : Type 0
 FirstCarouselLaw = (table : Table) → HasPlaces table → CarouselHolds table 0 (first_carousel table.pid table.rate table.start table.lengths)
 
--- at an own slot the state gives the slot's packet, and stands for the table in the next slot
+-- at an own slot the state gives the packet of the slot, and represents the table in the next slot
 pub record TableSlot (table : Table) (s : ℕ) (source : ℕ → ℕ → List ℕ) (carousel : Carousel) : Type 0 where
   pub packet : packet_of (carousel_content source s carousel) ≡ packet_of (table_content table s)
   pub holds : CarouselHolds table (suc s) (carousel_after source s carousel)
@@ -26,11 +26,11 @@ abbrev pub TableSlotLaw : Type 0
 TableSlotLaw = (table : Table) (s : ℕ) (source : ℕ → ℕ → List ℕ) (carousel : Carousel) → HasPlaces table → IsSourceOf table source → table.own s ≡ true →
     CarouselHolds table s carousel → TableSlot table s source carousel
 
--- in another slot it stays as it is
+-- in any other slot the state does not change
 abbrev pub OtherTableSlotLaw : Type 0
 OtherTableSlotLaw = (table : Table) (s : ℕ) (carousel : Carousel) → table.own s ≡ false → CarouselHolds table s carousel → CarouselHolds table (suc s) carousel
 
--- section j and its part q are in place q after those of the sections before it
+-- part q of section j is q places after the places of the sections before section j
 abbrev pub first_place : List ℕ → ℕ → ℕ
 first_place lengths j = sum_by places_of (take j lengths)
 
@@ -38,7 +38,7 @@ abbrev pub PlaceLaw : Type 0
 PlaceLaw = (lengths : List ℕ) (j q : ℕ) → j < length lengths → q < places_of (slice_index_or lengths j 0) →
     place_in 0 lengths (first_place lengths j + q) ≡ record { section = j; part = q }
 
--- and each place of a round is one of these
+-- each place of a round is the place of a part of a section
 pub record IsPlace (lengths : List ℕ) (n : ℕ) (place : SectionPlace) : Type 0 where
   pub section : place.section < length lengths
   pub part : place.part < places_of (slice_index_or lengths place.section 0)

@@ -1,9 +1,9 @@
--- The parts of a section in transport packets (ISO/IEC 13818-1, 2.4.4.1): pointer_field 0 before it, 0xFF from its end to that of the packet.
+-- The parts of a section in transport packets (ISO/IEC 13818-1, 2.4.4.1): pointer_field 0 before it, bytes 0xFF from its end to the end of the packet.
 use Rattle.std.specs.Prelude.{ℕ, ◌+◌, ◌*◌, ◌/◌, ◌==◌, nat_lt, cond, false, List, ◌∷◌, ◌++◌, length, take, drop, replicate, Option, Some, None}
 use Rattle.ts_packet.specs.Beginnings.{start_by}
 use Rattle.slot_contents.specs.Contents.{Content, PayloadContent, NullContent, Piece}
 
--- the packets that a section of that length takes, in bytes
+-- the number of packets that a section of `l` bytes takes
 abbrev pub places_of : ℕ → ℕ
 places_of l = (1 + l + 183) / 184
 
@@ -11,12 +11,12 @@ places_of l = (1 + l + 183) / 184
 abbrev pub filled : List ℕ → List ℕ
 filled section = 0 ∷ (section ++ replicate 184 0xFF)
 
--- part number q of a section: 184 bytes, none after the section's end; the section begins with part 0
+-- part number q of a section: 184 bytes, no part after the end of the section; the section begins with part 0
 unfoldable pub part_of : List ℕ → ℕ → Option Piece
 part_of section q =
     cond (nat_lt (184 * q) (1 + length section)) (Some (record { start = start_by (q == 0) false; bytes = take 184 (drop (184 * q) (filled section)) })) None
 
--- a part in a slot, where it is the payload of this number on its PID
+-- the content of a slot with a part, as the payload `number` on its PID
 unfoldable pub part_content : ℕ → ℕ → Option Piece → Content
 part_content pid number None = NullContent
 part_content pid number (Some part) = PayloadContent pid number part.start part.bytes

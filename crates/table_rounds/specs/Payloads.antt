@@ -15,14 +15,14 @@ use Rattle.table_rounds.specs.Laws.{first_place}
 abbrev pub table_payloads : Table → ℕ → List Payload
 table_payloads table n = flat_map (λ s. put s (part_at table s)) (own_slots table.own 0 n)
 
--- what the finished bytes of n slots have of a table
+-- what the finished bytes of n slots carry of a table
 pub record TableCarried (table : Table) (n : ℕ) (bytes : List ℕ) : Type 0 where
   -- packet number j of the PID has the continuity_counter j modulo 16 (ISO/IEC 13818-1, 2.4.3.3)
   pub counters : (j : ℕ) (e : Entry) → slice_get (pid_list table.pid bytes) j ≡ Some e → e.packet.header.continuity_counter ≡ j % 16
   -- its packets carry the parts of the sections in the places of the own slots, each section as it is at the moment of its round
   pub payloads : map payload_at (pid_list table.pid bytes) ≡ table_payloads table n
 
--- an output in which the table, and nothing else, is on its PID
+-- an output where the table is alone on its PID
 pub record TableIsAlone (table : Table) (content : ℕ → Content) : Type 0 where
   pub fits : Fits content
   pub no_null : (table.pid == 8191) ≡ false
@@ -32,12 +32,12 @@ pub record TableIsAlone (table : Table) (content : ℕ → Content) : Type 0 whe
 abbrev pub TableCarriedLaw : Type 0
 TableCarriedLaw = (table : Table) (n : ℕ) (content : ℕ → Content) → TableIsAlone table content → TableCarried table n (run_bytes content 0 n)
 
--- the first part of a section is there, whatever its length: pointer_field, and the section's bytes
+-- the first part of a section exists, whatever its length: pointer_field, and the bytes of the section
 abbrev pub FirstPartLaw : Type 0
 FirstPartLaw = (table : Table) (s j : ℕ) → place_at table s ≡ record { section = j; part = 0 } →
     (piece : Piece) × (part_at table s ≡ Some piece) × (is_start piece.start ≡ true)
 
--- what an own slot carries can be a packet
+-- the content of an own slot can be a packet
 abbrev pub PartFitsLaw : Type 0
 PartFitsLaw = (table : Table) (s : ℕ) → table.pid < 2 ^ 13 → ContentFits (table_content table s)
 

@@ -1,6 +1,6 @@
--- One table on its own slots. Its sections take places one after another, each as many packets as its greatest length needs; they make a
--- round, and the table's own slots, counted over the run, are the places of one round after another. A round's source are those of the
--- moment at which its first slot begins.
+-- One table on its own slots. Its sections take places one after another, each as many packets as its greatest length needs; together they make a round, and
+-- the own slots of the table, counted over the run, are the places of one round after another. The sections of a round have the contents of the moment at
+-- which its first slot begins.
 use Rattle.std.specs.Prelude.{ℕ, zero, suc, ◌+◌, ◌-◌, ◌*◌, ◌/◌, ◌%◌, ◌==◌, ◌&&◌, nat_lt, Bool, cond, List, [], ◌∷◌, sum_by, Option, Some, None}
 use Rattle.clock27.specs.Units.{slot_seconds_at_1bps}
 use Rattle.own_slots.specs.Slots.{own_before}
@@ -19,7 +19,7 @@ pub record Table : Type 0 where
   pub rate : ℕ
   pub start : ℕ
 
--- a section, and one of its places, each counted from 0
+-- the index of a section, and a place of the section, each counted from 0
 pub record SectionPlace : Type 0 where
   pub section : ℕ
   pub part : ℕ
@@ -28,12 +28,12 @@ pub record SectionPlace : Type 0 where
 abbrev pub round_places : List ℕ → ℕ
 round_places lengths = sum_by places_of lengths
 
--- the place of that number in a round of sections of these lengths, the first of which is section j
+-- place number n in a round of sections of these lengths, which begin with section j
 unfoldable pub place_in : ℕ → List ℕ → ℕ → SectionPlace
 place_in j [] n = record { section = j; part = n }
 place_in j (l ∷ ls) n = cond (nat_lt n (places_of l)) (record { section = j; part = n }) (place_in (suc j) ls (n - places_of l))
 
--- the place of the own slot in slot s, or of the next one after it
+-- the place of the own slot s, or of the next own slot after s
 abbrev pub place_at : Table → ℕ → SectionPlace
 place_at table s = place_in 0 table.lengths (own_before table.own s % round_places table.lengths)
 
@@ -50,14 +50,14 @@ moment_of table s = table.start + s * slot_seconds_at_1bps / table.rate
 abbrev pub moment_before : Table → ℕ → ℕ
 moment_before table s = moment_of table (round_before table.own (round_places table.lengths) s)
 
--- the bytes of the section in the own slot s, and the part of it there
+-- the bytes of the section in the own slot s, and the part of the section there
 abbrev pub bytes_at : Table → ℕ → List ℕ
 bytes_at table s = table.bytes (place_at table s).section (moment_before table (suc s))
 
 abbrev pub part_at : Table → ℕ → Option Piece
 part_at table s = part_of (bytes_at table s) (place_at table s).part
 
--- the payloads of the table before slot s, and so the number of the next one on its PID
+-- the number of payloads of the table before slot s, which is the number of the next payload on its PID
 abbrev pub one_if_some : Option Piece → ℕ
 one_if_some None = 0
 one_if_some (Some part) = 1

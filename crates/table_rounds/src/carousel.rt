@@ -12,7 +12,7 @@ use arrayvec::ArrayVec;
 use clock27::{Rate, SLOT_SECONDS_AT_1BPS};
 use std::marker::Model;
 
-/// A table between two of its own slots: the place that comes next, the moment of the round, and the current section.
+/// A table between two of its own slots: the next place, the moment of the round, and the current section.
 #[derive(Drop)]
 pub struct TableCarousel {
     pid: u16,
@@ -47,14 +47,14 @@ impl Model for TableCarousel {
     ghost invariant = { λ t. t.pid < 2 ^ 13 };
 }
 
-// The packets of a section of that length.
+// Returns the number of packets of a section of this length.
 fn places_of(length: u16) -> u16
     ensures { result ≡ places_of length }
 {
     ((1 + length as u32 + 183) / 184) as u16
 }
 
-// The packets of each section of these lengths.
+// Returns the number of packets of each section of these lengths.
 fn places_of_each(lengths: &[u16]) -> ArrayVec<u16, 32>
     requires { length lengths.now ≤ 32 }
     ensures { result.items ≡ map places_of lengths.now }
@@ -66,7 +66,7 @@ fn places_of_each(lengths: &[u16]) -> ArrayVec<u16, 32>
     places
 }
 
-// The moment at which a slot begins.
+// Returns the moment at which a slot begins.
 fn moment_at(rate: Rate, start: u32, slot: u64) -> u64
     requires { slot < 2 ^ 40 }
     ensures { result ≡ start + slot * slot_seconds_at_1bps / rate }
@@ -126,7 +126,8 @@ impl TableCarousel {
     }
 
     #[tactic(auto, unfolding(crate::specs::Carousels::begun))]
-    // At the first place of a round its moment is taken, and at that of a section its bytes are made.
+    // Takes the moment of the round at its first place, and makes the bytes of a section at the first place of the
+    // section.
     fn begin<T: SectionSource>(&mut self, source: &T, slot: u64)
         requires { slot < 2 ^ 40 }
         ensures { self.new ≡ spec.begun (T.bytes source.now) slot self.old }
@@ -137,7 +138,7 @@ impl TableCarousel {
         }
     }
 
-    // A round's moment is that of its first slot.
+    // Returns the moment of the round: the moment of its first slot.
     fn moment_now(&self, slot: u64) -> u64
         requires { slot < 2 ^ 40 }
         ensures { result ≡ spec.moment_now slot self.now }
@@ -157,7 +158,7 @@ impl TableCarousel {
         }
     }
 
-    // The packets of the section under way.
+    // Returns the number of packets of the current section.
     fn section_packets(&self) -> u16
         ensures { result ≡ slice_index_or self.now.packets_per_section self.now.section 0 }
     {

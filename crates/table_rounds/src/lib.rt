@@ -11,7 +11,7 @@
 //! related.
 #![tactic(auto)]
 
-// Where a table's sections come from.
+// The source of a table's sections.
 mod section_source;
 
 // A section in packets.

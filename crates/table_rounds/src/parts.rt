@@ -38,8 +38,8 @@ fn write_short_first_part(packet: &mut [u8; 188], pid: u16, counter: u8, section
     write_filled(packet, pid, Start::Begins, counter, &first);
 }
 
-// Writes the packet of the first part of a section, after pointer_field 0. Where it fills the packet, its bytes are
-// copied there at once.
+// Writes the packet of the first part of a section, after pointer_field 0. If the part fills the packet, copies its
+// bytes directly.
 #[tactic(auto, unfolding(slot_contents::specs::Contents::packet_of))]
 fn write_first_part(packet: &mut [u8; 188], pid: u16, counter: u8, section: &[u8])
     requires pid { pid < 2 ^ 13 }

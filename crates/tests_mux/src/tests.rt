@@ -25,7 +25,7 @@ fn edited(alloc: Global, text: &str, part: &str, other: &str) -> Option<String> 
     text.replace(alloc, part, other).ok()
 }
 
-/// Returns the text after another, once for each of these numbers, which stand where the mark does.
+/// Returns `before` and the text after it, once for each of these numbers, in place of the mark.
 fn repeated(
     alloc: Global,
     before: &str,
@@ -52,7 +52,7 @@ fn planned<A: Allocator + Clone>(alloc: A, text: &str) -> Option<Plan<A>> {
     }
 }
 
-/// Returns the plan for the description, where it is accepted.
+/// Returns the plan for the description, if it is accepted.
 fn checked<A: Allocator + Clone>(
     global: Global,
     alloc: A,
@@ -76,7 +76,7 @@ fn checked<A: Allocator + Clone>(
     }
 }
 
-/// Returns a second plan after the first, where it may follow.
+/// Returns a second plan after the first, if it may follow.
 fn followed<A: Allocator + Clone>(
     alloc: A,
     first: CheckedPlan<A>,
@@ -98,7 +98,7 @@ fn followed<A: Allocator + Clone>(
     }
 }
 
-/// Appends these parts, one after the other.
+/// Appends these parts, one after another.
 fn push_parts(whole: &mut Vec<u8>, parts: &[&[u8]]) -> bool {
     for part in parts {
         if whole.extend_from_slice(part).is_err() {
@@ -117,7 +117,7 @@ fn joined(alloc: Global, parts: &[&[u8]]) -> Option<Vec<u8>> {
     }
 }
 
-/// Returns the bytes with one of them changed.
+/// Returns the bytes with the byte at `at` changed.
 fn changed(alloc: Global, bytes: &[u8], at: usize, value: u8) -> Option<Vec<u8>> {
     let before = bytes.get(..at).unwrap_or(bytes);
     let after = bytes.get(at.saturating_add(1)..).unwrap_or(&[]);

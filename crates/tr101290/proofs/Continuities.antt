@@ -6,7 +6,7 @@ use Rattle.std.specs.Map.{lookup}
 use Rattle.std.proofs.lemmas.Bool.Decides.{nat_tests}
 use Rattle.indexmap.specs.IndexMap.{insert_entry}
 use Rattle.ts_packet.specs.PidList.{Entry}
-use Rattle.demux.specs.Marks.{LastView, break_at, mark, marked, seen}
+use Rattle.pid_findings.specs.Marks.{LastView, break_at, mark, marked, seen}
 use Rattle.tr101290.specs.declared.continuity.ContinuityError.{ContinuityError}
 use Rattle.tr101290.specs.Continuity.{ContinuityLaw, Lasts, after, before_if, breaks, error_at, error_of, errors_from, last_of}
 

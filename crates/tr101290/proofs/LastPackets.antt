@@ -3,7 +3,7 @@ use Rattle.std.proofs.Common.{◌≡◌, ℕ, List, nat_eq, is_some, true≢fals
 use Rattle.std.specs.Prelude.{position, slice_get, unwrap_or}
 use Rattle.std.specs.Map.{keys_of, lookup, values_of}
 use Rattle.indexmap.specs.IndexMap.{insert_entry, set_value_at}
-use Rattle.demux.specs.Marks.{LastView}
+use Rattle.pid_findings.specs.Marks.{LastView}
 use Rattle.pid_map.proofs.Entries.{found_there, set_there, value_there}
 use Rattle.tr101290.specs.Continuity.{Lasts, last_of}
 

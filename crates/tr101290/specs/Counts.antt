@@ -25,7 +25,7 @@ unfoldable pub nanoseconds_in : Option Inaccuracy → ℕ
 nanoseconds_in None = 0
 nanoseconds_in (Some off) = off.nanoseconds
 
--- the bytes and the ticks on which the clock goes on
+-- the bytes and the ticks of a step along which the clock runs on
 unfoldable pub line_bytes : ClockStep → ℕ
 line_bytes First = 0
 line_bytes (GoesOn line) = line.bytes
@@ -64,6 +64,6 @@ counted counts report = record {
   ticks = up_to (counts.ticks + line_ticks report.step);
 }
 
--- the rate of all lines on which the clock goes on, in bits a second, rounded down
+-- the mean rate over all steps along which the clock runs on, in bits a second, rounded down
 abbrev pub rate_of : PcrCounts → Option ℕ
 rate_of counts = if counts.ticks == 0 then None else Some (counts.bytes * byte_ticks_at_1bps / counts.ticks)

@@ -1,5 +1,5 @@
--- How soon sections follow each other: from the end of a section of service information to the beginning of the next one of the same PID, table_id
--- and table_id_extension 25 ms have to pass (ETSI EN 300 468, 5.1.4.1; ETSI TR 101 211, 4.4; ETSI TR 101 290, 5.2.3, 3.1.a, 3.5.a, 3.6.a, 3.7 and 3.8).
+-- How soon sections follow each other: from the end of a section of service information to the beginning of the next section of the same PID,
+-- table_id and table_id_extension at least 25 ms pass (ETSI EN 300 468, 5.1.4.1; ETSI TR 101 211, 4.4; ETSI TR 101 290, 5.2.3, 3.1.a, 3.5.a, 3.6.a, 3.7, 3.8).
 use Rattle.std.specs.Prelude.{ℕ, ◌*◌, ◌-◌, ◌/◌, ◌==◌, ◌&&◌, ◌||◌, not, nat_eq, nat_le, nat_lt, is_some, Bool, if◌then◌else◌, List, [], length, Option, Some}
 use Rattle.std.specs.Prelude.{None}
 use Rattle.std.specs.Map.{lookup}
@@ -11,7 +11,7 @@ use Rattle.tr101290.specs.declared.intervals.TableError.{TableError}
 use Rattle.tr101290.specs.declared.intervals.TableTiming.{TableTiming}
 use Rattle.tr101290.specs.declared.intervals.TableTiming.TheVariants.{ConstantRate, Ticks}
 
--- tables of service information but stuffing tables, on their PIDs
+-- tables of service information on their PIDs, except stuffing tables
 abbrev pub is_spaced : ℕ → ℕ → Bool
 is_spaced pid table_id = nat_le 0x10 pid && nat_le pid 0x14 && nat_le 0x40 table_id && nat_le table_id 0x73 && not (table_id == 0x72)
 
@@ -37,7 +37,7 @@ no_end timing = record { timing = timing; ends = [] }
 abbrev pub end_at : DistanceState → WholeSection → Option ℕ
 end_at s section = lookup (nat_eq (extension_key section)) s.ends
 
--- of 65,536 keys at most
+-- the ends of at most 65,536 keys
 abbrev pub kept : DistanceState → ℕ → Bool → ℕ → DistanceState
 kept s key known end = if known || nat_lt (length s.ends) MOST_ENDS then record { timing = s.timing; ends = insert_entry nat_eq s.ends key end } else s
 

@@ -23,8 +23,8 @@ beyond_if limit byte (Some value) = beyond limit byte value
 abbrev pub repetition_error : PcrReport → Option PcrError
 repetition_error report = beyond_if greatest_interval report.byte report.interval
 
--- the ticks from the value of the reference before it to its own, where no discontinuity_indicator stands beside it; values
--- come round, so that one that falls has gone on by nearly a whole period
+-- the ticks from the value of the reference before it to its own value, if it has no discontinuity_indicator; values wrap round, so a
+-- value that falls has advanced by nearly a whole period
 unfoldable pub difference_in : ClockStep → Option ℕ
 difference_in First = None
 difference_in (GoesOn line) = Some line.ticks

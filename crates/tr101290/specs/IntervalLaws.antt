@@ -1,4 +1,4 @@
--- What is kept of sections, by these alone: lists have the last section first.
+-- The state of the intervals as a function of the sections alone; lists have the last section first.
 use Rattle.std.specs.Prelude.{◌≡◌, ◌↔◌, ℕ, ◌-◌, ◌*◌, ◌<◌, ◌==◌, max, Bool, false, List, [], ◌∷◌, filter, IfSome, Option, Some, None}
 use Rattle.tr101290.specs.declared.intervals.SectionBegin.{SectionBegin}
 use Rattle.tr101290.specs.declared.intervals.SectionPlaces.{SectionPlaces}
@@ -10,7 +10,7 @@ unfoldable pub state_of : TableTiming → List SectionBegin → IntervalState
 state_of timing [] = no_section timing
 state_of timing (section ∷ earlier) = taken (state_of timing earlier) section
 
--- those of a key
+-- the sections with a key
 abbrev pub sections_of : ℕ → List SectionBegin → List SectionBegin
 sections_of key sections = filter (λ s. section_key s == key) sections
 
@@ -18,7 +18,7 @@ unfoldable pub places_of : List SectionBegin → Option SectionPlaces
 places_of [] = None
 places_of (section ∷ earlier) = Some (places_after (places_of earlier) section)
 
--- and those of a key with a part
+-- the sections with the key of a part
 unfoldable pub is_part : ℕ → SectionBegin → Option ℕ → Bool
 is_part key section None = false
 is_part key section (Some part) = part_key section part == key
@@ -32,20 +32,20 @@ greatest_gap [] = 0
 greatest_gap (section ∷ []) = 0
 greatest_gap (section ∷ before ∷ earlier) = max (section.place - before.place) (greatest_gap (before ∷ earlier))
 
--- the entry of a key is that of its own sections, whatever others come between
+-- the entry of a key depends on its own sections alone, whatever other sections come between
 abbrev pub EntryLaw : Type 0
 EntryLaw = (timing : TableTiming) (key : ℕ) (sections : List SectionBegin) → places_at (state_of timing sections) key ≡ places_of (sections_of key sections)
 
--- and that of a key with a part is that of the sections of this part, whatever parts come between
+-- the entry of a key with a part depends on the sections of this part alone, whatever parts come between
 abbrev pub PartLaw : Type 0
 PartLaw = (timing : TableTiming) (key : ℕ) (sections : List SectionBegin) →
     part_places_at (state_of timing sections) key ≡ places_of (sections_of_part key sections)
 
--- its greatest is the greatest from one section to the next, and its last one the last
+-- an entry has the greatest distance from a section to the next, and the place of the last section
 abbrev pub GreatestLaw : Type 0
 GreatestLaw = (section : SectionBegin) (earlier : List SectionBegin) →
     IfSome (places_of (section ∷ earlier)) (λ places. (places.greatest ≡ greatest_gap (section ∷ earlier)) × (places.last ≡ section.place))
 
--- a time is beyond a limit exactly where the exact one is
+-- a time in ticks, rounded up, is beyond a limit exactly if the exact time is
 abbrev pub TimeLaw : Type 0
 TimeLaw = (rate packets limit : ℕ) → 0 < rate → (limit < time_of_packets rate packets) ↔ (limit * rate < packets * 40608000000)

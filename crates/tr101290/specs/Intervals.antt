@@ -21,7 +21,7 @@ pid_of key = key / 256
 abbrev pub table_id_of : ℕ → ℕ
 table_id_of key = key % 256
 
--- and with a part of such a table
+-- the key of a part of such a table
 abbrev pub key_with : ℕ → ℕ → ℕ
 key_with key part = key * 65536 + part
 
@@ -57,7 +57,7 @@ places_after (Some before) section = record {
   at = if nat_lt before.greatest (section.place - before.last) then section.packet else before.at;
 }
 
--- the sections of each key, in the order in which these are first seen, and those of each key with a part
+-- the sections of each key, in the order of the keys' first sections, and the sections of each key with a part
 pub record IntervalState : Type 0 where
   pub timing : TableTiming
   pub entries : List (ℕ × SectionPlaces)
@@ -66,14 +66,14 @@ pub record IntervalState : Type 0 where
 abbrev pub no_section : TableTiming → IntervalState
 no_section timing = record { timing = timing; entries = []; parts = [] }
 
--- those of a key
+-- the sections of a key
 abbrev pub places_at : IntervalState → ℕ → Option SectionPlaces
 places_at s key = lookup (nat_eq key) s.entries
 
 abbrev pub section_key : SectionBegin → ℕ
 section_key section = key_of section.pid section.table_id
 
--- and of a key with a part
+-- the sections of a key with a part
 abbrev pub part_places_at : IntervalState → ℕ → Option SectionPlaces
 part_places_at s key = lookup (nat_eq key) s.parts
 
@@ -95,7 +95,7 @@ taken s section = record {
   parts = parts_after s section section.part;
 }
 
--- the sections before it after which it has to come in time: those of its part, where its table has parts, and else those of its table
+-- the earlier sections that it has to follow in time: the sections of its part, if its table has parts, otherwise the sections of its table
 unfoldable pub part_before : IntervalState → SectionBegin → Option ℕ → Option SectionPlaces
 part_before s section None = None
 part_before s section (Some part) = part_places_at s (part_key section part)

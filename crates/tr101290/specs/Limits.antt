@@ -1,8 +1,8 @@
--- How often tables have to come, in milliseconds.
+-- The longest intervals of tables, in milliseconds.
 --
 -- ETSI TR 101 290, 5.2.1, 1.3.a (PAT) and 1.5.a (PMT); 5.2.3, 3.1.a and 3.1.b (NIT of the actual network and of others), 3.5.a
--- and 3.5.b (SDT of the actual stream and of others), 3.6.a and 3.6.b (EIT of present and following events, of both), 3.8
--- (TDT). Where that says "10 s or higher" it is 10 s, as in ETSI TR 101 211, 4.4, which has BAT and TOT too.
+-- and 3.5.b (SDT of the actual stream and of others), 3.6.a and 3.6.b (EIT of present and following events, actual and other), 3.8
+-- (TDT). Where TR 101 290 says "10 s or higher" it is 10 s, as in ETSI TR 101 211, 4.4, which has BAT and TOT too.
 use Rattle.std.specs.Prelude.{ℕ, ◌*◌, ◌==◌, ◌&&◌, ◌||◌, if◌then◌else◌, Option, Some, None}
 use Rattle.std.specs.Option.{option_map}
 

@@ -1,6 +1,6 @@
 -- What two or three references of a PID in a row give (ISO/IEC 13818-1, 2.4.2.2, 2.4.3.5 and 2.7.2).
 --
--- A line has the bytes and the ticks between two references on which the clock goes on.
+-- A line has the bytes and the ticks between two references between which the clock runs on.
 use Rattle.std.specs.Prelude.{ℕ, ◌+◌, ◌-◌, ◌*◌, ◌/◌, ◌%◌, min, Option, Some, None}
 use Rattle.std.specs.Option.{option_map}
 use Rattle.clock27.specs.Units.{byte_ticks_at_1bps}
@@ -23,8 +23,8 @@ rounded_up a b = a / b + min 1 (a % b)
 abbrev pub rate_on : Line → ℕ
 rate_on line = line.bytes * byte_ticks_at_1bps / line.ticks
 
--- 2. The time from one reference to the next, in ticks, rounded up: at a constant rate that of the bytes between, whatever
--- the clock does; else the ticks between their values, where the clock goes on
+-- 2. The time from one reference to the next, in ticks, rounded up: at a constant rate the time of the bytes between them,
+-- whatever the clock does; otherwise the ticks between their values, if the clock runs on
 
 abbrev pub time_of_bytes : ℕ → ℕ → ℕ
 time_of_bytes rate bytes = rounded_up (bytes * byte_ticks_at_1bps) rate
@@ -38,28 +38,28 @@ unfoldable pub interval_after : PcrTiming → Option TimedSample → PcrSample �
 interval_after timing None sample line = None
 interval_after timing (Some before) sample line = interval_from timing before.sample sample line
 
--- 3. How far the value of a reference lies from an even clock through the one before it, on which `bytes` bytes take
--- `ticks`: earlier or later, in parts of a tick, of which `bytes` are a tick
+-- 3. How far the value of a reference lies from an even clock through the reference before it, in which `bytes` bytes take
+-- `ticks`: earlier or later, in parts of a tick, `bytes` to a tick
 
 abbrev pub parts_off : Line → ℕ → ℕ → ℕ
 parts_off line bytes ticks = (line.ticks * bytes - line.bytes * ticks) + (line.bytes * ticks - line.ticks * bytes)
 
--- in nanoseconds, of which 1,000 are 27 ticks, rounded up
+-- in nanoseconds, rounded up; 1,000 ns are 27 ticks
 abbrev pub nanoseconds_off : Line → ℕ → ℕ → ℕ
 nanoseconds_off line bytes ticks = rounded_up (parts_off line bytes ticks * 1000) (27 * bytes)
 
--- at a constant rate, of a reference on whose line the clock goes on
+-- the inaccuracy of a reference at a constant rate, if the clock runs on along its line
 abbrev pub off_rate : ℕ → Line → Inaccuracy
 off_rate rate line = record { byte = line.byte + line.bytes; nanoseconds = nanoseconds_off line rate byte_ticks_at_1bps }
 
--- of the reference between two lines, from the line through the one before it and the one after it
+-- the inaccuracy of the reference between two lines, from the line through the references before and after it
 abbrev pub off_neighbours : Line → Line → Inaccuracy
 off_neighbours before line = record {
   byte = before.byte + before.bytes;
   nanoseconds = nanoseconds_off before (before.bytes + line.bytes) (before.ticks + line.ticks);
 }
 
--- and if packets arrive by stamps, none: between references they come at no even rate (ETSI TR 101 290, 5.2.2: at a constant bit rate only)
+-- none if packets arrive by stamps: between references they come at no even rate (ETSI TR 101 290, 5.2.2: at a constant bit rate only)
 unfoldable pub inaccuracy_by : PcrTiming → Option Line → Option Line → Option Inaccuracy
 inaccuracy_by timing before None = None
 inaccuracy_by (ConstantRate rate) before (Some line) = Some (off_rate rate line)
@@ -67,7 +67,7 @@ inaccuracy_by References None (Some line) = None
 inaccuracy_by References (Some before) (Some line) = Some (off_neighbours before line)
 inaccuracy_by Stamps before (Some line) = None
 
--- 4. The report on a reference after those before it, of which the clock's state is
+-- 4. The report on a reference, by the state of the clock that the references before it leave
 
 abbrev pub report_by : PcrTiming → ClockState → PcrSample → ClockStep → PcrReport
 report_by timing clock sample step = record {

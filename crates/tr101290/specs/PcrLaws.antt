@@ -15,15 +15,15 @@ use Rattle.tr101290.specs.declared.report.PcrReport.{PcrReport}
 abbrev pub RoundedUpLaw : Type 0
 RoundedUpLaw = (limit a b : ℕ) → 0 < b → (limit < rounded_up a b) ↔ (limit * b < a)
 
--- so bytes take more than 100 ms exactly where they do in whole numbers
+-- bytes take more than 100 ms exactly if they do so in whole numbers
 abbrev pub IntervalLaw : Type 0
 IntervalLaw = (rate bytes : ℕ) → 0 < rate → (2700000 < time_of_bytes rate bytes) ↔ (2700000 * rate < bytes * byte_ticks_at_1bps)
 
--- and a reference is inaccurate by more than 500 ns exactly where it is so by more than 27 half ticks
+-- a reference is inaccurate by more than 500 ns exactly if it is inaccurate by more than 27 half ticks
 abbrev pub InaccuracyLaw : Type 0
 InaccuracyLaw = (line : Line) (bytes ticks : ℕ) → 0 < bytes → (500 < nanoseconds_off line bytes ticks) ↔ (27 * bytes < 2 * parts_off line bytes ticks)
 
--- its parts are those between its moment and its arrival on the line of the even clock through the one before it
+-- the parts lie between its moment and its arrival on the line of the even clock through the reference before it
 abbrev pub PlaceLaw : Type 0
 PlaceLaw = (line : Line) (bytes ticks : ℕ) →
     let even : Line = record { byte = line.byte; moment = line.moment; bytes = bytes; ticks = ticks } in
@@ -31,7 +31,7 @@ PlaceLaw = (line : Line) (bytes ticks : ℕ) →
     let place : ℕ = parts_at even (line.byte + line.bytes) in
     parts_off line bytes ticks ≡ (value - place) + (place - value)
 
--- a clock of that rate whose values are cut down to whole ticks is accurate: it is off by less than a tick, 38 ns
+-- a clock of that rate whose values are rounded down to whole ticks is accurate: it is off by less than a tick, 38 ns
 abbrev pub WholeTicksLaw : Type 0
 WholeTicksLaw = (rate from line_bytes base : ℕ) (line : Line) → 0 < rate → line.bytes ≡ line_bytes →
     line.ticks + (byte_ticks_at_1bps * from + base) / rate ≡ (byte_ticks_at_1bps * (from + line_bytes) + base) / rate →
@@ -42,14 +42,14 @@ unfoldable pub watch_of : PcrTiming → List PcrSample → PcrState
 watch_of timing [] = no_reference timing
 watch_of timing (sample ∷ earlier) = taken (watch_of timing earlier) sample
 
--- the clock that is kept is the one that the references give: so the report on each is that beside all before it
+-- the clock in the state is the clock that the references give, so each report takes all earlier references into account
 abbrev pub ClockLaw : Type 0
 ClockLaw = (timing : PcrTiming) (samples : List PcrSample) → ((watch_of timing samples).clock ≡ state_of samples) × ((watch_of timing samples).timing ≡ timing)
 
--- what is given of accuracy errors, with what is given at the end: all that were held and all later ones, or none where the rate varies
+-- the accuracy errors that are given, at the end too: all held errors and all later errors, or none if the rate varies
 abbrev pub JudgedFrom : JudgeState → List (ℕ × PcrReport) → Type 0
 JudgedFrom s rs = errors_all s rs ++ last_errors (after_all s rs) ≡ if_constant (after_all s rs) (s.held ++ all_errors rs)
 
--- so of a whole stream all accuracy errors are given, or none: peaks are not lost, and where the rate varies no error is given
+-- for a whole stream either all accuracy errors are given or none: no peak is lost, and if the rate varies no error is given
 abbrev pub JudgeLaw : Type 0
 JudgeLaw = (rs : List (ℕ × PcrReport)) → JudgedFrom no_rate rs

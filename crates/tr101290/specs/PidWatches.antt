@@ -11,7 +11,7 @@ use Rattle.tr101290.specs.Measures.{report_after}
 use Rattle.tr101290.specs.Watches.{PcrState, no_reference}
 use Rattle.tr101290.specs.Watches as watch
 
--- by what references are measured, and the watches of the PIDs that have had one, in the order of the first
+-- how references are measured, and the watches of the PIDs with references, in the order of their first references
 pub record WatchesState : Type 0 where
   pub timing : PcrTiming
   pub watches : List (ℕ × PcrState)

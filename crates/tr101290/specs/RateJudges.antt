@@ -1,5 +1,5 @@
--- Whether the clock references of a stream say that its rate is constant. Between two references bytes come at the rate that the two give (ISO/IEC
--- 13818-1, 2.4.2.2): how far one lies from its place (ETSI TR 101 290, 5.2.2, 2.4) can be told only where that rate is the same before and after it.
+-- Whether the clock references of a stream give a constant rate. Between two references bytes come at the rate that the two give (ISO/IEC
+-- 13818-1, 2.4.2.2): the inaccuracy of a reference (ETSI TR 101 290, 5.2.2, 2.4) is known only if that rate is the same before and after it.
 use Rattle.std.specs.Prelude.{ℕ, ◌+◌, ◌-◌, ◌*◌, ◌/◌, ◌^◌, ◌||◌, min, nat_le, nat_lt, Bool, if◌then◌else◌, List, [], ◌∷◌, ◌++◌, Option, Some, None}
 use Rattle.tr101290.specs.Errors.{accuracy_error}
 use Rattle.tr101290.specs.declared.rate_judge.PidError.{PidError}
@@ -17,14 +17,14 @@ pub record JudgeState : Type 0 where
 abbrev pub no_rate : JudgeState
 no_rate = record { rate = None; pairs = 0; apart = 0; held = [] }
 
--- the lesser is more than a fiftieth below the greater
+-- whether the lesser rate is more than a fiftieth below the greater
 abbrev pub are_apart : ℕ → ℕ → Bool
 are_apart a b = nat_lt b (a - a / 50) || nat_lt a (b - b / 50)
 
 abbrev pub one_if : Bool → ℕ
 one_if b = if b then 1 else 0
 
--- the last rate after a reference, which may give none; one pair more; and one that is apart
+-- the last rate after a reference, which may give none; the number of pairs that it adds, and of pairs that are apart
 unfoldable pub rate_after : Option ℕ → Option ℕ → Option ℕ
 rate_after before None = before
 rate_after before (Some rate) = Some rate
@@ -47,7 +47,7 @@ with_rate s rate = record {
   held = s.held;
 }
 
--- it is decided after 32 pairs: the rate varies if more than half of them are apart
+-- the question is decided after 32 pairs: the rate varies if more than half of the pairs are apart
 abbrev pub is_decided : JudgeState → Bool
 is_decided s = nat_le PAIRS s.pairs
 
@@ -64,7 +64,7 @@ error_list pid (Some error) = record { pid = pid; error = error } ∷ []
 abbrev pub holding : JudgeState → ℕ → Option PcrError → JudgeState
 holding s pid error = record { rate = s.rate; pairs = s.pairs; apart = s.apart; held = s.held ++ error_list pid error }
 
--- what is held is given once it is decided
+-- the held errors are given as soon as the question is decided
 abbrev pub settled : JudgeState → JudgeState
 settled s = if is_decided s then record { rate = s.rate; pairs = s.pairs; apart = s.apart; held = [] } else s
 

@@ -4,19 +4,19 @@ use Rattle.std.specs.Prelude.{ℕ, ◌==◌, if◌then◌else◌, List, [], ◌�
 use Rattle.program_tables.specs.Association.{AssociationView, association}
 use Rattle.stream_programs.specs.Programs.{FoundProgramView, FoundProgramsView}
 use Rattle.stream_programs.specs.StrayPids.{mapped_pids}
-use Rattle.demux.specs.Views.{FindingView}
+use Rattle.pid_findings.specs.Views.{FindingView}
 use Rattle.ts_tables.specs.NamedStreams.{NamedView}
 
 -- the PID of a program's clock references; 8191 says that it has none
 abbrev pub clock_pid : FoundProgramView → List ℕ
 clock_pid program = if program.pcr_pid == 8191 then [] else program.pcr_pid ∷ []
 
--- those of the maps, also of programs that have none
+-- the PIDs of program maps, also of programs without a map
 unfoldable pub map_pids : Option AssociationView → List ℕ
 map_pids None = []
 map_pids (Some table) = map (λ p. p.pid) table.programs
 
--- streams, also those that are left out, then clock references, then maps
+-- the PIDs of streams, left out or not, then of clock references, then of maps
 abbrev pub pids_of : Option AssociationView → FoundProgramsView → List ℕ
 pids_of table found = (mapped_pids found ++ flat_map clock_pid found.programs) ++ map_pids table
 

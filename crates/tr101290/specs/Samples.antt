@@ -12,7 +12,7 @@ sample_of index discontinuity pcr = record {
   discontinuity = discontinuity;
 }
 
--- that byte is one of the first 2^40
+-- whether that byte lies in the first 2^40
 abbrev pub is_near : ℕ → Bool
 is_near index = nat_le (188 * index + 10) (2 ^ 40)
 

@@ -1,10 +1,10 @@
--- Where sections begin, by what is found in a stream: in the packet that has their table_id, whether or not they become whole. Which part of
--- their table they are is known once they are whole.
+-- Where sections begin, by the findings in a stream: in the packet that has their table_id, whether or not they become whole. The part of its
+-- table that a section is becomes known when the section is whole.
 use Rattle.std.specs.Prelude.{ℕ, ◌+◌, ◌*◌, nat_lt, if◌then◌else◌, List, slice_index, Option, Some, None}
-use Rattle.demux.specs.declared.finding.Kind.{Kind}
-use Rattle.demux.specs.declared.finding.Kind.TheVariants.{Table, Pes}
-use Rattle.demux.specs.Views.{FindingView, WhatView, IsDuplicate, BreaksCounter, IsScrambled, IsTruncated, IsSection, IsBadSection, IsPes, IsBadPes}
-use Rattle.demux.specs.Views.{IsBadPacket, IsErrored, IsStray}
+use Rattle.pid_findings.specs.declared.finding.Kind.{Kind}
+use Rattle.pid_findings.specs.declared.finding.Kind.TheVariants.{Table, Pes}
+use Rattle.pid_findings.specs.Views.{FindingView, WhatView, IsDuplicate, BreaksCounter, IsScrambled, IsTruncated, IsSection, IsBadSection, IsPes, IsBadPes}
+use Rattle.pid_findings.specs.Views.{IsBadPacket, IsErrored, IsStray}
 use Rattle.tr101290.specs.Parts.{part_of}
 use Rattle.tr101290.specs.declared.distances.WholeSection.{WholeSection}
 use Rattle.tr101290.specs.declared.intervals.SectionBegin.{SectionBegin}
@@ -21,7 +21,7 @@ section_by (Some pid) (Some begun) what = begin_of pid begun.0 begun.1 what
 abbrev pub section_begin : FindingView → Option SectionBegin
 section_begin finding = section_by finding.pid finding.begun finding.what
 
--- a section that is whole, with its table_id_extension, bytes 3 and 4, where section_syntax_indicator is 1 (ISO/IEC 13818-1, 2.4.4.11)
+-- the table_id_extension of a whole section: bytes 3 and 4, if section_syntax_indicator is 1 (ISO/IEC 13818-1, 2.4.4.11)
 abbrev pub extension_in : List ℕ → ℕ
 extension_in bytes = if nat_lt (slice_index bytes 1) 128 then 0 else slice_index bytes 3 * 256 + slice_index bytes 4
 

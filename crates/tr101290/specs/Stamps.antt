@@ -46,7 +46,7 @@ no_stamp timing = record { timing = timing; lasts = [] }
 abbrev pub taken : StampState → ℕ → PacketView → StampState
 taken s place packet = if has_pts packet then record { timing = s.timing; lasts = insert_entry nat_eq s.lasts packet.header.pid place } else s
 
--- the time since the one before it, in ticks of 27 MHz, rounded up, beyond 700 ms
+-- the time since the PTS before it, in ticks of 27 MHz, rounded up, if it is beyond 700 ms
 abbrev pub apart : TableTiming → ℕ → ℕ → ℕ
 apart timing place before = time_between timing (place - before)
 

@@ -7,7 +7,7 @@ use Rattle.tr101290.specs.declared.counts.PcrCounts.{PcrCounts}
 use Rattle.tr101290.specs.Measures.{report_after}
 use Rattle.tr101290.specs.Counts.{none_counted, counted}
 
--- by what references are measured, the clock that they give, and the counts of the reports on them
+-- how references are measured, the clock that they give, and the counts of the reports on them
 pub record PcrState : Type 0 where
   pub timing : PcrTiming
   pub clock : ClockState

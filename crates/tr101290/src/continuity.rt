@@ -3,18 +3,17 @@ ghost use Rattle.std.specs.Prelude.{◌≡◌, ◌<◌, [], IfOk, None, OnOk, Op
 ghost use Rattle.std.specs.Prelude.{nat_eq};
 ghost use Rattle.std.specs.Map.{lookup};
 ghost use Rattle.indexmap.specs.IndexMap.{index_map_len, insert_entry, set_value_at, values};
-ghost use Rattle.demux.specs.Marks.{LastView, break_at, mark, seen};
-ghost use Rattle.demux.specs.Shown.{entry_with, mark_broken};
+ghost use Rattle.pid_findings.specs.Marks.{LastView, break_at, mark, seen};
+ghost use Rattle.pid_findings.specs.Shown.{entry_with, mark_broken};
 ghost use Rattle.tr101290.specs.Continuity as spec;
 
-use demux::{Last, Mark, keep, mark_of};
+use pid_findings::{Last, Mark, keep, mark_of};
 use pid_map::PidMap;
 use std::alloc::{AllocError, Allocator};
 use std::marker::Model;
 use ts_packet::Packet;
 
-/// A packet whose continuity_counter does not follow: the packet's index, the counter that had to come, and the one
-/// that came.
+/// A packet whose continuity_counter is wrong: the packet's index, the counter expected, and the counter found.
 #[derive(Clone, Copy, PartialEq, Eq)]
 pub struct ContinuityError {
     pub pid: u16,
@@ -55,7 +54,7 @@ fn error_by(pid: u16, packet: u64, mark: Mark) -> Option<ContinuityError>
 }
 
 // Marks a packet of the PID at an index, and keeps it.
-#[tactic(auto, unfolding(demux::specs::Marks::mark))]
+#[tactic(auto, unfolding(pid_findings::specs::Marks::mark))]
 fn step_at<A: Allocator>(
     lasts: &mut PidMap<Option<Last>, A>,
     at: usize,
@@ -77,7 +76,7 @@ fn step_at<A: Allocator>(
 
 // Keeps the first packet of a PID. A call of its own: few packets need it.
 #[inline(never)]
-#[tactic(auto, unfolding(demux::specs::Marks::mark, demux::specs::Marks::is_repeat, demux::specs::Marks::break_at))]
+#[tactic(auto, unfolding(pid_findings::specs::Marks::mark, pid_findings::specs::Marks::is_repeat, pid_findings::specs::Marks::break_at))]
 fn begin<A: Allocator + Clone>(
     lasts: &mut PidMap<Option<Last>, A>,
     index: u64,
@@ -107,7 +106,7 @@ impl<A: Allocator + Copy> ContinuityWatch<A> {
     /// one.
     ///
     /// After an `AllocError` nothing is known of the PID: drop the watch.
-    #[tactic(auto, unfolding(crate::specs::Continuity::after, crate::specs::Continuity::error_at, demux::specs::Marks::break_at), using(crate::proofs::LastPackets::last_there, crate::proofs::LastPackets::kept_there))]
+    #[tactic(auto, unfolding(crate::specs::Continuity::after, crate::specs::Continuity::error_at, pid_findings::specs::Marks::break_at), using(crate::proofs::LastPackets::last_there, crate::proofs::LastPackets::kept_there))]
     pub fn take(
         &mut self,
         index: u64,

@@ -51,7 +51,7 @@ fn nanoseconds_in(inaccuracy: &Option<Inaccuracy>) -> u128
     }
 }
 
-// The bytes and ticks on which the clock goes on.
+// Returns the bytes and ticks of a step on which the clock continues; 0 for any other step.
 #[tactic(auto, unfolding(crate::specs::Counts::line_bytes, crate::specs::Counts::line_ticks))]
 fn line_size(step: &ClockStep) -> (u64, u64)
     ensures bytes { result.0 ≡ spec.line_bytes step.now }

@@ -46,14 +46,14 @@ impl<A: Allocator> Model for SectionDistances<A> {
     ghost view = { λ d. record { timing = d.timing; ends = d.ends.entries } };
 }
 
-// Whether sections may not follow each other at once.
+// Returns whether sections may not follow each other at once.
 fn is_spaced(pid: u16, table_id: u8) -> bool
     ensures { result ≡ spec.is_spaced pid table_id }
 {
     pid >= 0x10 && pid <= 0x14 && table_id >= 0x40 && table_id <= 0x73 && table_id != 0x72
 }
 
-// The key of a section.
+// Returns the key of a section.
 fn extension_key(section: WholeSection) -> u64
     ensures { result ≡ spec.extension_key section }
 {
@@ -78,7 +78,7 @@ pub fn time_within(timing: TableTiming, places: u64) -> u128
     }
 }
 
-// A section that begins too soon after one that ended there.
+// Returns the error of a section that begins too soon after the section before it, which ended at `before`.
 #[tactic(auto, unfolding(crate::specs::Distances::too_soon))]
 fn too_soon(timing: TableTiming, section: &WholeSection, before: Option<u64>) -> Option<TableError>
     ensures { result ≡ spec.too_soon timing section.now before }

@@ -12,8 +12,8 @@ pub fn intervals()
     ensures times { TimeLaw }
 {}
 
-/// States that the continuity errors of a PID are those that the demultiplexer marks in the row of its packets,
-/// whatever packets of other PIDs come between.
+/// States that the continuity errors of a PID are the breaks that the demultiplexer marks in the row of its packets,
+/// whatever packets of other PIDs lie between them.
 pub fn continuity()
     ensures { ContinuityLaw }
 {}

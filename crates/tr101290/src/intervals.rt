@@ -60,7 +60,7 @@ pub type TableEntries<A> = IndexMap<u32, SectionPlaces, BuildHasherDefault<FoldH
 /// Sections by PID, table_id and part.
 type PartEntries<A> = IndexMap<u64, SectionPlaces, BuildHasherDefault<FoldHasher>, A>;
 
-/// The sections of a stream as far as they have come.
+/// The sections of a stream so far.
 #[derive(Drop)]
 pub struct TableIntervals<A: Allocator> {
     timing: TableTiming,
@@ -83,7 +83,7 @@ pub fn key_of(pid: u16, table_id: u8) -> u32
     u32::from(pid) * 256 + u32::from(table_id)
 }
 
-// The key of a section's part.
+// Returns the key of a section's part.
 fn part_key(section: SectionBegin, part: u16) -> u64
     ensures { result ≡ spec.part_key section part }
 {
@@ -104,7 +104,7 @@ pub fn table_id_of(key: u32) -> u8
     (key % 256) as u8
 }
 
-// The time of packets at a rate, in ticks, rounded up.
+// Returns the time of packets at a rate, in ticks, rounded up.
 fn time_of_packets(rate: Rate, packets: u64) -> u128
     ensures { result ≡ spec.time_of_packets rate packets }
 {
@@ -122,7 +122,7 @@ pub fn time_between(timing: TableTiming, places: u64) -> u128
     }
 }
 
-// After a section.
+// Returns the places after a section.
 #[tactic(auto, unfolding(crate::specs::Intervals::places_after))]
 fn places_after(before: &Option<SectionPlaces>, section: SectionBegin) -> SectionPlaces
     ensures { result ≡ spec.places_after before.now section }
@@ -147,7 +147,7 @@ fn places_after(before: &Option<SectionPlaces>, section: SectionBegin) -> Sectio
     }
 }
 
-// A time that is beyond its limit.
+// Returns the error of a time that is beyond its limit.
 fn beyond(section: SectionBegin, value: u128, limit: u64) -> Option<TableError>
     ensures { result ≡ spec.beyond section value limit }
 {
@@ -162,7 +162,7 @@ fn beyond(section: SectionBegin, value: u128, limit: u64) -> Option<TableError>
     }
 }
 
-// Whether a section begins too long after the one before it.
+// Returns the error of a section that begins too long after the section before it.
 #[tactic(auto, unfolding(crate::specs::Intervals::error_if))]
 fn error_if(
     timing: TableTiming,
@@ -225,7 +225,7 @@ impl<A: Allocator + Copy> TableIntervals<A> {
         &self.entries
     }
 
-    // The sections of a part before this one.
+    // Returns the sections of a part before this one.
     #[tactic(auto, unfolding(crate::specs::Intervals::part_before))]
     fn part_before(&self, section: SectionBegin) -> Option<SectionPlaces>
         ensures { result ≡ spec.part_before self.now section section.part }
@@ -236,7 +236,7 @@ impl<A: Allocator + Copy> TableIntervals<A> {
         }
     }
 
-    // The sections before this one after which it has to come in time.
+    // Returns the earlier sections after which this section has to recur in time.
     fn before_in(&self, section: SectionBegin) -> Option<SectionPlaces>
         ensures { result ≡ spec.before_in self.now section }
     {
@@ -247,7 +247,7 @@ impl<A: Allocator + Copy> TableIntervals<A> {
         }
     }
 
-    // A section is one of its part, if it has one.
+    // Takes a section as a section of its part, if it has a part.
     #[tactic(auto, unfolding(crate::specs::Intervals::parts_after))]
     fn take_part(&mut self, section: SectionBegin) -> Result<(), AllocError>
         ensures { OnOk result (self.new ≡ spec.with_part self.old section) }

@@ -5,17 +5,19 @@
 //! - [`pcr_sample`]: the reference of a packet.
 //! - [`PcrWatches`]: takes the packets of a stream, and gives a report on each reference: one [`PcrWatch`] a PID is kept.
 //! - [`PcrReport`]: where the clock continues or restarts, the rate that two references give, the time between them, how
-//!   far one lies from where it ought to; and which of these is an error. [`PcrCounts`]: reports counted, with their greatest values.
+//!   far a reference is from its exact value; and the errors among them. [`PcrCounts`]: reports counted, with their
+//!   greatest values.
 //! - [`RateJudge`]: whether the references say that the rate is constant; without it their accuracy says nothing.
 //! - [`pcr_laws`]: there is an error exactly where the exact value is beyond its limit.
 //!
 //! Tables (also ETSI TR 101 211, 4.4): the greatest time from one section of a table_id on a PID to the next, and which
 //! of these times are too long:
 //!
-//! - [`TableIntervals`]: takes where sections begin ([`section_begin`]); keeps one entry for each PID and table_id, and one for each
-//!   part of a table whose parts have to come again by themselves ([`has_parts`]), whatever the length of the stream.
-//! - [`limit_of`]: the time within which a table has to come again.
-//! - [`SectionDistances`]: takes whole sections ([`whole_section`]), and finds those that begin within 25 ms after the one before.
+//! - [`TableIntervals`]: takes where sections begin ([`section_begin`]); keeps an entry for each PID and table_id, and for
+//!   each part of a table whose parts have to recur by themselves ([`has_parts`]), whatever the length of the stream.
+//! - [`limit_of`]: the time within which a table has to recur.
+//! - [`SectionDistances`]: takes whole sections ([`whole_section`]), and finds sections that begin within 25 ms after
+//!   the section before.
 //! - [`belongs`]: which tables may be on a PID.
 //! - [`interval_laws`]: an entry describes all sections of its PID and table_id.
 //!
@@ -28,11 +30,11 @@
 //!   table 2-3; ETSI EN 300 468, table 1), and 8,191 null packets: no table has to name them. PIDs that CA descriptors or the CAT
 //!   alone name are not counted as named.
 //!
-//! Presentation time stamps (2.5): [`PtsWatch`] finds those that come more than 700 ms after the one before.
+//! Presentation time stamps (2.5): [`PtsWatch`] finds a PTS more than 700 ms after the PTS before.
 //!
 //! Times are ticks of 27 MHz, of tables also packets (a packet lasts 40,608,000,000 / R ticks at R bits a second),
-//! inaccuracies nanoseconds. They are rounded up, so that a value is beyond a whole limit exactly where the exact one
-//! is; a rate is rounded down.
+//! inaccuracies nanoseconds. They are rounded up, so that a value is beyond a whole limit exactly where the exact
+//! value is; a rate is rounded down.
 #![tactic(auto)]
 
 mod continuity;

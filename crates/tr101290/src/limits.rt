@@ -5,7 +5,7 @@ ghost use Rattle.tr101290.specs.Limits as spec;
 // Ticks of 27 MHz in a millisecond.
 const TICKS_PER_MS: u64 = 27_000;
 
-// The milliseconds within which sections of a table_id follow each other on a PID.
+// Returns the milliseconds within which sections of a table_id follow each other on a PID.
 #[tactic(auto, unfolding(crate::specs::Limits::milliseconds))]
 fn milliseconds(pid: u16, table_id: u8) -> Option<u16>
     ensures { result ≡ spec.milliseconds pid table_id }

@@ -17,7 +17,7 @@ pub(crate) fn rate_on(line: &Line) -> u128
     u128::from(line.bytes) * BYTE_TICKS_AT_1BPS / u128::from(line.ticks)
 }
 
-// The time of bytes at a constant rate, in ticks, rounded up.
+// Returns the time of bytes at a constant rate, in ticks, rounded up.
 fn time_of_bytes(rate: Rate, bytes: u64) -> u128
     ensures { result ≡ spec.time_of_bytes rate bytes }
 {
@@ -46,7 +46,7 @@ pub(crate) fn interval_after(
     }
 }
 
-// How far a reference lies from an even clock through the one before it, in nanoseconds, rounded up.
+// Returns how far a reference is from an even clock through the reference before, in nanoseconds, rounded up.
 fn nanoseconds_off(line: &Line, bytes: u64, ticks: u64) -> u128
     requires line { IsClockLine line.now }
     requires some { 0 < bytes }

@@ -4,15 +4,17 @@ ghost use Rattle.tr101290.specs.Packets as spec;
 
 use pid_windows::PidEntries;
 use std::alloc::{AllocError, Global};
+use stream_programs::PidList;
 
-// Whether a PID is one of these.
-fn is_among(pid: u16, pids: &[u16]) -> bool
+// Returns whether a PID is in a list.
+#[tactic(auto, unfolding(stream_programs::specs::FreePids::is_taken))]
+fn is_among(pid: u16, pids: &PidList<Global>) -> bool
     ensures { result ≡ spec.is_among pid pids.now }
 {
-    pids.iter().any(|other| *other == pid)
+    pids.has(pid)
 }
 
-// Whether no table has to name a PID.
+// Returns whether no table has to name a PID.
 fn is_reserved(pid: u16) -> bool
     ensures { result ≡ spec.is_reserved pid }
 {
@@ -20,7 +22,11 @@ fn is_reserved(pid: u16) -> bool
 }
 
 // Appends a PID with packets that has to be named and is not.
-fn push_unreferenced(referenced: &[u16], pid: u16, pids: &mut Vec<u16>) -> Result<(), AllocError>
+fn push_unreferenced(
+    referenced: &PidList<Global>,
+    pid: u16,
+    pids: &mut Vec<u16>,
+) -> Result<(), AllocError>
     ensures { OnOk result (pids.new.items ≡ pids.old.items ++ spec.unreferenced referenced.now pid) }
 {
     if !is_reserved(pid) && !is_among(pid, referenced) {
@@ -29,10 +35,10 @@ fn push_unreferenced(referenced: &[u16], pid: u16, pids: &mut Vec<u16>) -> Resul
     Ok(())
 }
 
-/// Returns the PIDs with packets that tables have to name and do not, in the order of their first packets.
-pub fn unreferenced_pids(
+// Returns the PIDs with packets that have to be in a list and are not.
+fn unreferenced_by(
     alloc: Global,
-    referenced: &[u16],
+    referenced: &PidList<Global>,
     packets: &PidEntries<Global>,
 ) -> Result<Vec<u16>, AllocError>
     ensures { IfOk result (λ pids. pids.items ≡ spec.unreferenced_pids referenced.now packets.now.entries) }
@@ -44,16 +50,28 @@ pub fn unreferenced_pids(
     Ok(pids)
 }
 
+/// Returns the PIDs with packets that tables have to name and do not, in the order of their first packets.
+pub fn unreferenced_pids(
+    alloc: Global,
+    referenced: &[u16],
+    packets: &PidEntries<Global>,
+) -> Result<Vec<u16>, AllocError>
+    ensures { IfOk result (λ pids. pids.items ≡ spec.unreferenced_pids referenced.now packets.now.entries) }
+{
+    let referenced = PidList::of(alloc, referenced)?;
+    unreferenced_by(alloc, &referenced, packets)
+}
+
 // Appends a PID that has no packet, once.
 fn push_missing(
     packets: &PidEntries<Global>,
     pid: u16,
-    pids: &mut Vec<u16>,
+    pids: &mut PidList<Global>,
 ) -> Result<(), AllocError>
-    ensures { OnOk result (pids.new.items ≡ spec.with_missing packets.now.entries pids.old.items pid) }
+    ensures { OnOk result (pids.new ≡ spec.with_missing packets.now.entries pids.old pid) }
 {
     if packets.get(&pid).is_none() && !is_among(pid, pids) {
-        pids.push(pid)?;
+        pids.add(pid)?;
     }
     Ok(())
 }
@@ -67,9 +85,9 @@ pub fn missing_pids(
 ) -> Result<Vec<u16>, AllocError>
     ensures { IfOk result (λ pids. pids.items ≡ spec.missing_pids packets.now.entries [] referenced.now) }
 {
-    let mut pids = Vec::new(alloc);
+    let mut pids = PidList::new(alloc);
     for pid in referenced {
         push_missing(packets, *pid, &mut pids)?;
     }
-    Ok(pids)
+    Ok(pids.into_pids())
 }

@@ -1,9 +1,9 @@
-//! The parts of tables that have to come again by themselves.
+//! The parts of tables that have to recur by themselves.
 ghost use Rattle.std.specs.Prelude.{◌≡◌, slice_index};
-ghost use Rattle.demux.specs.Shown.{what_view};
+ghost use Rattle.pid_findings.specs.Shown.{what_view};
 ghost use Rattle.tr101290.specs.Parts as spec;
 
-use demux::What;
+use pid_findings::What;
 use std::alloc::Allocator;
 
 fn is_map(table_id: u8) -> bool
@@ -12,8 +12,8 @@ fn is_map(table_id: u8) -> bool
     table_id == 0x02
 }
 
-/// Returns whether each part of a table has to come again by itself: the map of each program, and each section of an
-/// EIT of present and following events.
+/// Returns whether each part of a table has to recur by itself: the map of each program, and each section of an EIT of
+/// present and following events.
 pub fn has_parts(pid: u16, table_id: u8) -> bool
     ensures { result ≡ spec.has_parts pid table_id }
 {
@@ -30,7 +30,7 @@ pub(crate) fn byte_at(bytes: &[u8], at: usize) -> u8
     }
 }
 
-// program_number of a map, else section_number.
+// Returns program_number of a map, otherwise section_number.
 fn part_in(table_id: u8, bytes: &[u8]) -> u16
     ensures { result ≡ spec.part_in table_id bytes.now }
 {

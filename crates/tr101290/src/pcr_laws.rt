@@ -21,7 +21,7 @@ pub fn references()
     ensures { ClockLaw }
 {}
 
-/// States that of a whole stream all accuracy errors are given if the rate is not said to vary, and none if it is.
+/// States that all accuracy errors of a whole stream are given if its rate is not judged to vary, and none if it is.
 pub fn judged()
     ensures { JudgeLaw }
 {}

@@ -35,14 +35,14 @@ impl Model for RateJudge {
     ghost view = { λ j. record { rate = j.rate; pairs = j.pairs; apart = j.apart; held = j.held.items } };
 }
 
-// Whether the lesser of two rates is more than a fiftieth below the greater.
+// Returns whether the lesser of two rates is more than a fiftieth below the greater.
 fn are_apart(a: u128, b: u128) -> bool
     ensures { result ≡ spec.are_apart a b }
 {
     b < a - a / 50 || a < b - b / 50
 }
 
-// The last rate after a reference, which may give none.
+// Returns the last rate after a reference, which may give none.
 #[tactic(auto, unfolding(crate::specs::RateJudges::rate_after))]
 fn rate_after(before: Option<u128>, rate: Option<u128>) -> Option<u128>
     ensures { result ≡ spec.rate_after before rate }
@@ -53,7 +53,7 @@ fn rate_after(before: Option<u128>, rate: Option<u128>) -> Option<u128>
     }
 }
 
-// Whether two rates are a pair to be compared, as a number.
+// Returns 1 if two rates are a pair to be compared, otherwise 0.
 #[tactic(auto, unfolding(crate::specs::RateJudges::pair_more))]
 fn pair_more(before: Option<u128>, rate: Option<u128>) -> u64
     ensures { result ≡ spec.pair_more before rate }
@@ -64,7 +64,7 @@ fn pair_more(before: Option<u128>, rate: Option<u128>) -> u64
     }
 }
 
-// Whether two rates are a pair that is apart, as a number.
+// Returns 1 if two rates are a pair that is apart, otherwise 0.
 #[tactic(auto, unfolding(crate::specs::RateJudges::apart_more))]
 fn apart_more(before: Option<u128>, rate: Option<u128>) -> u64
     ensures { result ≡ spec.apart_more before rate }

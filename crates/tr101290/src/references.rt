@@ -18,7 +18,7 @@ fn push_maps(programs: &[Program], pids: &mut Vec<u16>) -> Result<(), AllocError
     Ok(())
 }
 
-// The PID of the clock references of a program, if it has some.
+// Returns the PID of the clock references of a program, if it has some.
 fn clock_pid(program: &FoundProgram) -> Option<u16>
     ensures { option_to_list result ≡ spec.clock_pid program.now }
 {

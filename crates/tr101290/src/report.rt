@@ -41,7 +41,7 @@ pub struct PcrReport {
     pub inaccuracy: Option<Inaccuracy>,
 }
 
-// A value that is beyond a limit.
+// Returns the error of a value that is beyond a limit.
 fn beyond(limit: u64, byte: u64, value: u128) -> Option<PcrError>
     ensures { result ≡ spec.beyond limit byte value }
 {
@@ -62,7 +62,8 @@ fn beyond_if(limit: u64, byte: u64, value: Option<u128>) -> Option<PcrError>
     }
 }
 
-// The ticks from the value before to a reference's own, where no discontinuity_indicator stands beside it.
+// Returns the ticks from the value before to a reference's own, unless the reference is the first or is announced by a
+// discontinuity_indicator.
 #[tactic(auto, unfolding(crate::specs::Errors::difference_in))]
 fn difference_in(step: &ClockStep) -> Option<u128>
     ensures { result ≡ spec.difference_in step.now }

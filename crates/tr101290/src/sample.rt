@@ -7,10 +7,10 @@ ghost use Rattle.tr101290.specs.Samples as spec;
 use arrival::PcrSample;
 use ts_packet::{Adaptation, AdaptationField, Packet};
 
-// The last packet whose reference stands within the first 2^40 bytes.
+// The last packet whose reference is within the first 2^40 bytes.
 const LAST_PACKET: u64 = ((1 << 40) - 10) / 188;
 
-// The reference of an adaptation field.
+// Returns the reference of an adaptation field.
 #[tactic(auto, unfolding(crate::specs::Samples::sample_with))]
 fn sample_in_field(index: u64, parts: &AdaptationField<'_>) -> Option<PcrSample>
     ensures value { result ≡ spec.sample_in_field index (field_view parts.now) }

@@ -1,12 +1,12 @@
 //! Where sections begin, by the findings of a stream.
 ghost use Rattle.std.specs.Prelude.{◌≡◌, option_map};
-ghost use Rattle.demux.specs.Shown.{finding_view, what_view};
+ghost use Rattle.pid_findings.specs.Shown.{finding_view, what_view};
 ghost use Rattle.tr101290.specs.Sections as spec;
 
 use crate::distances::WholeSection;
 use crate::intervals::SectionBegin;
 use crate::parts::{byte_at, part_of};
-use demux::{Finding, Kind, What};
+use pid_findings::{Finding, Kind, What};
 use std::alloc::Allocator;
 
 #[tactic(auto, unfolding(crate::specs::Sections::begin_of))]
@@ -42,7 +42,7 @@ pub fn section_begin<A: Allocator>(finding: &Finding<'_, A>) -> Option<SectionBe
     }
 }
 
-// table_id_extension of a section, if it has one, else 0.
+// Returns table_id_extension of a section, if it has one, otherwise 0.
 fn extension_in(bytes: &[u8]) -> u16
     ensures { result ≡ spec.extension_in bytes.now }
 {

@@ -42,7 +42,7 @@ impl<A: Allocator> Model for PtsWatch<A> {
     ghost view = { λ w. record { timing = w.timing; lasts = w.lasts.entries } };
 }
 
-// Whether a stream_id is one of audio or video.
+// Returns whether a stream_id is of audio or video.
 fn is_timed_id(id: u8) -> bool
     ensures { result ≡ spec.is_timed_id id }
 {
@@ -69,7 +69,7 @@ fn by_header(read: Result<(PesHeader, usize), PesError>) -> bool
     }
 }
 
-// Whether a PES packet of audio or video with a PTS begins in a packet.
+// Returns whether a PES packet of audio or video with a PTS begins in a packet.
 #[tactic(auto, unfolding(crate::specs::Stamps::by_payload))]
 fn has_pts(packet: &Packet<'_>) -> bool
     ensures { result ≡ spec.has_pts (packet_view packet.now) }
@@ -127,8 +127,7 @@ impl<A: Allocator + Copy> PtsWatch<A> {
         }
     }
 
-    /// Takes the packet at an index, which comes at a place, and returns the error of its PTS, if it has one that comes
-    /// too late.
+    /// Takes the packet at an index and a place, and returns the error of its PTS, if the PTS is too late.
     ///
     /// After an `AllocError` the watch describes no stream: drop it.
     pub fn take(

@@ -23,7 +23,7 @@ pub enum PcrTiming {
     Stamps,
 }
 
-/// The references of a PID as far as they have come: the last two of them are kept, and counts.
+/// The references of a PID so far: the last two references, and counts.
 #[derive(Clone, Copy)]
 pub struct PcrWatch {
     timing: PcrTiming,

@@ -18,7 +18,7 @@ use ts_packet::Packet;
 /// Watches by PID, in the order of each PID's first reference.
 pub type PcrEntries<A> = IndexMap<u16, PcrWatch, BuildHasherDefault<FoldHasher>, A>;
 
-/// The references of each PID of a stream as far as they have come: one watch a PID is kept.
+/// The references of each PID of a stream so far: a watch a PID.
 #[derive(Drop)]
 pub struct PcrWatches<A: Allocator> {
     timing: PcrTiming,
@@ -33,7 +33,7 @@ impl<A: Allocator> Model for PcrWatches<A> {
     ghost view = { λ w. record { timing = w.timing; watches = w.watches.entries } };
 }
 
-// The watch of a PID.
+// Returns the watch of a PID.
 #[tactic(auto, unfolding(crate::specs::PidWatches::watch_or_new))]
 fn watch_of<A: Allocator>(timing: PcrTiming, watches: &PcrEntries<A>, pid: u16) -> PcrWatch
     ensures { result ≡ spec.watch_or_new timing (lookup (nat_eq pid) watches.now.entries) }

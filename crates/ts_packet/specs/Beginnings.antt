@@ -1,4 +1,4 @@
--- What begins with the first byte of a payload, and what a packet says of it (ISO/IEC 13818-1, 2.4.3.3 and 2.4.3.5).
+-- What begins with the first byte of a payload, and how a packet signals it (ISO/IEC 13818-1, 2.4.3.3 and 2.4.3.5).
 use Rattle.std.specs.Prelude.{ℕ, Bool, true, false, Option, Some, None, if◌then◌else◌}
 use Rattle.ts_packet.specs.declared.start.Start.{Start}
 use Rattle.ts_packet.specs.declared.start.Start.TheVariants.{Continues, Begins, Access}

@@ -33,7 +33,7 @@ PayloadsAgain = (pid : ℕ) (start : Start) (counter : ℕ) (payload : List ℕ)
 abbrev pub StartAgain : Type 0
 StartAgain = (pid : ℕ) (start : Start) (counter : ℕ) (payload : List ℕ) → start_in (payload_view pid start counter payload) ≡ start
 
--- a payload with which no decoder may begin has the stuffing alone before it
+-- a payload where no decoder may begin has only stuffing before it
 abbrev pub WithoutAccess : Type 0
 WithoutAccess = (start : Start) (n : ℕ) → is_access start ≡ false → field_of start n ≡ stuffing_field n
 

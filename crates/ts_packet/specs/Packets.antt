@@ -33,13 +33,13 @@ plain_parts pcr stuffing = record {
   stuffing = replicate stuffing 0xFF;
 }
 
--- an adaptation field of n bytes of stuffing: none, one of length 0, or one without parts
+-- an adaptation field of n bytes of stuffing: none, a field of length 0, or a field without optional parts
 unfoldable pub stuffing_field : ℕ → Option AdaptationView
 stuffing_field zero = None
 stuffing_field (suc zero) = Some NoFlags
 stuffing_field (suc (suc n)) = Some (WithFlags (plain_parts None n))
 
--- one of n bytes with the random_access_indicator, two bytes or more
+-- an adaptation field of n bytes with the random_access_indicator, two bytes or more
 abbrev pub access_field : ℕ → AdaptationView
 access_field n = WithFlags (record (plain_parts None (n - 2)) { random_access_indicator = true })
 
@@ -83,8 +83,8 @@ null_view = record {
 unfoldable pub null_packet : List ℕ
 null_packet = packet_bytes null_view
 
--- the packets of pieces on one PID, one after the other: the first begins so and has this number, from which each counts on;
--- the counter is the number modulo 16
+-- the packets of pieces on one PID, in order: the first has this start and this number, and each next packet has the next number;
+-- continuity_counter is the number modulo 16
 unfoldable pub packets : ℕ → Start → ℕ → List (List ℕ) → List ℕ
 packets pid start number [] = []
 packets pid start number (piece ∷ pieces) = payload_packet pid start (number % 16) piece ++ packets pid Continues (number + 1) pieces

@@ -1,4 +1,4 @@
--- Where a program clock reference stands in a packet, and comparing packets but for it.
+-- The place of a program clock reference in a packet, and comparing packets without it.
 use Rattle.std.specs.Prelude.{◌≡◌, ℕ, ◌+◌, Bool, true, false, List, ◌++◌, take, drop, Option, Some, is_some}
 use Rattle.clock27.specs.Reference.{Reference}
 use Rattle.ts_packet.specs.Views.{FieldView, AdaptationView, WithFlags, PacketView}
@@ -21,7 +21,7 @@ has_pcr _ = false
 abbrev pub pcr_bytes : List ℕ → List ℕ
 pcr_bytes bytes = take pcr_size (drop pcr_offset bytes)
 
--- the bytes of a packet but those of its program clock reference, if it has one: all that a duplicate repeats (2.4.3.3)
+-- the bytes of a packet without its program clock reference, if it has one: all that a duplicate repeats (2.4.3.3)
 unfoldable pub without_pcr : Bool → List ℕ → List ℕ
 without_pcr true bytes = take pcr_offset bytes ++ drop (pcr_offset + pcr_size) bytes
 without_pcr false bytes = bytes

@@ -1,4 +1,4 @@
--- The packets of a byte stream, and those of one PID.
+-- The packets of a byte stream, and its packets of one PID.
 use Rattle.std.specs.Prelude.{ℕ, ◌/◌, ◌==◌, ◌&&◌, not, Bool, List, [], length, map, filter, Option, Some, None, unwrap_or, Result, Ok, Err}
 use Rattle.std.specs.List.{concat, enumerate_from, filter_map}
 use Rattle.std.specs.Simd.{first_chunks}
@@ -10,7 +10,7 @@ use Rattle.ts_packet.specs.Reading.{packet_at}
 abbrev pub cut_packets : List ℕ → List (List ℕ)
 cut_packets bytes = first_chunks 188 (length bytes / 188) bytes
 
--- a packet of a byte stream: its index, its 188 bytes and what they say
+-- a packet of a byte stream: its index, its 188 bytes and the packet that they encode
 pub record Entry : Type 0 where
   pub index : ℕ
   pub bytes : List ℕ
@@ -33,7 +33,7 @@ is_of_pid pid packet = (packet.header.pid == pid) && not packet.header.transport
 abbrev pub pid_list : ℕ → List ℕ → List Entry
 pid_list pid bytes = filter (λ entry. is_of_pid pid entry.packet) (entries_of bytes)
 
--- the payload of a packet, no bytes where it has none
+-- the payload of a packet, no bytes if it has none
 abbrev pub payload_of : PacketView → List ℕ
 payload_of packet = unwrap_or packet.payload []
 

@@ -17,18 +17,18 @@ reference_of bytes = record {
   extension = slice_index bytes 4 % 2 * 256 + slice_index bytes 5;
 }
 
--- a clock reference where its flag is set, and the bytes after it
+-- a clock reference if its flag is set, and the bytes after it
 unfoldable pub reference_at : Bool → List ℕ → Result (Option Reference × List ℕ) PacketError
 reference_at false bytes = Ok (None, bytes)
 reference_at true bytes = if nat_lt (length bytes) 6 then Err PartTooLong else Ok (Some (reference_of (take 6 bytes)), drop 6 bytes)
 
--- splice_countdown where its flag is set, and the bytes after it
+-- splice_countdown if its flag is set, and the bytes after it
 unfoldable pub countdown_at : Bool → List ℕ → Result (Option ℤ × List ℕ) PacketError
 countdown_at false bytes = Ok (None, bytes)
 countdown_at true [] = Err PartTooLong
 countdown_at true (byte ∷ bytes) = Ok (Some (cast_signed w8 byte), bytes)
 
--- a byte of length and that many bytes where the flag is set, and the bytes after them
+-- a byte of length and that many bytes if the flag is set, and the bytes after them
 unfoldable pub length_prefixed_at : Bool → List ℕ → Result (Option (List ℕ) × List ℕ) PacketError
 length_prefixed_at false bytes = Ok (None, bytes)
 length_prefixed_at true [] = Err PartTooLong

@@ -57,7 +57,7 @@ abbrev pub IsAnnounced : {A : Type 0} → (List ℕ → A → Type 0) → List �
 IsAnnounced Is wire None = wire ≡ []
 IsAnnounced Is wire (Some part) = Is wire part
 
--- the flags, what they announce, and the stuffing (2.4.3.4)
+-- the flags, the parts that they announce, and the stuffing (2.4.3.4)
 pub record IsParts (wire : List ℕ) (parts : FieldView) : Type 0 where
   pub flags : ℕ
   pub pcr : List ℕ

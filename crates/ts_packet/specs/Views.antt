@@ -1,4 +1,4 @@
--- What a packet says, without where it lies in memory.
+-- The content of a packet, without its place in memory.
 use Rattle.std.specs.Prelude.{ℕ, ℤ, List, Bool, Option}
 use Rattle.std.specs.Option.{option_map}
 use Rattle.std.specs.Borrow.{Bor}
@@ -10,7 +10,7 @@ use Rattle.ts_packet.specs.declared.adaptation.Adaptation.{Adaptation}
 use Rattle.ts_packet.specs.declared.adaptation.Adaptation.TheVariants.{Empty, Flagged}
 use Rattle.ts_packet.specs.declared.packet.Packet.{Packet}
 
--- what stands after the flags of an adaptation field (ISO/IEC 13818-1, 2.4.3.4)
+-- the parts of an adaptation field from its flags on (ISO/IEC 13818-1, 2.4.3.4)
 pub record FieldView : Type 0 where
   pub discontinuity_indicator : Bool
   pub random_access_indicator : Bool
@@ -22,7 +22,7 @@ pub record FieldView : Type 0 where
   pub extension : Option (List ℕ)
   pub stuffing : List ℕ
 
--- an adaptation field: of length 0, or flags and what they announce
+-- an adaptation field: of length 0, or flags and the parts that they announce
 pub data AdaptationView : Type 0 where
   NoFlags : AdaptationView
   WithFlags : FieldView → AdaptationView

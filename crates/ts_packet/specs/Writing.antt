@@ -1,4 +1,4 @@
--- What is written: a transport packet as the concatenation of its parts (ISO/IEC 13818-1, 2.4.3.2 to 2.4.3.5).
+-- The written bytes: a transport packet as the concatenation of its parts (ISO/IEC 13818-1, 2.4.3.2 to 2.4.3.5).
 use Rattle.std.specs.Prelude.{◌≡◌, ℕ, ℤ, ◌+◌, ◌/◌, ◌%◌, ◌^◌, ◌<◌, List, [], ◌∷◌, ◌++◌, length, All, Option, Some, None, is_some, IfSome, FitsSigned, ⊤}
 use Rattle.std.specs.Int.{cast_unsigned, w8}
 use Rattle.bit_fields.specs.Fields.{fields, bit}

@@ -26,13 +26,13 @@ impl From<Pcr> for ClockReference {
 /// An adaptation field.
 #[derive(Clone, Copy, Debug)]
 pub enum Adaptation<'a> {
-    /// One of length 0: the length byte alone, without flags.
+    /// A field of length 0: the length byte alone, without flags.
     Empty,
     /// One with flags.
     Flagged(AdaptationField<'a>),
 }
 
-/// The flags of an adaptation field and the parts that they announce: a part's flag is set exactly where the part is
+/// The flags of an adaptation field and the parts that they announce: a part's flag is set exactly if the part is
 /// present.
 #[derive(Clone, Copy, Debug)]
 pub struct AdaptationField<'a> {

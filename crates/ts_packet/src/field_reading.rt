@@ -10,7 +10,7 @@ ghost use Rattle.ts_packet.specs.Reading.{parts_at, adaptation_at, field_at};
 use crate::adaptation::{Adaptation, AdaptationField, ClockReference};
 use crate::packet::PacketError;
 
-// The flag at this bit, from 0, the lowest.
+// Returns the flag at this bit, from 0, the lowest.
 fn flag(byte: u8, bit: u8) -> bool
     requires { bit < 8 }
     ensures { result ≡ flag byte (2 ^ bit) }
@@ -74,7 +74,7 @@ fn length_prefixed_at(flagged: bool, bytes: &[u8]) -> Result<(Option<&[u8]>, &[u
     }
 }
 
-// Whether a part is announced.
+// Returns whether a part is announced.
 fn has_parts(flags: u8) -> bool
     ensures pcr { result ≡ false → flag flags 16 ≡ false }
     ensures opcr { result ≡ false → flag flags 8 ≡ false }
@@ -85,7 +85,7 @@ fn has_parts(flags: u8) -> bool
     flag(flags, 4) || flag(flags, 3) || flag(flags, 2) || flag(flags, 1) || flag(flags, 0)
 }
 
-// The parts that the flags announce. It stays a call of its own: most fields have stuffing alone.
+// Reads the parts that the flags announce. It stays a call of its own: most fields have stuffing alone.
 #[inline(never)]
 #[tactic(auto, unfolding(crate::specs::Reading::parts_at))]
 fn announced_at(flags: u8, bytes: &[u8]) -> Result<AdaptationField<'_>, PacketError>

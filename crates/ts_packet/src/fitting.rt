@@ -34,7 +34,7 @@ fn reference_fits(reference: Option<ClockReference>) -> bool
     }
 }
 
-// Each `i8` is one byte.
+// States that each `i8` is one byte.
 fn countdown_fits(countdown: Option<i8>) -> bool
     ensures { IsTrue result ↔ IfSome countdown (FitsSigned w8) }
 {

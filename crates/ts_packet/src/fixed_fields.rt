@@ -8,7 +8,7 @@ ghost use Rattle.ts_packet.specs.Writing.{header_bytes, reference_bytes, flags_o
 use crate::adaptation::{AdaptationField, ClockReference};
 use crate::header::Header;
 
-// A flag as a field of one bit.
+// Returns a flag as a field of one bit.
 fn bit(flag: bool) -> u8
     ensures value { result ≡ bit flag }
     ensures below { result ≤ 1 }
@@ -44,7 +44,7 @@ pub fn reference_bytes(reference: ClockReference) -> [u8; 6]
     [a, b, c, d, (lowest << 6 | 0x3f) << 1 | high, low]
 }
 
-// Two flags, the first in the higher bit.
+// Returns two flags, the first in the higher bit.
 fn two_bits(first: bool, second: bool) -> u8
     ensures value { result ≡ bit first * 2 + bit second }
     ensures below { result < 4 }
@@ -52,7 +52,7 @@ fn two_bits(first: bool, second: bool) -> u8
     bit(first) << 1 | bit(second)
 }
 
-// Three flags, the first in the highest bit.
+// Returns three flags, the first in the highest bit.
 fn three_bits(first: bool, second: bool, third: bool) -> u8
     ensures value { result ≡ (bit first * 2 + bit second) * 2 + bit third }
     ensures below { result < 8 }
@@ -60,7 +60,7 @@ fn three_bits(first: bool, second: bool, third: bool) -> u8
     two_bits(first, second) << 1 | bit(third)
 }
 
-// Three, two and three bits, the first in the highest bits.
+// Returns one byte of three, two and three bits, the first in the highest bits.
 fn eight_bits(first: u8, second: u8, third: u8) -> u8
     requires first { first < 8 }
     requires second { second < 4 }

@@ -24,7 +24,7 @@ pub fn start_again()
     ensures { StartAgain }
 {}
 
-/// States that a payload with which no decoder may begin has the stuffing alone before it.
+/// States that a payload where no decoder may begin has only stuffing before it.
 pub fn without_access()
     ensures { WithoutAccess }
 {}

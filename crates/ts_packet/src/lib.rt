@@ -5,10 +5,10 @@
 //! multiplexer writes three kinds of packet: `write_payload`, `write_pcr` and `null_packet`. No call takes memory.
 //! The readers and writers of `counted_io` are exported here as well.
 //!
-//! The definitions stand in `specs/`: `Syntax` has the standard's tables of fields as a relation, `Reading` the
-//! function on lists that names the refusals, `Writing` and `Packets` what is written, `PidList` the packets of one PID
-//! in a byte stream, `Beginnings` what begins with a payload, and `PcrBytes` which bytes of a packet are its program
-//! clock reference. The functions of `laws` say how these are related.
+//! The definitions are in `specs/`: `Syntax` has the standard's tables of fields as a relation, `Reading` the
+//! function on lists that names the refusals, `Writing` and `Packets` the written bytes, `PidList` the packets of one
+//! PID in a byte stream, `Beginnings` what begins with a payload, and `PcrBytes` which bytes of a packet are its
+//! program clock reference. The functions of `laws` say how these are related.
 #![tactic(auto)]
 
 // What a packet is.

@@ -23,7 +23,7 @@ fn header_of(bytes: &[u8; 188]) -> Header
     }
 }
 
-// What follows the header. It stays a call of its own: most packets have no adaptation field.
+// Reads what follows the header. It stays a call of its own: most packets have no adaptation field.
 #[inline(never)]
 #[tactic(auto, unfolding(crate::specs::Reading::body_at))]
 fn body_at(header: Header, control: u8, bytes: &[u8]) -> Result<Packet<'_>, PacketError>
@@ -80,7 +80,7 @@ fn packet_at(bytes: &[u8; 188]) -> Result<Packet<'_>, PacketError>
 /// Reads a packet. Its slices borrow from these 188 bytes. Where an adaptation field without payload is shorter than
 /// 183 bytes, the bytes after it are not read.
 pub fn read_packet(bytes: &[u8; 188]) -> Result<Packet<'_>, PacketError>
-    // What is read is what the bytes say.
+    // The bytes encode this packet.
     ensures found { IfOk result (λ packet. IsPacket bytes.now (packet_view packet)) }
 
     // What the bytes say is read.

@@ -13,7 +13,7 @@ use crate::header::Header;
 use arrayvec::ArrayVec;
 use bit_fields::append;
 
-// The array that a full vector holds.
+// Returns the array that a full vector holds.
 fn whole(packet: ArrayVec<u8, 188>) -> [u8; 188]
     requires { array_vec_len packet ≡ 188 }
     ensures { result ≡ packet.items }
@@ -24,7 +24,7 @@ fn whole(packet: ArrayVec<u8, 188>) -> [u8; 188]
     }
 }
 
-// adaptation_field_control.
+// Returns adaptation_field_control.
 fn control_of(adaptation: Option<&Adaptation<'_>>, payload: Option<&[u8]>) -> u8
     ensures value { result ≡ control_of (option_map (λ a. adaptation_view a.now) adaptation.entry)
         (bytes_view payload.entry) }

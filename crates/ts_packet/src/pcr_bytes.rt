@@ -24,7 +24,7 @@ pub fn has_pcr(packet: &Packet<'_>) -> bool
 }
 
 /// Returns whether two packets, each with or without a program clock reference, have the same bytes apart from
-/// it: what a duplicate repeats.
+/// it: the bytes that a duplicate repeats.
 #[tactic(auto, unfolding(crate::specs::PcrBytes::without_pcr), using(crate::proofs::PcrBytes::forms_differ))]
 pub fn is_same_without_pcr(
     bytes: &[u8; 188],
@@ -48,7 +48,7 @@ fn is_same(bytes: &[u8], other: &[u8]) -> bool
     bytes == other
 }
 
-// The bytes before and after a program clock reference.
+// Returns whether two packets are equal before and after a program clock reference.
 #[tactic(auto, unfolding(crate::specs::PcrBytes::without_pcr), using(crate::proofs::PcrBytes::pcr_apart))]
 fn is_same_around(bytes: &[u8; 188], other: &[u8; 188]) -> bool
     ensures { result ≡ bytes_eq (pcr_bytes.without_pcr true bytes.now) (pcr_bytes.without_pcr true other.now) }

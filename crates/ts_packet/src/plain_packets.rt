@@ -34,7 +34,7 @@ fn plain_header(pid: u16, start: bool, counter: u8) -> Header
     }
 }
 
-// adaptation_field_control of a packet with a payload after an adaptation field of `size` bytes in all.
+// Returns adaptation_field_control of a packet with a payload after an adaptation field of `size` bytes in all.
 #[tactic(auto, using(crate::proofs::Filling::filling))]
 fn adaptation_field_control(start: Start, size: usize) -> u8
     requires { 184 ≤ size + room_of start }
@@ -57,7 +57,7 @@ fn write_flags_and_stuffing(field: &mut [u8], flags: u8)
     stuffing.copy_from_slice(&STUFFING[..size - 2]);
 }
 
-// Writes an adaptation field of stuffing into all of these bytes, or nothing where there are none.
+// Writes an adaptation field of stuffing into all of these bytes, or nothing if there are none.
 #[tactic(auto, using(crate::proofs::Filling::filling))]
 fn write_stuffing_field(field: &mut [u8])
     requires { length field.old < 184 }
@@ -71,7 +71,7 @@ fn write_stuffing_field(field: &mut [u8])
     }
 }
 
-// Writes the adaptation field before a payload into all of these bytes, or nothing where there are none.
+// Writes the adaptation field before a payload into all of these bytes, or nothing if there are none.
 #[tactic(auto, using(crate::proofs::Filling::fields))]
 fn write_field(start: Start, field: &mut [u8])
     requires room { 184 ≤ length field.old + room_of start }
@@ -86,7 +86,7 @@ fn write_field(start: Start, field: &mut [u8])
     }
 }
 
-// Writes what stands before a payload: the header, and an adaptation field.
+// Writes the header of a packet, and the adaptation field before its payload.
 fn write_header_and_field(front: &mut [u8], pid: u16, start: Start, counter: u8)
     requires pid { pid < 2 ^ 13 }
     requires counter { counter < 2 ^ 4 }
@@ -106,7 +106,7 @@ fn write_header_and_field(front: &mut [u8], pid: u16, start: Start, counter: u8)
     write_field(start, field);
 }
 
-// The greatest payload has 182 or 184 bytes.
+// States that the greatest payload has 182 or 184 bytes.
 fn room_is(start: Start)
     ensures least { 182 ≤ room_of start }
     ensures most { room_of start ≤ 184 }
@@ -118,9 +118,9 @@ fn room_is(start: Start)
     }
 }
 
-/// Writes the packet of one payload of 1 to 184 bytes into `packet`. Where the payload is shorter than 184 bytes an
-/// adaptation field of stuffing stands before it. With [`Start::Access`] the payload has at most 182 bytes, and the
-/// flags of the field say so.
+/// Writes the packet of one payload of 1 to 184 bytes into `packet`. If the payload is shorter than 184 bytes, an
+/// adaptation field of stuffing precedes it. With [`Start::Access`] the payload has at most 182 bytes, and the flags
+/// of the field say so.
 #[tactic(auto, unfolding(crate::specs::Packets::payload_packet, crate::specs::Writing::packet_bytes))]
 pub fn write_payload_into(
     packet: &mut [u8; 188],

@@ -6,12 +6,12 @@ ghost use Rattle.ts_packet.specs.Beginnings.{is_start, room_of, start_by};
 /// What begins with the first byte of a payload.
 #[derive(Clone, Copy, Debug, PartialEq, Eq)]
 pub enum Start {
-    /// Nothing: the payload goes on with what an earlier packet carries.
+    /// Nothing: the payload continues what an earlier packet carries.
     Continues,
     /// A PES packet or a section.
     Begins,
-    /// A PES packet with which a decoder may begin: its packet has the random_access_indicator (ISO/IEC 13818-1,
-    /// 2.4.3.5) in an adaptation field of two bytes or more.
+    /// A PES packet where a decoder may begin: its packet has the random_access_indicator (ISO/IEC 13818-1, 2.4.3.5)
+    /// in an adaptation field of two bytes or more.
     Access,
 }
 

@@ -3,7 +3,7 @@ use Rattle.std.proofs.Common.{◌≡◌, Option, Some, None, refl}
 use Rattle.sound_frames.specs.declared.frame_headers.FrameKind.{FrameKind}
 use Rattle.tstd_rows.specs.Held.{Held}
 use Rattle.es_view.specs.Entries.{held_in, tally_in}
-use Rattle.es_view.specs.Tallies.{none_counted}
+use Rattle.es_events.specs.Tallies.{none_counted}
 use Rattle.ts_report.specs.StreamTables.{new_framed}
 
 pub new_held : (h : Held) (kind : Option FrameKind) → held_in (new_framed h kind) h ≡ h

@@ -4,8 +4,8 @@ use Rattle.std.specs.Prelude.{OnOk, set, slice_get}
 use Rattle.std.specs.Map.{lookup}
 use Rattle.ts_packet.specs.Views.{PacketView}
 use Rattle.events.specs.declared.event.Event.{Event}
-use Rattle.es_view.specs.declared.view_options.ViewOptions.{ViewOptions}
-use Rattle.es_view.specs.Clocks.{ClockEntries, clock_of}
+use Rattle.es_events.specs.declared.view_options.ViewOptions.{ViewOptions}
+use Rattle.es_events.specs.Clocks.{ClockEntries, clock_of}
 use Rattle.es_view.specs.Entries.{EntryState, entry_events}
 use Rattle.ts_report.specs.StreamTables.{TableState, entry_taken, events_of, taken}
 

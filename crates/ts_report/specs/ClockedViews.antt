@@ -1,4 +1,4 @@
--- A stream packet by packet. Without a rate its packets wait until the line is known on which they arrive, and are viewed then.
+-- A stream packet by packet. Without a rate its packets wait until the line of their arrival is known, and are viewed then.
 use Rattle.std.specs.Prelude.{◌≡◌, ℕ, Bool, List, [], ◌∷◌, ◌++◌, length, Option, Some, None}
 use Rattle.arrival.specs.declared.arrival.Arrival.{Arrival}
 use Rattle.arrival.specs.declared.arrival.Arrival.TheVariants.{Unknown, AtRate, OnLines}
@@ -14,7 +14,7 @@ use Rattle.ts_report.specs.Views.{IsView, ViewState, arriving}
 use Rattle.ts_report.specs.Views as views
 use Rattle.ts_report.specs.declared.clocked_view.ClockedView.{ClockedView}
 
--- what is kept of the packets that were viewed, and those that wait, where they do
+-- the state after the viewed packets, and the packets that wait, if any do
 pub record ClockedState : Type 0 where
   pub view : ViewState
   pub queue : Option QueueState
@@ -23,8 +23,8 @@ pub record IsClocked (clocked : ClockedView) (s : ClockedState) : Type 0 where
   pub view : IsView clocked.view s.view
   pub queue : clocked.queue ≡ s.queue
 
--- before the first packet: where the streams of these programs are viewed, a stream arrives by the clock of the first of them, and else by
--- that of the first reference
+-- before the first packet: if the streams of these programs are viewed, a stream arrives by the clock of the first of them, otherwise by the clock of
+-- the first reference
 unfoldable pub clock_for : List ℕ → ClockPid
 clock_for [] = OfFirst
 clock_for (number ∷ numbers) = OfProgram number
@@ -37,7 +37,7 @@ queue_of (OnLines lines) programs = None
 abbrev pub start : RequestView → ClockedState
 start request = record { view = views.start request; queue = queue_of request.options.arrival request.choice.programs }
 
--- 1. Those that wait are viewed, as they arrive
+-- 1. Waiting packets are viewed, as they arrive
 
 abbrev pub view_with : ViewState → QueueState → Arrival → ViewState
 view_with v q arrival = views.after_all (arriving v arrival (length q.held)) q.held
@@ -58,7 +58,7 @@ unfoldable pub held_after : QueueState → Option Arrival → List (List ℕ)
 held_after q None = q.held
 held_after q (Some arrival) = []
 
--- 2. A packet comes, and waits where packets wait
+-- 2. A packet comes, and waits if packets wait
 
 abbrev pub queue_after : QueueState → List ℕ → QueueState
 queue_after q bytes = with_held (stepped q bytes) (held_after (stepped q bytes) (released q bytes) ++ bytes ∷ [])
@@ -86,7 +86,7 @@ unfoldable pub events_all : ClockedState → List (List ℕ) → List Event
 events_all s [] = []
 events_all s (bytes ∷ packets) = events_at s bytes ++ events_all (after_packet s bytes) packets
 
--- the same of a packet that comes with a sample of another clock, by which the stream arrives in place of clock references, or with none
+-- the same for a packet with a sample of another clock, used for arrival in place of clock references, or without a sample
 abbrev pub queue_with : QueueState → Option PcrSample → List ℕ → QueueState
 queue_with q sample bytes = with_held (stepped_with q sample) (held_after (stepped_with q sample) (released_with q sample) ++ bytes ∷ [])
 
@@ -107,7 +107,7 @@ after_sampled s sample bytes = sampled_in s.view s.queue sample bytes
 abbrev pub sampled_events : ClockedState → Option PcrSample → List ℕ → List Event
 sampled_events s sample bytes = sampled_events_in s.view s.queue sample bytes
 
--- 3. At the end: those that wait are viewed, and then the last events come
+-- 3. At the end: waiting packets are viewed, and then the last events follow
 
 unfoldable pub last_view : ViewState → Option QueueState → ViewState
 last_view v None = v

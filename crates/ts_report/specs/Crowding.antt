@@ -1,4 +1,4 @@
--- Streams of which so many units wait that no more of a transport stream is viewed.
+-- Streams with too many waiting units: no more of their transport stream is viewed.
 use Rattle.std.specs.Prelude.{Bool, List}
 use Rattle.std.specs.List.{list_any}
 use Rattle.es_view.specs.Crowding.{is_entry_crowded}
@@ -9,7 +9,7 @@ use Rattle.ts_report.specs.declared.view.View.{View}
 abbrev pub are_crowded : List StreamEntry → Bool
 are_crowded entries = list_any is_entry_crowded entries
 
--- so many units of one of the streams wait
+-- whether some stream has reached the limit of waiting units
 abbrev pub is_view_crowded : View → Bool
 is_view_crowded view = are_crowded view.table.entries.items
 

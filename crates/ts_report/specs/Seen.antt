@@ -1,4 +1,4 @@
--- What is kept of a stream beside its buffers.
+-- The state of a stream without its buffers.
 use Rattle.std.specs.Prelude.{ℕ, ◌+◌, ◌-◌, ◌^◌, min, nat_lt, Bool, false, if◌then◌else◌, is_some, List, [], ◌∷◌, ◌++◌, Option, None, Some, Result, Ok, Err}
 use Rattle.ts_packet.specs.declared.packet.PacketError.{PacketError}
 use Rattle.ts_packet.specs.declared.packet.PacketError.TheVariants as packet_errors
@@ -29,8 +29,8 @@ use Rattle.arrival.specs.declared.arrival.Arrival.{Arrival}
 use Rattle.arrival.specs.declared.arrival.Arrival.TheVariants.{Unknown, AtRate, OnLines}
 use Rattle.events.specs.declared.event.Event.{Event}
 use Rattle.events.specs.declared.event.Event.TheVariants as found
-use Rattle.es_view.specs.declared.view_options.ViewOptions.{ViewOptions}
-use Rattle.es_view.specs.Clocks.{ClockEntries, clocks_after, no_clocks}
+use Rattle.es_events.specs.declared.view_options.ViewOptions.{ViewOptions}
+use Rattle.es_events.specs.Clocks.{ClockEntries, clocks_after, no_clocks}
 use Rattle.ts_report.specs.Moments.{moment_at, reference_moment}
 use Rattle.ts_watch.specs.ClockEvents.{clock_events, errors_in, report_events_if}
 use Rattle.ts_watch.specs.ClockWindows.{ClocksState}
@@ -44,9 +44,10 @@ use Rattle.ts_watch.specs.TableEvents.{TablesState, has_table, no_tables, table_
 use Rattle.ts_watch.specs.TableEvents as tables
 use Rattle.ts_watch.specs.WindowEvents.{pid_events, window_events, window_of}
 
--- the number of packets, and of those that are refused or have transport_error_indicator; the window of the last packet that is not; the packets of each PID;
--- the last clock reference of each, and what all of them came to, by the rate, with the number of their errors, and by window; time stamps, scrambled packets
--- and the judge of the rate; the sections of tables; the buffers of programs' tables; the streams that are named; and the names of their services
+-- the number of packets, and of packets that are refused or have transport_error_indicator; the window of the last packet that is not; the packets of
+-- each PID; the last clock reference of each, and their counts, by the rate, with the number of their errors, and by window; time stamps, scrambled
+-- packets and the judge of the rate; the sections of tables; the buffers of programs' tables; the streams that are named; and the names of their
+-- services
 pub record SeenState : Type 0 where
   pub options : ViewOptions
   pub packets : ℕ
@@ -64,19 +65,19 @@ pub record SeenState : Type 0 where
   pub named : NamedView
   pub services : NamesState
 
--- by what references are measured: by the rate, or by each other
+-- the measure of clock references: the rate, or the references themselves
 unfoldable pub timing_of : Arrival → PcrTiming
 timing_of Unknown = References
 timing_of (AtRate rate) = ConstantRate rate
 timing_of (OnLines lines) = References
 
--- and from the first packet on, if packets arrive by stamps, or not
+-- the timing of references from the first packet on, if packets arrive by stamps, or not
 unfoldable pub timing_for : Bool → Arrival → PcrTiming
 timing_for stamps Unknown = if stamps then Stamps else References
 timing_for stamps (AtRate rate) = ConstantRate rate
 timing_for stamps (OnLines lines) = if stamps then Stamps else References
 
--- and in what the places of sections are counted
+-- the unit of the places of sections
 unfoldable pub table_timing : Arrival → TableTiming
 table_timing Unknown = timings.Ticks
 table_timing (AtRate rate) = timings.ConstantRate rate
@@ -102,7 +103,7 @@ nothing_seen stamps options = record {
   services = naming_services.none_taken;
 }
 
--- packets arrive so from here on: the first line that is known gives the moment of the stream's first byte
+-- the arrival of the next packets: the first known line gives the moment of the stream's first byte
 unfoldable pub origin_on : Arrival → ℕ
 origin_on Unknown = 0
 origin_on (AtRate rate) = 0
@@ -116,7 +117,7 @@ origin_after (OnLines lines) origin arrival = origin
 abbrev pub with_arrival : ViewOptions → Arrival → ViewOptions
 with_arrival options arrival = record options { arrival = arrival; origin = origin_after options.arrival options.origin arrival }
 
--- so many packets that come next have no moment: that is an error
+-- whether the next packets have no moment: this is an error
 unfoldable pub unclocked : Arrival → ℕ → Bool
 unclocked Unknown count = nat_lt 0 count
 unclocked (AtRate rate) count = false
@@ -147,15 +148,15 @@ without s = record s { packets = one_more s.packets; refused = one_more s.refuse
 abbrev pub refused_events : SeenState → RefusalCause → List Event
 refused_events s cause = found.Refused (record { packet = s.packets; cause = cause }) ∷ []
 
--- one that can: its clock reference, with its errors, its time stamp and whether it is scrambled, and then it enters the buffers of programs' tables and its
--- PID is counted
+-- a packet that can be read: its clock reference, with its errors, its time stamp and whether it is scrambled, and then it enters the buffers of
+-- programs' tables and its PID is counted
 abbrev pub report_on : SeenState → PacketView → Option PcrReport
 report_on s packet = report_at s.watches s.packets packet
 
 abbrev pub next_window : SeenState → ℕ
 next_window s = window_of s.options s.packets
 
--- what the reference leaves in its window and of the judge of the rate, and how many errors of accuracy count with it
+-- the counts of the window and the judge of the rate after a reference, and how many errors of accuracy count with it
 abbrev pub with_accuracy : SeenState → ℕ → Option PcrReport → SeenState
 with_accuracy s pid report = record s {
   references = clocks_by_window.taken s.references (next_window s) pid (reference_moment s.options s.packets) report;
@@ -211,14 +212,14 @@ abbrev pub system_excesses : SeenState → ChoiceView → PacketView → List Ev
 system_excesses s choice packet =
     excess_events s.options choice s.packets (programs.excesses_at s.options.arrival s.packets s.named packet.header.pid s.systems)
 
--- the sections of tables in 188 bytes, and those that begin too late
+-- the sections of tables in 188 bytes, and sections that begin too late
 abbrev pub with_sections : SeenState → List ℕ → SeenState
 with_sections s bytes = record s { tables = tables.with_packet s.options s.tables bytes }
 
 abbrev pub section_events : SeenState → List ℕ → List Event
 section_events s bytes = tables.packet_events s.options s.tables bytes
 
--- the continuity_counter of a packet that is counted: of one that can't be read, or says that it is wrong, it does not count
+-- the continuity_counter of a packet is checked, unless the packet can't be read, or says that it is wrong
 abbrev pub counted_entry : SeenState → List ℕ → PacketView → Entry
 counted_entry s bytes packet = record { index = s.packets - 1; bytes = bytes; packet = packet }
 
@@ -241,7 +242,7 @@ counter_events s bytes (Err error) = []
 counter_events s bytes (Ok packet) =
     if packet.header.transport_error_indicator then [] else counter_events_by (error_at s.counters (counted_entry s bytes packet))
 
--- what 188 bytes name counts from the next packet on
+-- tables in 188 bytes count from the next packet on
 abbrev pub with_named : SeenState → List ℕ → SeenState
 with_named s bytes = record s { named = naming.taken s.named bytes; services = naming_services.taken s.services (naming.taken s.named bytes) bytes }
 
@@ -249,7 +250,7 @@ with_named s bytes = record s { named = naming.taken s.named bytes; services = n
 abbrev pub window_ends : SeenState → List Event
 window_ends s = window_events s.options s.named s.services.names s.window ++ clocks_by_window.window_events s.references s.window.number
 
--- at the end: clock references by PID, tables, all packets by PID, which of these are not named or have none, and what is held of accuracy
+-- at the end: clock references by PID, tables, all packets by PID, PIDs that are not named or have no packet, and the held errors of accuracy
 abbrev pub pid_ends : SeenState → List Event
 pid_ends s = clock_events s.watches ++ (table_events s.tables ++ (pid_events s.totals ++ (reference_events s.named s.totals
     ++ rules.end_events s.rules s.packets (has_table s.tables 0x01 0x01))))

@@ -16,20 +16,20 @@ use Rattle.tstd_rows.specs.Held.{Held, empty}
 use Rattle.events.specs.declared.event.Event.{Event}
 use Rattle.es_view.specs.declared.stream_entry.StreamEntry.{StreamEntry}
 use Rattle.ts_report.specs.declared.stream_table.StreamTable.{StreamTable}
-use Rattle.es_view.specs.declared.view_options.ViewOptions.{ViewOptions}
+use Rattle.es_events.specs.declared.view_options.ViewOptions.{ViewOptions}
 use Rattle.ts_watch.specs.Choices.{ChoiceView, buffers_for, chosen, frames_for, rates_for}
-use Rattle.es_view.specs.Clocks.{ClockEntries, clock_of}
+use Rattle.es_events.specs.Clocks.{ClockEntries, clock_of}
 use Rattle.es_view.specs.Entries.{EntryState, Framed, IsEntry, end_events, entry_after, entry_events, traces_of, units_of}
 use Rattle.es_view.specs.EntryFrames.{unit_in}
 use Rattle.sound_frames.specs.declared.frame_headers.FrameKind.{FrameKind}
 use Rattle.sound_frames.specs.FrameWalks.{no_walk}
 use Rattle.es_buffers.specs.Stays.{longest_stay}
 use Rattle.es_view.specs.Entries.{is_good as entry_is_good}
-use Rattle.es_view.specs.EntryEvents.{stream_event}
-use Rattle.es_view.specs.Tallies.{none_counted}
-use Rattle.es_view.specs.VideoFigures.{sizes_if}
-use Rattle.es_view.specs.VideoTallies.{none_of_video}
-use Rattle.es_view.specs.MarkTallies.{none_marked}
+use Rattle.es_events.specs.EntryEvents.{stream_event}
+use Rattle.es_events.specs.Tallies.{none_counted}
+use Rattle.es_events.specs.VideoFigures.{sizes_if}
+use Rattle.es_events.specs.VideoTallies.{none_of_video}
+use Rattle.es_events.specs.MarkTallies.{none_marked}
 use Rattle.tstd_rows.specs.declared.video_buffers.VideoRates.{VideoRates}
 
 -- which streams are viewed, the place of each PID, and the streams
@@ -55,15 +55,15 @@ pub record IsTable (table : StreamTable) (t : TableState) : Type 0 where
 
 -- 1. Where buffers begin
 
--- the coding of a stream by its entry in the map and by the packet in which its first PES packet begins
+-- the coding of a stream by its entry in the map and by the packet where its first PES packet begins
 abbrev pub coding_by : FoundStreamView → PacketView → Coding
 coding_by stream packet = coding_of stream.stream_type stream.descriptors (unit_in (unwrap_or packet.payload []))
 
--- its buffers
+-- the buffers of a stream
 abbrev pub stream_buffers : TableState → FoundStreamView → PacketView → Buffers
 stream_buffers t stream packet = buffers_for t.choice packet.header.pid (coding_by stream packet)
 
--- and of video its two buffers, if they are viewed
+-- for video its two buffers, if they are viewed
 abbrev pub stream_rates : TableState → FoundStreamView → PacketView → Option VideoRates
 stream_rates t stream packet = rates_for t.choice packet.header.pid (coding_by stream packet)
 
@@ -73,7 +73,7 @@ beginning named t packet =
     if packet.header.payload_unit_start_indicator && not (is_some (lookup (nat_eq packet.header.pid) t.places)) then chosen t.choice
     (stream_of named packet.header.pid) else None
 
--- of sound its frames, if its main buffer is viewed by access units
+-- for sound its frames, if its main buffer is viewed by access units
 abbrev pub stream_frames : TableState → FoundStreamView → PacketView → Option FrameKind
 stream_frames t stream packet = frames_for t.choice packet.header.pid stream.stream_type stream.descriptors
 

@@ -1,4 +1,4 @@
--- A stream packet by packet: what is kept of it, and the events that each packet settles.
+-- A stream packet by packet: its state, and the events that each packet settles.
 use Rattle.std.specs.Prelude.{◌≡◌, ℕ, ◌==◌, Bool, false, if◌then◌else◌, List, [], ◌∷◌, ◌++◌, Result, Ok, Err}
 use Rattle.ts_packet.specs.declared.packet.PacketError.{PacketError}
 use Rattle.ts_packet.specs.Views.{PacketView}
@@ -18,7 +18,7 @@ use Rattle.ts_report.specs.StreamTables as tables
 use Rattle.ts_watch.specs.SystemEvents.{all_fit, system_events}
 use Rattle.system_tables.specs.Programs.{known}
 
--- what is kept: what was seen, and the streams whose buffers have begun
+-- the state: of the transport stream, and of the streams whose buffers have begun
 pub record ViewState : Type 0 where
   pub seen : SeenState
   pub table : TableState
@@ -31,7 +31,7 @@ pub record IsView (view : View) (s : ViewState) : Type 0 where
 abbrev pub start : RequestView → ViewState
 start request = record { seen = nothing_seen request.stamps request.options; table = no_streams request.choice }
 
--- so many packets that come next arrive so
+-- the arrival of a number of next packets
 abbrev pub arriving : ViewState → Arrival → ℕ → ViewState
 arriving s arrival count = record { seen = seeing.arriving s.seen arrival count; table = s.table }
 
@@ -39,7 +39,7 @@ arriving s arrival count = record { seen = seeing.arriving s.seen arrival count;
 abbrev pub without : ViewState → ViewState
 without s = record { seen = seeing.without s.seen; table = s.table }
 
--- one that can: its stream's buffers begin with it, if they do, and it enters them
+-- a packet that can be read: its stream's buffers begin with it, if they do, and it enters them
 abbrev pub with_begun : ViewState → PacketView → TableState
 with_begun s packet = begun s.seen.options s.seen.named s.table packet
 
@@ -62,7 +62,7 @@ unfoldable pub after_read : ViewState → Result PacketView PacketError → View
 after_read s (Err error) = without s
 after_read s (Ok packet) = if packet.header.transport_error_indicator then without s else with_packet s packet
 
--- what is found in the last packet's window: bit rates and clock references by PID, and units by stream
+-- the events of the last packet's window: bit rates and clock references by PID, and units by stream
 abbrev pub all_window_events : ViewState → List Event
 all_window_events s = window_ends s.seen ++ table_units s.seen.options s.seen.window.number s.table
 
@@ -70,7 +70,7 @@ all_window_events s = window_ends s.seen ++ table_units s.seen.options s.seen.wi
 abbrev pub last_window : ViewState → List Event
 last_window s = if s.seen.window.number == next_window s.seen then [] else all_window_events s
 
--- and then those of the errors of its clock reference, of buffers that begin with it, and of what ends with it: of streams, and of
+-- the events of the errors of its clock reference, of buffers that begin with it, and of units and excesses that end with it: of streams, and of
 -- programs' tables
 abbrev pub buffer_events_at : ViewState → PacketView → List Event
 buffer_events_at s packet = begin_events s.seen.packets s.seen.named s.table packet
@@ -87,7 +87,7 @@ unfoldable pub events_read : ViewState → Result PacketView PacketError → Lis
 events_read s (Err error) = refused_events s.seen (cause_of error)
 events_read s (Ok packet) = if packet.header.transport_error_indicator then refused_events s.seen causes.TransportError else packet_events s packet
 
--- the 188 bytes as tables are looked for in them: a packet of a stream whose buffers have begun counts as a null packet
+-- the 188 bytes that are searched for tables: a packet of a stream whose buffers have begun is replaced by a null packet
 unfoldable pub without_stream : ViewState → List ℕ → Result PacketView PacketError → List ℕ
 without_stream s bytes (Err error) = bytes
 without_stream s bytes (Ok packet) = if has_stream s.table packet.header.pid then null_packet else bytes
@@ -98,14 +98,14 @@ with_tables s bytes = record { seen = seeing.with_sections s.seen (without_strea
 abbrev pub table_events_at : ViewState → List ℕ → List Event
 table_events_at s bytes = section_events s.seen (without_stream s bytes (packet_at bytes))
 
--- and then its continuity_counter
+-- the tables of a packet, and then its continuity_counter
 abbrev pub with_sections : ViewState → List ℕ → ViewState
 with_sections s bytes = record { seen = with_counter_read (with_tables s bytes).seen bytes (packet_at bytes); table = s.table }
 
 abbrev pub counter_events_at : ViewState → List ℕ → List Event
 counter_events_at s bytes = counter_events (with_tables s bytes).seen bytes (packet_at bytes)
 
--- after 188 bytes, and the events that they settle; what they name counts from the next on
+-- after 188 bytes, and the events that they settle; tables in them count from the next packet on
 abbrev pub with_named : ViewState → List ℕ → ViewState
 with_named s bytes = record { seen = seeing.with_named s.seen bytes; table = s.table }
 

@@ -24,7 +24,7 @@ pub struct ClockedView {
     pub queue: Option<PacketQueue>,
 }
 
-// By whose references a stream arrives of which the streams of these programs are viewed, or of all.
+// Returns the programs whose clock references may give the arrival times: these programs, or all.
 #[tactic(auto, unfolding(crate::specs::ClockedViews::clock_for))]
 fn clock_for(programs: &[u16]) -> ClockPid
     ensures { result ≡ spec.clock_for programs.now }
@@ -45,7 +45,7 @@ fn queue_of(alloc: Global, arrival: &Arrival, programs: &[u16]) -> Option<Packet
     }
 }
 
-// The packets that wait are viewed, as they arrive.
+// Views the packets that wait, as they arrive.
 fn view_waiting(
     view: &mut View,
     queue: &mut PacketQueue,
@@ -63,7 +63,7 @@ fn view_waiting(
     Ok(())
 }
 
-// The packets that wait are viewed, if it is known now how they arrive.
+// Views the packets that wait, if their arrival is known now.
 #[tactic(auto, unfolding(crate::specs::ClockedViews::view_after, crate::specs::ClockedViews::events_after, crate::specs::ClockedViews::held_after))]
 fn view_if(
     view: &mut View,
@@ -83,7 +83,7 @@ fn view_if(
     }
 }
 
-// A packet comes, and waits.
+// Keeps a packet until its arrival is known.
 fn take_waiting(
     view: &mut View,
     queue: &mut PacketQueue,
@@ -101,7 +101,7 @@ fn take_waiting(
     queue.push(bytes)
 }
 
-// A packet comes with a sample of the clock by which it arrives, or with none, and waits.
+// Keeps a packet, with a sample of the arrival clock if it has one, until its arrival time is known.
 fn take_sampled_waiting(
     view: &mut View,
     queue: &mut PacketQueue,
@@ -148,8 +148,8 @@ impl ClockedView {
         }
     }
 
-    /// Takes the next packet with a sample of the clock by which the stream arrives in place of clock references, or
-    /// with none, and appends the events that the packet settles.
+    /// Takes the next packet, with a sample of an arrival clock in place of clock references if it has one, and appends
+    /// the events that the packet settles.
     #[tactic(auto, unfolding(crate::specs::ClockedViews::sampled_in, crate::specs::ClockedViews::sampled_events_in))]
     pub fn take_sampled(
         &mut self,
@@ -187,7 +187,7 @@ impl ClockedView {
         Ok(())
     }
 
-    // The packets that wait at the end.
+    // Views the packets that wait at the end.
     #[tactic(auto, unfolding(crate::specs::ClockedViews::last_view, crate::specs::ClockedViews::last_events, crate::specs::ClockedViews::queue_ended))]
     fn view_last(&mut self, events: &mut Vec<Event>) -> Result<(), AllocError>
         ensures clocked { (s : ClockedState) → IsClocked self.old s → OnOk result (IsClocked self.new (spec.ended s)) }

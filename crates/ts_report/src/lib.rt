@@ -14,7 +14,9 @@
 //! their own: the caller stops when a view is crowded, with 4,096 waiting units or more in a stream (`is_crowded`).
 #![tactic(auto)]
 
+mod arrival_options;
 mod clocked_view;
+mod counter_events;
 mod moments;
 mod seen;
 mod stream_table;
@@ -22,6 +24,6 @@ mod timings;
 mod view;
 
 pub use clocked_view::ClockedView;
-pub use es_view::view_options::ViewOptions;
+pub use es_events::view_options::ViewOptions;
 pub use ts_watch::view_choice::ViewChoice;
 pub use ts_watch::view_request::{ViewRequest, ViewSpan};

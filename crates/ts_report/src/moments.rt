@@ -5,17 +5,17 @@ ghost use Rattle.ts_report.specs.Moments as spec;
 use arrival::Arrival;
 use clock27::Rate;
 use clock27::units::BYTE_TICKS_AT_1BPS;
-use es_view::clocks::first_byte;
-use es_view::view_options::ViewOptions;
+use es_events::clocks::first_byte;
+use es_events::view_options::ViewOptions;
 
-// The time of bytes at a rate, in ticks, rounded down.
+// Returns the time of bytes at a rate, in ticks, rounded down.
 fn ticks_at(rate: Rate, byte: u64) -> u128
     ensures { result ≡ spec.ticks_at rate byte }
 {
     u128::from(byte) * BYTE_TICKS_AT_1BPS / u128::from(rate.bits_per_second())
 }
 
-// The moment of a byte, in ticks from the stream's first byte on, as packets arrive.
+// Returns the moment of a byte, in ticks from the stream's first byte on, as packets arrive.
 #[tactic(auto, unfolding(crate::specs::Moments::moment_by))]
 fn byte_moment(options: &ViewOptions, byte: u64) -> Option<u128>
     ensures { result ≡ spec.moment_by options.now.arrival options.now.origin byte }

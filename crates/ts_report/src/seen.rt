@@ -11,17 +11,19 @@ ghost use Rattle.ts_watch.specs.RuleEvents.{accuracy_count, accuracy_events};
 ghost use Rattle.ts_report.specs.Seen as spec;
 ghost use Rattle.ts_report.specs.Seen.{timing_of};
 
+use crate::arrival_options::{unclocked, with_arrival};
+use crate::counter_events::push_counter_if;
 use crate::moments::{moment_at, reference_moment};
 use crate::timings::{table_timing, timing_for, timing_of};
 use arrival::Arrival;
-use es_view::clocks::Clocks;
-use es_view::view_options::ViewOptions;
-use events::{CounterFault, Event, RefusalCause, RefusedPacket, ReportEnd, UnclockedPackets};
+use es_events::clocks::Clocks;
+use es_events::view_options::ViewOptions;
+use events::{Event, RefusalCause, RefusedPacket, ReportEnd, UnclockedPackets};
 use pid_windows::PidWindow;
 use std::alloc::{AllocError, Global};
 use std::marker::Model;
 use system_tables::SystemTables;
-use tr101290::{ContinuityError, ContinuityWatch, PcrReport, PcrWatches, pcr_sample};
+use tr101290::{ContinuityWatch, PcrReport, PcrWatches, pcr_sample};
 use ts_packet::{Packet, PacketError, has_pcr};
 use ts_tables::{NamedStreams, ServiceNames};
 use ts_watch::clock_events::{errors_in, push_clocks, push_report};
@@ -79,76 +81,6 @@ impl Model for Seen {
       named = s.named;
       services = s.services;
     } };
-}
-
-// The moment of the stream's first byte on the first line that is known.
-#[tactic(auto, unfolding(crate::specs::Seen::origin_on))]
-fn origin_on(arrival: &Arrival) -> u64
-    ensures { result ≡ spec.origin_on arrival.now }
-{
-    match arrival {
-        Arrival::OnLines(lines) => lines.moment(0),
-        Arrival::Unknown | Arrival::AtRate(_) => 0,
-    }
-}
-
-#[tactic(auto, unfolding(crate::specs::Seen::origin_after))]
-fn origin_after(options: &ViewOptions, arrival: &Arrival) -> u64
-    ensures { result ≡ spec.origin_after options.now.arrival options.now.origin arrival.now }
-{
-    match &options.arrival {
-        Arrival::Unknown => origin_on(arrival),
-        Arrival::AtRate(_) | Arrival::OnLines(_) => options.origin,
-    }
-}
-
-fn with_arrival(options: &ViewOptions, arrival: Arrival) -> ViewOptions
-    ensures { result ≡ spec.with_arrival options.now arrival }
-{
-    ViewOptions {
-        arrival,
-        origin: origin_after(options, &arrival),
-        ..*options
-    }
-}
-
-// Whether packets have no moment.
-#[tactic(auto, unfolding(crate::specs::Seen::unclocked))]
-fn unclocked(arrival: &Arrival, count: usize) -> bool
-    ensures { result ≡ spec.unclocked arrival.now count }
-{
-    match arrival {
-        Arrival::Unknown => count > 0,
-        Arrival::AtRate(_) | Arrival::OnLines(_) => false,
-    }
-}
-
-// Appends a counter that does not follow. A call of its own: few packets have one.
-#[inline(never)]
-#[tactic(auto, unfolding(crate::specs::Seen::counter_events_by))]
-fn push_counter(events: &mut Vec<Event>, error: &ContinuityError) -> Result<(), AllocError>
-    ensures { OnOk result (events.new.items ≡ events.old.items ++ spec.counter_events_by (Some error.now)) }
-{
-    events.push(Event::Continuity(CounterFault {
-        pid: error.pid,
-        packet: error.packet,
-        expected: error.expected,
-        found: error.found,
-    }))?;
-    Ok(())
-}
-
-#[tactic(auto, unfolding(crate::specs::Seen::counter_events_by))]
-fn push_counter_if(
-    events: &mut Vec<Event>,
-    error: &Option<ContinuityError>,
-) -> Result<(), AllocError>
-    ensures { OnOk result (events.new.items ≡ events.old.items ++ spec.counter_events_by error.now) }
-{
-    match error {
-        None => Ok(()),
-        Some(error) => push_counter(events, error),
-    }
 }
 
 impl Seen {
@@ -290,8 +222,8 @@ impl Seen {
         Ok(())
     }
 
-    // Takes the clock reference of a packet, and appends its errors. Returns their number, and that of the errors of
-    // accuracy. A call of its own: few packets have one.
+    // Takes the clock reference of a packet, and appends its errors. Returns the number of errors, and of errors of
+    // accuracy. A call of its own: few packets have a clock reference.
     #[inline(never)]
     fn take_reference(
         &mut self,
@@ -310,7 +242,7 @@ impl Seen {
         Ok((errors_in(&report), inaccurate))
     }
 
-    // The same, if the packet has a clock reference.
+    // Returns the same, if the packet has a clock reference.
     #[tactic(auto, unfolding(tr101290::specs::PidWatches::taken_if, tr101290::specs::PidWatches::report_if, ts_watch::specs::ClockEvents::report_events_if, ts_watch::specs::ClockEvents::errors_in, ts_watch::specs::RuleEvents::judge_after, ts_watch::specs::RuleEvents::accuracy_events, ts_watch::specs::RuleEvents::accuracy_count, ts_watch::specs::ClockWindows::taken))]
     fn take_reference_if(
         &mut self,

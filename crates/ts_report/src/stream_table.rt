@@ -13,16 +13,16 @@ ghost use Rattle.es_view.specs.Entries.{is_good as entry_is_good};
 ghost use Rattle.ts_report.specs.StreamTables.{AreEntries, IsTable, TableState};
 
 use es_buffers::{Buffers, longest_stay};
-use es_view::clocks::Clocks;
+use es_events::clocks::Clocks;
+use es_events::entry_events::stream_event;
+use es_events::mark_tally::MarkTally;
+use es_events::tally::Tally;
+use es_events::video_figures::view_video_if;
+use es_events::video_tally::VideoTally;
+use es_events::view_options::ViewOptions;
 use es_view::counted_buffers::CountedBuffers;
-use es_view::entry_events::stream_event;
 use es_view::entry_frames::{EntryFrames, unit_in};
-use es_view::mark_tally::MarkTally;
 use es_view::stream_entry::StreamEntry;
-use es_view::tally::Tally;
-use es_view::video_figures::view_video_if;
-use es_view::video_tally::VideoTally;
-use es_view::view_options::ViewOptions;
 use events::Event;
 use pid_map::PidMap;
 use sound_frames::FrameKind;
@@ -43,7 +43,7 @@ pub struct StreamTable {
     entries: Vec<StreamEntry>,
 }
 
-// The place of a PID.
+// Returns the place of a PID.
 #[inline(always)]
 fn place_of(places: &mut PidMap<usize, Global>, pid: u16) -> Option<usize>
     ensures place { result ≡ lookup (nat_eq pid) places.old.entries }
@@ -61,7 +61,7 @@ fn coding_by(stream: &FoundStream, packet: &Packet<'_>) -> Coding
     coding_of(stream.stream_type, &stream.descriptors, unit_in(payload))
 }
 
-// A stream, where its program is viewed.
+// Returns a stream, if its program is viewed.
 #[tactic(auto, unfolding(ts_watch::specs::Choices::chosen))]
 fn chosen<'n>(choice: &ViewChoice, stream: Option<&'n FoundStream>) -> Option<&'n FoundStream>
     ensures { option_map (λ s. s.now) result ≡ choices.chosen choice.now (option_map (λ s. s.now) stream.entry) }
@@ -74,7 +74,7 @@ fn chosen<'n>(choice: &ViewChoice, stream: Option<&'n FoundStream>) -> Option<&'
     }
 }
 
-// The walk over the frames of a stream before its first packet, if they are viewed.
+// Returns the walk over the frames of a stream before its first packet, if they are viewed.
 #[tactic(auto, unfolding(crate::specs::StreamTables::new_framed, es_view::specs::Entries::AreFrames))]
 fn frames_of(alloc: Global, kind: Option<FrameKind>) -> Option<EntryFrames>
     ensures { (h : Held) → AreFrames result (spec.new_framed h kind) }
@@ -85,7 +85,7 @@ fn frames_of(alloc: Global, kind: Option<FrameKind>) -> Option<EntryFrames>
     }
 }
 
-// A stream before its first packet.
+// Returns a stream before its first packet.
 fn new_entry(
     alloc: Global,
     options: &ViewOptions,
@@ -201,7 +201,7 @@ impl StreamTable {
         &self.choice
     }
 
-    // The stream whose buffers begin with a packet.
+    // Returns the stream whose buffers begin with a packet.
     fn beginning<'n>(&self, named: &'n NamedStreams, packet: &Packet<'_>) -> Option<&'n FoundStream>
         ensures { (t : TableState) → IsTable self.now t →
             option_map (λ s. s.now) result ≡ spec.beginning named.now t (packet_view packet.now) }
@@ -213,7 +213,7 @@ impl StreamTable {
         }
     }
 
-    // A stream more.
+    // Adds a stream.
     fn add(&mut self, pid: u16, entry: StreamEntry) -> Result<(), AllocError>
         ensures { (t : TableState) (e : EntryState) → IsTable self.old t → IsEntry entry e →
             OnOk result (IsTable self.new (spec.with_entry t pid e)) }

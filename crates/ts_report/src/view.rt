@@ -64,7 +64,7 @@ impl View {
         self.seen.arrive(arrival, count, events)
     }
 
-    // Appends what is found in the last packet's window.
+    // Appends the events of the last packet's window.
     fn push_window(&self, events: &mut Vec<Event>) -> Result<(), AllocError>
         ensures { (s : ViewState) → IsView self.now s → OnOk result (events.new.items
             ≡ events.old.items ++ spec.all_window_events s) }
@@ -86,7 +86,7 @@ impl View {
         self.push_window(events)
     }
 
-    // A packet of a PID, in this window, in the buffers of its stream.
+    // Takes a packet of a window into the buffers of its stream.
     fn buffer(
         &mut self,
         window: u64,
@@ -108,7 +108,7 @@ impl View {
             .take(&seen.options, index, window, &seen.clocks, packet, events)
     }
 
-    // A packet that is not known to be wrong.
+    // Takes a packet that is not refused.
     fn count(&mut self, packet: &Packet<'_>, events: &mut Vec<Event>) -> Result<(), AllocError>
         ensures view { (s : ViewState) → IsView self.old s → OnOk result
             (IsView self.new (spec.with_packet s (packet_view packet.now))) }
@@ -122,7 +122,7 @@ impl View {
         self.seen.count(window, self.table.choice(), packet, events)
     }
 
-    // A packet as it was read.
+    // Takes a packet as it was read.
     #[tactic(auto, unfolding(crate::specs::Views::after_read, crate::specs::Views::events_read))]
     fn note(
         &mut self,
@@ -146,7 +146,7 @@ impl View {
         }
     }
 
-    // The sections of tables in 188 bytes, which were read.
+    // Takes the sections of tables in 188 bytes, which were read.
     #[tactic(auto, unfolding(crate::specs::Views::without_stream))]
     fn watch_tables<'a>(
         &mut self,

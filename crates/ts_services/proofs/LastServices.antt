@@ -1,7 +1,7 @@
 -- What is said of one service, finding by finding.
 use Rattle.std.proofs.Common.{◌≡◌, ◌≤◌, ◌<◌, ℕ, ◌+◌, List, length, map, drop, get_or, Option, option_map, refl, sym, None}
 use Rattle.std.specs.Option.{option_or}
-use Rattle.demux.specs.Views.{FindingView}
+use Rattle.pid_findings.specs.Views.{FindingView}
 use Rattle.ts_services.specs.Services.{FoundServiceView, service_found, service}
 use Rattle.program_tables.proofs.LastMaps.{or_both}
 use Rattle.program_tables.specs.Sections.{section_on}

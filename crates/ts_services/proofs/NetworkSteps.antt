@@ -1,7 +1,7 @@
 -- Network information tables, finding by finding.
 use Rattle.std.proofs.Common.{◌≡◌, ◌≤◌, ◌<◌, ℕ, ◌+◌, true, false, List, length, map, drop, get_or, Option, Some, None, refl}
 use Rattle.std.specs.Option.{option_or}
-use Rattle.demux.specs.Views.{FindingView}
+use Rattle.pid_findings.specs.Views.{FindingView}
 use Rattle.ts_services.specs.NetworkInformation.{FoundNetworkView, is_surplus, network_said, first_network, surplus_from}
 use Rattle.ts_services.specs.declared.network_information.KnownStream.{KnownStream}
 use Rattle.program_tables.proofs.Slices.{more, done}

@@ -6,7 +6,7 @@ use Rattle.std.specs.Map.{lookup}
 use Rattle.std.specs.Option.{option_or}
 use Rattle.dvb_tables.specs.Services.{ServiceView}
 use Rattle.dvb_tables.specs.ServiceDescription.{SdtView}
-use Rattle.demux.specs.Views.{FindingView}
+use Rattle.pid_findings.specs.Views.{FindingView}
 use Rattle.descriptor_loops.specs.Descriptors.{descriptors_in}
 use Rattle.ts_services.specs.ServiceDescriptions.{sdt_found}
 use Rattle.ts_services.specs.Services.{FoundServiceView, in_descriptors, in_entries, of_entry, service, service_found}

@@ -1,4 +1,4 @@
--- The network of a stream: what its network information table says of it (EN 300 468, 5.2.1 and 6.2.27).
+-- The network of a stream, by its network information table (EN 300 468, 5.2.1 and 6.2.27).
 use Rattle.std.specs.Prelude.{ℕ, ◌==◌, ◌&&◌, nat_le, not, Bool, true, false, if◌then◌else◌, List, [], ◌∷◌, length, Option, Some, None, option_map}
 use Rattle.std.specs.Prelude.{option_and_then, Result, Ok, Err}
 use Rattle.std.specs.Option.{option_or}
@@ -10,7 +10,7 @@ use Rattle.dvb_tables.specs.DescriptorLoops.{are_whole_descriptors}
 use Rattle.dvb_tables.specs.NetworkInformation.{NitView, nit_at}
 use Rattle.dvb_tables.specs.TransportStreams.{TransportStreamView}
 use Rattle.descriptor_loops.specs.Descriptors.{DescriptorView, descriptors_in, is_tagged}
-use Rattle.demux.specs.Views.{WhatView, IsSection, FindingView}
+use Rattle.pid_findings.specs.Views.{WhatView, IsSection, FindingView}
 use Rattle.ts_services.specs.Networks.{network}
 use Rattle.program_tables.specs.Sections.{section_on}
 use Rattle.ts_services.specs.declared.network_information.FoundNetwork.{FoundNetwork}
@@ -46,7 +46,7 @@ pub record FoundNetworkView : Type 0 where
 abbrev pub found_network_view : FoundNetwork → FoundNetworkView
 found_network_view n = record { id = n.id; original = n.original; name = n.name.now; descriptors = n.descriptors.now }
 
--- what the first network name descriptor says; nothing without one
+-- the text of the first network name descriptor; empty without one
 unfoldable pub coded_name : List DescriptorView → List ℕ
 coded_name [] = []
 coded_name (d ∷ ds) = if is_tagged 0x40 d then d.body else coded_name ds
@@ -82,7 +82,7 @@ network_in s nit = option_and_then (network_with nit) (entry_of s nit.transport_
 unfoldable pub network_said : KnownStream → FindingView → Option FoundNetworkView
 network_said s finding = option_and_then (network_in s) (nit_found finding)
 
--- what the first of them says
+-- the network by the first section that has it
 unfoldable pub first_network : KnownStream → List FindingView → Option FoundNetworkView
 first_network s [] = None
 first_network s (finding ∷ findings) = option_or (network_said s finding) (first_network s findings)
@@ -110,7 +110,7 @@ is_one [] = false
 is_one (t ∷ []) = true
 is_one (t ∷ u ∷ ts) = false
 
--- of a network its name and nothing else, and no other transport stream
+-- a section has the name of a network and nothing else, and no other transport stream
 unfoldable pub says_no_more : NitView → Bool
 says_no_more nit = is_name_alone nit.network_descriptors && is_one nit.transport_streams
 
@@ -131,7 +131,7 @@ is_network_section _ = false
 unfoldable pub is_surplus : KnownStream → Option FoundNetworkView → FindingView → Bool
 is_surplus s n finding = is_network_section finding.what && not (is_said s n (nit_found finding))
 
--- the packet in which the first such section ends that is not of this network, or says anything else
+-- the packet where the first such section ends that is not of this network, or says anything else
 unfoldable pub surplus_from : KnownStream → Option FoundNetworkView → List FindingView → Option ℕ
 surplus_from s n [] = None
 surplus_from s n (finding ∷ findings) = if is_surplus s n finding then Some finding.packet else surplus_from s n findings

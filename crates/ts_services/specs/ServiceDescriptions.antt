@@ -4,7 +4,7 @@ use Rattle.psi_tables.specs.Views.{SectionView}
 use Rattle.psi_tables.specs.Reading.{section_at}
 use Rattle.psi_tables.specs.declared.error.SectionError.{SectionError}
 use Rattle.dvb_tables.specs.ServiceDescription.{SdtView, sdt_at}
-use Rattle.demux.specs.Views.{FindingView}
+use Rattle.pid_findings.specs.Views.{FindingView}
 use Rattle.program_tables.specs.Sections.{section_on}
 
 -- a table that is in force now, and not the next one

@@ -1,15 +1,15 @@
--- The places of what is said of services among findings, by program_number, in one pass.
+-- The places among findings of tables that describe services, by program_number, in one pass.
 use Rattle.std.specs.Prelude.{◌≡◌, ℕ, ◌+◌, nat_eq, List, [], ◌∷◌, slice_get, Option, Some, None, option_and_then}
 use Rattle.std.specs.Map.{lookup}
 use Rattle.indexmap.specs.IndexMap.{insert_entry}
 use Rattle.dvb_tables.specs.Services.{ServiceView}
 use Rattle.dvb_tables.specs.ServiceDescription.{SdtView}
-use Rattle.demux.specs.Views.{FindingView}
+use Rattle.pid_findings.specs.Views.{FindingView}
 use Rattle.descriptor_loops.specs.Descriptors.{descriptors_in}
 use Rattle.ts_services.specs.ServiceDescriptions.{sdt_found}
 use Rattle.ts_services.specs.Services.{FoundServiceView, in_descriptors, service, service_found}
 
--- 1. Places: by service_id that of the last finding whose table says something of the service
+-- 1. Places: by service_id the place of the last finding whose table describes the service
 
 unfoldable pub with_said : List (ℕ × ℕ) → ℕ → ℕ → Option FoundServiceView → List (ℕ × ℕ)
 with_said es number at None = es
@@ -27,7 +27,7 @@ unfoldable pub with_table : List (ℕ × ℕ) → ℕ → Option SdtView → Lis
 with_table es at None = es
 with_table es at (Some sdt) = with_entries es at sdt.services
 
--- of findings, the first of which has the place `at`
+-- the places with further findings; the first has the place `at`
 unfoldable pub services_from : List (ℕ × ℕ) → ℕ → List FindingView → List (ℕ × ℕ)
 services_from es at [] = es
 services_from es at (f ∷ fs) = services_from (with_table es at (sdt_found f)) (at + 1) fs
@@ -41,7 +41,7 @@ unfoldable pub service_there : ℕ → Option ℕ → List FindingView → Optio
 service_there number None findings = None
 service_there number (Some at) findings = option_and_then (service_found number) (slice_get findings at)
 
--- so what is last said of each service is found
+-- the place by service_id finds the last description of each service
 abbrev pub ServicesAreThere : Type 0
 ServicesAreThere = (number : ℕ) (findings : List FindingView) →
     service_there number (lookup (nat_eq number) (services_in findings)) findings ≡ service number findings

@@ -1,13 +1,13 @@
--- The services of a stream: what its service description table says of a program (EN 300 468, 5.2.3 and 6.2.33).
+-- The services of a stream, by its service description table (EN 300 468, 5.2.3 and 6.2.33).
 use Rattle.std.specs.Prelude.{ℕ, ◌==◌, nat_lt, if◌then◌else◌, List, [], ◌∷◌, length, take, drop, Option, Some, None, option_map, option_and_then}
 use Rattle.std.specs.Option.{option_or}
 use Rattle.dvb_tables.specs.Services.{ServiceView}
-use Rattle.demux.specs.Views.{FindingView}
+use Rattle.pid_findings.specs.Views.{FindingView}
 use Rattle.descriptor_loops.specs.Descriptors.{DescriptorView, descriptors_in}
 use Rattle.ts_services.specs.ServiceDescriptions.{sdt_found}
 use Rattle.ts_services.specs.declared.services.FoundService.{FoundService}
 
--- what a service descriptor says, its texts as they are coded there
+-- the fields of a service descriptor, with its texts as they are coded there
 pub record FoundServiceView : Type 0 where
   pub service_type : ℕ
   pub provider : List ℕ
@@ -16,7 +16,7 @@ pub record FoundServiceView : Type 0 where
 abbrev pub found_service_view : FoundService → FoundServiceView
 found_service_view s = record { service_type = s.service_type; provider = s.provider.now; name = s.name.now }
 
--- the bytes after a byte with their number, and what follows them
+-- the bytes after a byte with their number, and the bytes that follow them
 unfoldable pub length_prefixed : List ℕ → Option (List ℕ × List ℕ)
 length_prefixed [] = None
 length_prefixed (size ∷ rest) = if nat_lt (length rest) size then None else Some (take size rest, drop size rest)
@@ -39,7 +39,7 @@ unfoldable pub in_descriptors : List DescriptorView → Option FoundServiceView
 in_descriptors [] = None
 in_descriptors (d ∷ ds) = option_or (of_descriptor d) (in_descriptors ds)
 
--- of the entry with this service_id, which is a program's program_number
+-- the service by the entry with this service_id, which is a program's program_number
 unfoldable pub of_entry : ℕ → ServiceView → Option FoundServiceView
 of_entry number s = if s.service_id == number then in_descriptors (descriptors_in s.descriptors) else None
 
@@ -47,11 +47,11 @@ unfoldable pub in_entries : ℕ → List ServiceView → Option FoundServiceView
 in_entries number [] = None
 in_entries number (s ∷ ss) = option_or (of_entry number s) (in_entries number ss)
 
--- what the table says that a finding has
+-- the service by the table that a finding has
 unfoldable pub service_found : ℕ → FindingView → Option FoundServiceView
 service_found number finding = option_and_then (λ sdt. in_entries number sdt.services) (sdt_found finding)
 
--- what the last one of a stream says
+-- the service by the last table of a stream that describes it
 unfoldable pub service : ℕ → List FindingView → Option FoundServiceView
 service number [] = None
 service number (finding ∷ findings) = option_or (service number findings) (service_found number finding)

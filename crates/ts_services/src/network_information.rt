@@ -2,16 +2,16 @@
 
 ghost use Rattle.std.specs.Prelude.{◌≡◌, map, option_map};
 ghost use Rattle.psi_tables.specs.Views.{section_view};
-ghost use Rattle.demux.specs.Shown.{finding_view, what_view};
+ghost use Rattle.pid_findings.specs.Shown.{finding_view, what_view};
 ghost use Rattle.dvb_tables.specs.NetworkInformation.{nit_at, nit_view};
 ghost use Rattle.dvb_tables.specs.TransportStreams.{transport_stream_view, transport_streams_of};
 ghost use Rattle.descriptor_loops.specs.Descriptors.{descriptors_in};
 ghost use Rattle.ts_services.specs.NetworkInformation as spec;
 
 use crate::networks::original_network;
-use demux::{Finding, What};
 use descriptor_loops::Descriptors;
 use dvb_tables::{NIT_TABLE_ID, Nit, TransportStream, TransportStreams, are_whole_descriptors};
+use pid_findings::{Finding, What};
 use program_tables::section_on;
 use psi_tables::Section;
 use std::alloc::Allocator;
@@ -44,7 +44,7 @@ pub(crate) struct KnownStream {
     pub original_network_id: Option<u16>,
 }
 
-// A table that is in force now.
+// Returns a table that is in force now.
 #[tactic(auto, unfolding(crate::specs::NetworkInformation::nit_of_section, crate::specs::NetworkInformation::nit_in_force))]
 fn nit_of_section<'f>(section: &Section<'f>) -> Option<Nit<'f>>
     ensures { option_map nit_view result ≡ spec.nit_in_force (nit_at (section_view section.now)) }
@@ -71,7 +71,7 @@ fn nit_in(bytes: &[u8]) -> Option<Nit<'_>>
     }
 }
 
-// The table that a finding has.
+// Returns the table that a finding has.
 #[tactic(auto, unfolding(crate::specs::NetworkInformation::nit_found))]
 fn nit_found<'f, A: Allocator>(finding: &'f Finding<'_, A>) -> Option<Nit<'f>>
     ensures { option_map nit_view result ≡ spec.nit_found (finding_view finding.now) }
@@ -82,7 +82,7 @@ fn nit_found<'f, A: Allocator>(finding: &'f Finding<'_, A>) -> Option<Nit<'f>>
     }
 }
 
-// What the first network name descriptor says.
+// Returns what the first network name descriptor says.
 #[tactic(auto, unfolding(crate::specs::NetworkInformation::coded_name, descriptor_loops::specs::Descriptors::is_tagged))]
 fn coded_name(bytes: &[u8]) -> &[u8]
     ensures { result.now ≡ spec.coded_name (descriptors_in bytes.now) }
@@ -95,7 +95,7 @@ fn coded_name(bytes: &[u8]) -> &[u8]
     &[]
 }
 
-// Whether an original_network_id is the known one, if one is known.
+// Returns whether an original_network_id is the known one, if one is known.
 #[tactic(auto, unfolding(crate::specs::NetworkInformation::is_original))]
 fn is_original(known: Option<u16>, id: u16) -> bool
     ensures { result ≡ spec.is_original known id }
@@ -106,7 +106,7 @@ fn is_original(known: Option<u16>, id: u16) -> bool
     }
 }
 
-// Whether an entry is that of a transport stream.
+// Returns whether an entry describes this transport stream.
 #[tactic(auto, unfolding(crate::specs::NetworkInformation::is_entry))]
 fn is_entry(stream: KnownStream, entry: &TransportStream<'_>) -> bool
     ensures { result ≡ spec.is_entry stream (transport_stream_view entry.now) }
@@ -115,7 +115,7 @@ fn is_entry(stream: KnownStream, entry: &TransportStream<'_>) -> bool
         && is_original(stream.original_network_id, entry.original_network_id)
 }
 
-// The entry of a transport stream.
+// Returns the entry of a transport stream.
 #[tactic(auto, unfolding(crate::specs::NetworkInformation::entry_of))]
 fn entry_of<'f>(stream: KnownStream, entries: TransportStreams<'f>) -> Option<TransportStream<'f>>
     ensures { option_map transport_stream_view result
@@ -129,7 +129,7 @@ fn entry_of<'f>(stream: KnownStream, entries: TransportStreams<'f>) -> Option<Tr
     None
 }
 
-// Whether a description can have these descriptors.
+// Returns whether a description can have these descriptors.
 #[tactic(auto, unfolding(crate::specs::NetworkInformation::can_be_said))]
 fn can_be_said(descriptors: &[u8]) -> bool
     ensures { result ≡ spec.can_be_said descriptors.now }
@@ -137,7 +137,7 @@ fn can_be_said(descriptors: &[u8]) -> bool
     descriptors.len() <= MOST_BYTES && are_whole_descriptors(descriptors)
 }
 
-// What a table says of one of its transport streams.
+// Returns the network in a table, and its descriptors for a transport stream; `None` if a description can't have them.
 #[tactic(auto, unfolding(crate::specs::NetworkInformation::network_with))]
 fn network_with<'f>(nit: Nit<'f>, entry: TransportStream<'f>) -> Option<FoundNetwork<'f>>
     ensures { option_map spec.found_network_view result
@@ -154,7 +154,7 @@ fn network_with<'f>(nit: Nit<'f>, entry: TransportStream<'f>) -> Option<FoundNet
     })
 }
 
-// What a table says of a transport stream.
+// Returns what a table says of a transport stream.
 #[tactic(auto, unfolding(crate::specs::NetworkInformation::network_in))]
 fn network_in<'f>(stream: KnownStream, nit: Nit<'f>) -> Option<FoundNetwork<'f>>
     ensures { option_map spec.found_network_view result ≡ spec.network_in stream (nit_view nit.entry) }
@@ -165,7 +165,7 @@ fn network_in<'f>(stream: KnownStream, nit: Nit<'f>) -> Option<FoundNetwork<'f>>
     }
 }
 
-// What the table of a finding says of it.
+// Returns what the table of a finding says of a transport stream.
 #[tactic(auto, unfolding(crate::specs::NetworkInformation::network_said))]
 fn network_said<'f, A: Allocator>(
     stream: KnownStream,
@@ -179,7 +179,7 @@ fn network_said<'f, A: Allocator>(
     }
 }
 
-// What the first table says of it.
+// Returns what the first table says of a transport stream.
 fn first_network<'f, A: Allocator>(
     stream: KnownStream,
     findings: &'f [Finding<'_, A>],
@@ -195,7 +195,7 @@ fn first_network<'f, A: Allocator>(
     None
 }
 
-// The transport stream of these findings.
+// Returns the transport stream of these findings.
 #[tactic(auto, unfolding(crate::specs::NetworkInformation::known_stream))]
 fn known_stream<A: Allocator>(transport_stream_id: u16, findings: &[Finding<'_, A>]) -> KnownStream
     ensures { result ≡ spec.known_stream transport_stream_id (map finding_view findings.now) }
@@ -233,7 +233,7 @@ fn is_same(one: FoundNetwork<'_>, other: Option<FoundNetwork<'_>>) -> bool
     }
 }
 
-// Whether there is no descriptor, or a network name descriptor alone.
+// Returns whether there is no descriptor, or a network name descriptor alone.
 #[tactic(auto, unfolding(crate::specs::NetworkInformation::is_name_alone))]
 fn is_name_alone(bytes: &[u8]) -> bool
     ensures { result ≡ spec.is_name_alone bytes.now }
@@ -245,7 +245,7 @@ fn is_name_alone(bytes: &[u8]) -> bool
     }
 }
 
-// Whether there is one transport stream.
+// Returns whether there is one transport stream.
 #[tactic(auto, unfolding(crate::specs::NetworkInformation::is_one))]
 fn is_one(entries: TransportStreams<'_>) -> bool
     ensures { result ≡ spec.is_one (transport_streams_of entries.entry) }
@@ -257,7 +257,7 @@ fn is_one(entries: TransportStreams<'_>) -> bool
     left.next().is_none()
 }
 
-// Whether a table says nothing of a network but its name, and has one transport stream.
+// Returns whether a table says nothing of a network but its name, and has one transport stream.
 #[tactic(auto, unfolding(crate::specs::NetworkInformation::says_no_more))]
 fn says_no_more(nit: Nit<'_>) -> bool
     ensures { result ≡ spec.says_no_more (nit_view nit.entry) }
@@ -265,7 +265,7 @@ fn says_no_more(nit: Nit<'_>) -> bool
     is_name_alone(nit.network_descriptors) && is_one(nit.transport_streams)
 }
 
-// Whether a table says nothing but this.
+// Returns whether a table has this network and nothing more.
 #[tactic(auto, unfolding(crate::specs::NetworkInformation::says_only))]
 fn says_only(stream: KnownStream, network: Option<FoundNetwork<'_>>, nit: Nit<'_>) -> bool
     ensures { result ≡ spec.says_only stream (option_map spec.found_network_view network.entry) (nit_view nit.entry) }
@@ -276,7 +276,7 @@ fn says_only(stream: KnownStream, network: Option<FoundNetwork<'_>>, nit: Nit<'_
     }
 }
 
-// Whether there is a table, and it says nothing but this.
+// Returns whether there is a table, and it has this network and nothing more.
 #[tactic(auto, unfolding(crate::specs::NetworkInformation::is_said))]
 fn is_said(stream: KnownStream, network: Option<FoundNetwork<'_>>, nit: Option<Nit<'_>>) -> bool
     ensures { result ≡ spec.is_said stream (option_map spec.found_network_view network.entry)
@@ -288,7 +288,7 @@ fn is_said(stream: KnownStream, network: Option<FoundNetwork<'_>>, nit: Option<N
     }
 }
 
-// Whether it is a section with the table_id of a network information section.
+// Returns whether a finding is a section with the table_id of a network information section.
 #[tactic(auto, unfolding(crate::specs::NetworkInformation::is_network_section))]
 fn is_network_section<A: Allocator>(what: &What<'_, A>) -> bool
     ensures { result ≡ spec.is_network_section (what_view what.now) }
@@ -302,7 +302,7 @@ fn is_network_section<A: Allocator>(what: &What<'_, A>) -> bool
     }
 }
 
-// Whether a finding is such a section that is not of this network, or says anything else.
+// Returns whether a finding is a network information section (actual network) with anything but this network.
 #[tactic(auto, unfolding(crate::specs::NetworkInformation::is_surplus))]
 fn is_surplus<A: Allocator>(
     stream: KnownStream,
@@ -315,7 +315,7 @@ fn is_surplus<A: Allocator>(
     is_network_section(&finding.what) && !is_said(stream, network, nit_found(finding))
 }
 
-// The packet in which the first of these sections ends.
+// Returns the packet where the first section ends that is of another network or not carried unchanged.
 fn surplus_from<A: Allocator>(
     stream: KnownStream,
     network: Option<FoundNetwork<'_>>,

@@ -1,14 +1,14 @@
 //! The original network of a stream's services (EN 300 468, 5.2.3).
 
 ghost use Rattle.std.specs.Prelude.{◌≡◌, map};
-ghost use Rattle.demux.specs.Shown.{finding_view};
+ghost use Rattle.pid_findings.specs.Shown.{finding_view};
 ghost use Rattle.ts_services.specs.Networks as spec;
 
 use crate::service_description::sdt_found;
-use demux::Finding;
+use pid_findings::Finding;
 use std::alloc::Allocator;
 
-// What a finding says.
+// Returns the network_id in a finding's table.
 #[tactic(auto, unfolding(crate::specs::Networks::network_found))]
 fn network_found<A: Allocator>(finding: &Finding<'_, A>) -> Option<u16>
     ensures { result ≡ spec.network_found (finding_view finding.now) }

@@ -2,12 +2,12 @@
 
 ghost use Rattle.std.specs.Prelude.{◌≡◌, option_map};
 ghost use Rattle.psi_tables.specs.Views.{section_view};
-ghost use Rattle.demux.specs.Shown.{finding_view};
+ghost use Rattle.pid_findings.specs.Shown.{finding_view};
 ghost use Rattle.dvb_tables.specs.ServiceDescription.{sdt_at, sdt_view};
 ghost use Rattle.ts_services.specs.ServiceDescriptions as spec;
 
-use demux::Finding;
 use dvb_tables::Sdt;
+use pid_findings::Finding;
 use program_tables::section_on;
 use psi_tables::Section;
 use std::alloc::Allocator;
@@ -15,7 +15,7 @@ use std::alloc::Allocator;
 /// The PID of service description sections.
 pub(crate) const SDT_PID: u16 = 0x11;
 
-// A table that is in force now.
+// Returns a table that is in force now.
 #[tactic(auto, unfolding(crate::specs::ServiceDescriptions::sdt_of_section, crate::specs::ServiceDescriptions::in_force))]
 fn sdt_of_section<'f>(section: &Section<'f>) -> Option<Sdt<'f>>
     ensures { option_map sdt_view result ≡ spec.in_force (sdt_at (section_view section.now)) }

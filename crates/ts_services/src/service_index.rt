@@ -1,8 +1,8 @@
-//! What is last said of each service among findings, found in one pass.
+//! The last description of each service among findings, found in one pass.
 
 ghost use Rattle.std.specs.Prelude.{◌≡◌, IfOk, OnOk, map, nat_eq, option_map};
 ghost use Rattle.std.specs.Map.{lookup};
-ghost use Rattle.demux.specs.Shown.{finding_view};
+ghost use Rattle.pid_findings.specs.Shown.{finding_view};
 ghost use Rattle.dvb_tables.specs.ServiceDescription.{sdt_view};
 ghost use Rattle.dvb_tables.specs.Services.{service_view, services_of};
 ghost use Rattle.ts_services.specs.ServicePlaces as spec;
@@ -10,9 +10,9 @@ ghost use Rattle.ts_services.specs.Services.{found_service_view, service};
 
 use crate::service_description::sdt_found;
 use crate::services::{FoundService, in_descriptors, service_found};
-use demux::Finding;
 use dvb_tables::{Sdt, Service, Services};
 use indexmap::IndexMap;
+use pid_findings::Finding;
 use std::alloc::{AllocError, Allocator, Global};
 use std::hash::{BuildHasherDefault, FoldHasher};
 use std::marker::Model;
@@ -20,19 +20,19 @@ use std::marker::Model;
 /// By service_id: a place among findings.
 type Places<A> = IndexMap<u16, usize, BuildHasherDefault<FoldHasher>, A>;
 
-/// What is last said of each service among findings.
+/// The last description of each service among findings.
 #[derive(Drop)]
 pub struct FoundServices<'f, 'p, A: Allocator = Global> {
     findings: &'f [Finding<'p, A>],
-    /// The places of the last findings whose service description sections say something of a service.
+    /// The places of the last findings whose service description sections describe a service.
     places: Places<A>,
 }
 
 // A contract sees the findings.
 impl<'f, 'p, A: Allocator> Model for FoundServices<'f, 'p, A> {
     ghost use Rattle.std.specs.Prelude.{◌≡◌, List, map};
-    ghost use Rattle.demux.specs.Shown.{finding_view};
-    ghost use Rattle.demux.specs.Views.{FindingView};
+    ghost use Rattle.pid_findings.specs.Shown.{finding_view};
+    ghost use Rattle.pid_findings.specs.Views.{FindingView};
     ghost use Rattle.ts_services.specs.ServicePlaces.{services_in};
 
     ghost Value = { List FindingView };
@@ -42,7 +42,7 @@ impl<'f, 'p, A: Allocator> Model for FoundServices<'f, 'p, A> {
     ghost invariant = { λ s. s.places.entries ≡ services_in (map finding_view s.findings.now) };
 }
 
-// Notes the place of a finding, if an entry of its table says something of a service.
+// Notes the place of a finding, if an entry of its table describes a service.
 #[tactic(auto, unfolding(crate::specs::ServicePlaces::with_said))]
 fn note_entry<A: Allocator + Copy>(
     places: &mut Places<A>,
@@ -88,7 +88,7 @@ fn note_table<A: Allocator + Copy>(
     }
 }
 
-// The places among findings.
+// Returns the places among findings.
 fn places_in<A: Allocator + Copy>(
     alloc: A,
     findings: &[Finding<'_, A>],
@@ -102,7 +102,7 @@ fn places_in<A: Allocator + Copy>(
     Ok(places)
 }
 
-/// Returns what is last said of each service among findings.
+/// Returns the last description of each service among findings.
 pub fn found_services<'f, 'p, A: Allocator + Copy>(
     alloc: A,
     findings: &'f [Finding<'p, A>],
@@ -113,7 +113,7 @@ pub fn found_services<'f, 'p, A: Allocator + Copy>(
     Ok(FoundServices { findings, places })
 }
 
-// The place for a service.
+// Returns the place for a service.
 fn place_of<A: Allocator>(places: &Places<A>, number: u16) -> Option<usize>
     ensures { result ≡ lookup (nat_eq number) places.now.entries }
 {
@@ -123,7 +123,7 @@ fn place_of<A: Allocator>(places: &Places<A>, number: u16) -> Option<usize>
     }
 }
 
-// What the finding at a place says of a service.
+// Returns what the finding at a place says of a service.
 #[tactic(auto, unfolding(crate::specs::ServicePlaces::service_there))]
 fn service_there<'f, A: Allocator>(
     number: u16,

@@ -1,15 +1,15 @@
 //! The services of a stream (EN 300 468, 5.2.3 and 6.2.33).
 
 ghost use Rattle.std.specs.Prelude.{◌≡◌, map, option_map};
-ghost use Rattle.demux.specs.Shown.{finding_view};
+ghost use Rattle.pid_findings.specs.Shown.{finding_view};
 ghost use Rattle.dvb_tables.specs.Services.{service_view, services_of};
 ghost use Rattle.descriptor_loops.specs.Descriptors.{descriptor_view, descriptors_in};
 ghost use Rattle.ts_services.specs.Services as spec;
 
 use crate::service_description::{SDT_PID, sdt_found};
-use demux::Finding;
 use descriptor_loops::{Descriptor, Descriptors};
 use dvb_tables::{Service, Services};
+use pid_findings::Finding;
 use program_tables::sections::is_on;
 use std::alloc::Allocator;
 
@@ -40,7 +40,7 @@ pub fn length_prefixed(bytes: &[u8]) -> Option<(&[u8], &[u8])>
     }
 }
 
-// The service of a service descriptor with this service_type.
+// Returns the service of a service descriptor with this service_type.
 #[tactic(auto, unfolding(crate::specs::Services::with_provider))]
 fn named(service_type: u8, rest: &[u8]) -> Option<FoundService<'_>>
     ensures { option_map spec.found_service_view result ≡ spec.with_provider service_type
@@ -55,7 +55,7 @@ fn named(service_type: u8, rest: &[u8]) -> Option<FoundService<'_>>
     })
 }
 
-// What the body of a service descriptor says.
+// Returns what the body of a service descriptor says.
 #[tactic(auto, unfolding(crate::specs::Services::service_in))]
 fn service_in(body: &[u8]) -> Option<FoundService<'_>>
     ensures { option_map spec.found_service_view result ≡ spec.service_in body.now }
@@ -66,7 +66,7 @@ fn service_in(body: &[u8]) -> Option<FoundService<'_>>
     }
 }
 
-// What a descriptor says of a service.
+// Returns what a descriptor says of a service.
 #[tactic(auto, unfolding(crate::specs::Services::of_descriptor))]
 fn of_descriptor<'f>(descriptor: Descriptor<'f>) -> Option<FoundService<'f>>
     ensures { option_map spec.found_service_view result ≡ spec.of_descriptor (descriptor_view descriptor.entry) }
@@ -102,7 +102,7 @@ fn of_entry<'f>(number: u16, entry: Service<'f>) -> Option<FoundService<'f>>
     }
 }
 
-// What the entry of a program says.
+// Returns what the entry of a program says.
 #[tactic(auto, unfolding(crate::specs::Services::in_entries))]
 fn in_entries<'f>(number: u16, entries: Services<'f>) -> Option<FoundService<'f>>
     ensures { option_map spec.found_service_view result ≡ spec.in_entries number (services_of entries.entry) }

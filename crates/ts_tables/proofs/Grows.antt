@@ -3,7 +3,7 @@ use Rattle.std.proofs.Common.{◌≡◌, ◌∙◌, sym, ℕ, ◌==◌, Bool, tr
 use Rattle.std.specs.Option.{option_or}
 use Rattle.psi_tables.specs.ProgramMap.{PmtView}
 use Rattle.psi_tables.specs.declared.pat.programs.Program.{Program}
-use Rattle.demux.specs.Views.{FindingView}
+use Rattle.pid_findings.specs.Views.{FindingView}
 use Rattle.demux.specs.Stream.{StreamState, pushed, completed, found_in}
 use Rattle.program_tables.specs.ProgramMaps.{pmt_found, program_map}
 

@@ -2,7 +2,7 @@
 use Rattle.std.specs.Prelude.{ℕ, ◌+◌, ◌-◌, ◌^◌, ◌==◌, ◌||◌, min, nat_le, is_some, Bool, if◌then◌else◌, List, [], ◌∷◌, Option, Some, None}
 use Rattle.std.specs.List.{list_all}
 use Rattle.psi_tables.specs.declared.pat.programs.Program.{Program}
-use Rattle.demux.specs.Views.{FindingView}
+use Rattle.pid_findings.specs.Views.{FindingView}
 use Rattle.demux.specs.Stream.{StreamState, start, pushed}
 use Rattle.program_tables.specs.Association.{AssociationView, association}
 use Rattle.program_tables.specs.ProgramMaps.{program_map}
@@ -22,7 +22,7 @@ streams_by last found (Some table) = if last || have_maps found table.programs t
 abbrev pub streams_at : Bool → List FindingView → Option FoundProgramsView
 streams_at last found = streams_by last found (association found)
 
--- what is found of the packets so far, their number, and the streams once these are known
+-- the findings in the packets so far, their number, and the streams once these are known
 pub record NamedView : Type 0 where
   pub demux : StreamState
   pub packets : ℕ
@@ -32,7 +32,7 @@ pub record NamedView : Type 0 where
 abbrev pub none_taken : NamedView
 none_taken = record { demux = start; packets = 0; streams = None }
 
--- so many packets are looked at
+-- whether the limit of packets that are read for tables is reached
 abbrev pub is_last : ℕ → Bool
 is_last packets = nat_le FIRST_PACKETS packets
 
@@ -40,7 +40,7 @@ is_last packets = nat_le FIRST_PACKETS packets
 abbrev pub next_packet : ℕ → ℕ
 next_packet packets = min (packets + 1) (2 ^ 32 - 1)
 
--- with another packet: the streams as what is found with it names them
+-- after a further packet: the streams as the findings then name them
 abbrev pub looked_at : NamedView → List ℕ → NamedView
 looked_at s bytes = record {
   demux = pushed s.demux bytes;
@@ -65,11 +65,11 @@ unfoldable pub stream_by : ℕ → Option FoundProgramsView → Option FoundStre
 stream_by pid None = None
 stream_by pid (Some found) = stream_in pid found.streams
 
--- among those that are known
+-- the stream of a PID among the known streams
 abbrev pub stream_of : NamedView → ℕ → Option FoundStreamView
 stream_of s pid = stream_by pid s.streams
 
--- PCR_PID of a program among these; 8191, that of no clock reference, where there is no such program
+-- PCR_PID of a program among these; 8191, which means no clock reference, if there is no such program
 unfoldable pub clock_in : ℕ → List FoundProgramView → ℕ
 clock_in number [] = 8191
 clock_in number (program ∷ programs) = if program.number == number then program.pcr_pid else clock_in number programs

@@ -1,7 +1,7 @@
 -- The names of the services of programs, as service description tables of this stream say them (EN 300 468, 5.2.3 and 6.2.33).
 use Rattle.std.specs.Prelude.{ℕ, ◌%◌, ◌==◌, ◌&&◌, Bool, if◌then◌else◌, List, [], ◌∷◌, length, map, slice_index, Option, Some, None}
 use Rattle.std.specs.Option.{option_map, option_or}
-use Rattle.demux.specs.Views.{FindingView}
+use Rattle.pid_findings.specs.Views.{FindingView}
 use Rattle.demux.specs.Stream.{StreamState, start, pushed}
 use Rattle.demux.specs.FoundSoFar.{with_found}
 use Rattle.stream_programs.specs.Programs.{FoundProgramView}
@@ -9,12 +9,12 @@ use Rattle.ts_services.specs.Services.{FoundServiceView, service}
 use Rattle.dvb_texts.specs.Texts.{decode_text}
 use Rattle.ts_tables.specs.NamedStreams.{NamedView}
 
--- a program, and the name of its service in UTF-8, where one is known
+-- a program, and the name of its service in UTF-8, if it is known
 pub record NameState : Type 0 where
   pub program : ℕ
   pub name : Option (List ℕ)
 
--- what is found of the packets of service description tables, and the programs of the first tables, once these are known
+-- the findings in the packets of service description tables, and the programs of the first tables, once these are known
 pub record NamesState : Type 0 where
   pub demux : StreamState
   pub names : Option (List NameState)
@@ -32,15 +32,15 @@ unfoldable pub name_of : Option FoundServiceView → Option (List ℕ)
 name_of None = None
 name_of (Some s) = some_text (decode_text 255 s.name)
 
--- what the last of them says
+-- the name in the last description of a program's service
 abbrev pub name_in : List FindingView → ℕ → Option (List ℕ)
 name_in found program = name_of (service program found)
 
--- the first packets, in which the programs were found
+-- the name in the first packets, where the programs were found
 abbrev pub first_name : List FindingView → FoundProgramView → NameState
 first_name found p = record { program = p.number; name = name_in found p.number }
 
--- and what is found later counts in place of that
+-- a name that is found later replaces it
 abbrev pub with_later : List FindingView → NameState → NameState
 with_later found n = record { program = n.program; name = option_or (name_in found n.program) n.name }
 

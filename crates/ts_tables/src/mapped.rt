@@ -1,11 +1,11 @@
 //! Programs of an association table that have maps.
 ghost use Rattle.std.specs.Prelude.{◌≡◌, ◌==◌, ◌≤◌, true, length, map, take};
-ghost use Rattle.demux.specs.Shown.{finding_view};
+ghost use Rattle.pid_findings.specs.Shown.{finding_view};
 ghost use Rattle.program_tables.specs.KnownTables.{known_in};
 ghost use Rattle.ts_tables.specs.NamedStreams.{have_maps};
 ghost use Rattle.ts_tables.specs.Mapped.{AreMapped, AreTables};
 
-use demux::Finding;
+use pid_findings::Finding;
 use program_tables::KnownTables;
 use psi_tables::Program;
 

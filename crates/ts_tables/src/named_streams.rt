@@ -1,7 +1,7 @@
 //! The streams that the tables name.
 ghost use Rattle.std.specs.Prelude.{◌≡◌, ◌==◌, ◌||◌, ◌&&◌, [], None, IfOk, OnErr, OnOk, is_some, length};
 ghost use Rattle.std.specs.Prelude.{map, option_map};
-ghost use Rattle.demux.specs.Shown.{finding_view};
+ghost use Rattle.pid_findings.specs.Shown.{finding_view};
 ghost use Rattle.demux.specs.Stream.{pushed, start};
 ghost use Rattle.program_tables.specs.KnownTables.{known_in};
 ghost use Rattle.ts_tables.specs.NamedStreams as spec;
@@ -9,7 +9,8 @@ ghost use Rattle.ts_tables.specs.NamedStreams.{have_maps};
 ghost use Rattle.ts_tables.specs.Mapped.{AreTables};
 
 use crate::mapped::mapped_programs;
-use demux::{Demux, Finding};
+use demux::Demux;
+use pid_findings::Finding;
 use program_tables::KnownTables;
 use std::alloc::{AllocError, Global};
 use std::marker::Model;
@@ -44,15 +45,15 @@ impl Model for NamedStreams {
     ghost invariant = { λ n. AreUnknown n.found n.tables n.demux.found n.mapped };
 }
 
-// Whether the streams are known, or it is the last packet that is looked at, if so many programs have maps.
+// Returns whether the streams are known, or this is the last examined packet; `mapped` programs have maps.
 fn is_known(last: bool, mapped: usize, tables: &KnownTables) -> bool
     ensures { result ≡ (last || (is_some tables.now.version && (mapped == length tables.now.programs))) }
 {
     last || tables.has_association() && mapped == tables.programs().len()
 }
 
-// The streams, if they are known by what is found, or it is the last packet that is looked at. So many programs from
-// the first on have maps, and no more.
+// Returns the streams, if the findings name them, or this is the last examined packet. The first `mapped` programs have
+// maps, and the next one has none.
 fn streams_by(
     alloc: Global,
     last: bool,

@@ -1,17 +1,17 @@
 //! The name of one program's service.
 ghost use Rattle.std.specs.Prelude.{◌≡◌, IfOk, OnOk, map, option_map, string_bytes};
-ghost use Rattle.demux.specs.Shown.{finding_view};
+ghost use Rattle.pid_findings.specs.Shown.{finding_view};
 ghost use Rattle.ts_services.specs.Services.{found_service_view};
 ghost use Rattle.ts_tables.specs.ServiceNames as spec;
 
-use demux::Finding;
 use dvb_texts::decode_text;
+use pid_findings::Finding;
 use std::alloc::{AllocError, Global};
 use std::marker::Model;
 use stream_programs::FoundProgram;
 use ts_services::{FoundService, FoundServices, last_service};
 
-// The most bytes of a name: those that a service descriptor has room for.
+// The most bytes of a name in a service descriptor.
 const MOST_BYTES: usize = 255;
 
 /// A program, and the name of its service, where one is known.
@@ -49,7 +49,7 @@ fn name_of(alloc: Global, service: Option<FoundService<'_>>) -> Result<Option<St
     }
 }
 
-// What is found says of a program.
+// Returns the name that findings give a program's service.
 fn name_in(
     alloc: Global,
     findings: &[Finding<'_>],

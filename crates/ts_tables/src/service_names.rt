@@ -1,13 +1,14 @@
 //! The names of the services of programs.
 ghost use Rattle.std.specs.Prelude.{◌≡◌, IfOk, OnOk, map, option_map};
-ghost use Rattle.demux.specs.Shown.{finding_view};
+ghost use Rattle.pid_findings.specs.Shown.{finding_view};
 ghost use Rattle.demux.specs.FoundSoFar.{with_found};
 ghost use Rattle.demux.specs.Stream.{pushed};
 ghost use Rattle.ts_tables.specs.ServiceNames as spec;
 
 use crate::named_streams::NamedStreams;
 use crate::service_name::ServiceName;
-use demux::{Demux, Finding};
+use demux::Demux;
+use pid_findings::Finding;
 use std::alloc::{AllocError, Global};
 use std::marker::Model;
 use stream_programs::FoundProgram;
@@ -32,7 +33,7 @@ impl Model for ServiceNames {
     ghost view = { λ n. record { demux = n.demux; names = option_map (λ names. names.items) n.names } };
 }
 
-// What is said of the service of each program.
+// Returns the name of the service of each program.
 fn names_by(
     alloc: Global,
     services: &FoundServices<'_, '_>,
@@ -59,7 +60,7 @@ fn first_names(
     names_by(alloc, &services, programs)
 }
 
-// What is found later, of each.
+// Takes later findings for each program.
 fn take_each(
     alloc: Global,
     names: &mut [ServiceName],

@@ -2,13 +2,14 @@
 use Rattle.std.proofs.Common.{◌≡◌, ◌∙◌, ℕ, List, [], ◌++◌, length, refl, sym, ap, ap₂}
 use Rattle.ts_packet.specs.Packets.{null_packet}
 use Rattle.ts_packet.proofs.PlainWritten.{null_again}
-use Rattle.demux.specs.Views.{FindingView}
-use Rattle.demux.specs.Bodies.{AddsHeaders, all_without_body, headers_pushed, headers_taken, without_bodies}
+use Rattle.pid_findings.specs.Views.{FindingView}
+use Rattle.pid_findings.specs.Bodies.{all_without_body}
+use Rattle.demux.specs.StreamBodies.{AddsHeaders, headers_pushed, headers_taken, without_bodies}
 use Rattle.demux.specs.FoundSoFar.{with_found}
 use Rattle.demux.specs.Stream.{StreamState, found_in, findings_by, pushed, taken}
 use Rattle.demux.proofs.PushedBytes.{taken_as_pushed}
 use Rattle.events.specs.declared.event.Event.{Event}
-use Rattle.es_view.specs.declared.view_options.ViewOptions.{ViewOptions}
+use Rattle.es_events.specs.declared.view_options.ViewOptions.{ViewOptions}
 use Rattle.ts_watch.specs.TableEvents.{TablesState, TakesPackets, TimesState, findings_events, packet_events, with_findings, with_packet}
 use Rattle.ts_watch.proofs.HeaderTables.{events_alike, times_alike}
 

@@ -1,4 +1,4 @@
--- Which streams are viewed, and with which buffers.
+-- The streams that are viewed, and their buffers.
 use Rattle.std.specs.Prelude.{ℕ, ◌==◌, ◌||◌, is_some, min, Bool, if◌then◌else◌, List, length, Option, Some, None}
 use Rattle.std.specs.List.{list_any}
 use Rattle.stream_coding.specs.declared.coding.Coding.{Coding}
@@ -10,15 +10,15 @@ use Rattle.es_buffers.specs.Buffers.{buffers_of, given_buffers, joined_buffers_o
 use Rattle.unit_timing.specs.declared.multiplexing_buffer.MultiplexingBuffer.{MultiplexingBuffer}
 use Rattle.tstd_rows.specs.declared.video_buffers.VideoRates.{VideoRates}
 use Rattle.stream_programs.specs.Streams.{FoundStreamView}
-use Rattle.es_view.specs.declared.view_options.ViewOptions.{ViewOptions}
+use Rattle.es_events.specs.declared.view_options.ViewOptions.{ViewOptions}
 use Rattle.ts_watch.specs.declared.view_request.ViewSpan.{ViewSpan}
 
--- the numbers of programs, all where there is none, and buffers of PIDs
+-- the program_numbers to view, all if the list is empty, and buffers given for PIDs
 pub record ChoiceView : Type 0 where
   pub programs : List ℕ
   pub buffers : List PidBuffers
 
--- with how a stream is viewed, which part of it, and whether packets of 192 bytes arrive by the stamps before them
+-- a choice, the options of the view, the part of the stream, and whether packets of 192 bytes arrive by the stamps before them
 pub record RequestView : Type 0 where
   pub options : ViewOptions
   pub choice : ChoiceView
@@ -32,13 +32,13 @@ is_among number numbers = list_any (λ other. other == number) numbers
 abbrev pub takes : ChoiceView → ℕ → Bool
 takes choice program = length choice.programs == 0 || is_among program choice.programs
 
--- a stream, where its program is one of these
+-- a stream, if its program is among these
 unfoldable pub chosen : ChoiceView → Option FoundStreamView → Option FoundStreamView
 chosen choice None = None
 chosen choice (Some stream) = if takes choice stream.program then Some stream else None
 
--- its buffers: those that are given, or else those of its coding, of video the multiplexing buffer and the elementary stream buffer as
--- one; no rate is beyond 200,000,000 bits a second
+-- its buffers: the given buffers, otherwise the buffers of its coding, for video the multiplexing buffer and the elementary stream buffer as one; no
+-- rate is beyond 200,000,000 bits a second
 unfoldable pub given_or : Option Buffers → Buffers → Buffers
 given_or None coded = coded
 given_or (Some given) coded = given
@@ -49,7 +49,7 @@ up_to_limit buffers = record { rx = min buffers.rx 200000000; main = buffers.mai
 abbrev pub buffers_for : ChoiceView → ℕ → Coding → Buffers
 buffers_for choice pid coding = up_to_limit (given_or (given_buffers choice.buffers pid) (joined_buffers_of coding))
 
--- the two buffers of video, as its coding says: none are viewed where the PID's buffers are given, or of another coding
+-- the two buffers of video, by its coding: not viewed if the PID's buffers are given, or for another coding
 unfoldable pub rates_if : Option MultiplexingBuffer → ℕ → Option VideoRates
 rates_if None elementary = None
 rates_if (Some m) elementary = Some (record { rbx = m.rbx; multiplexing = m.size; elementary = elementary })
@@ -57,6 +57,6 @@ rates_if (Some m) elementary = Some (record { rbx = m.rbx; multiplexing = m.size
 abbrev pub rates_for : ChoiceView → ℕ → Coding → Option VideoRates
 rates_for choice pid coding = if is_some (given_buffers choice.buffers pid) then None else rates_if (multiplexing_of coding) (buffers_of coding).main
 
--- which frames the sound of a stream has whose main buffer is viewed by access units: none is viewed so where the PID's buffers are given
+-- the kind of frames of a stream of sound whose main buffer is viewed by access units: none if the PID's buffers are given
 abbrev pub frames_for : ChoiceView → ℕ → ℕ → List ℕ → Option FrameKind
 frames_for choice pid stream_type descriptors = if is_some (given_buffers choice.buffers pid) then None else frame_kind stream_type descriptors

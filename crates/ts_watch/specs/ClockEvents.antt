@@ -1,4 +1,4 @@
--- What is found of clock references (ETSI TR 101 290, 5.2.1 and 5.2.2, 2.3 and 2.4).
+-- Events of clock references (ETSI TR 101 290, 5.2.1 and 5.2.2, 2.3 and 2.4).
 use Rattle.std.specs.Prelude.{ℕ, ◌+◌, ◌/◌, is_some, unwrap_or, Bool, if◌then◌else◌, List, [], ◌∷◌, ◌++◌, map, Option, Some, None}
 use Rattle.tr101290.specs.declared.report.PcrError.{PcrError}
 use Rattle.tr101290.specs.declared.report.PcrReport.{PcrReport}
@@ -38,16 +38,16 @@ unfoldable pub report_events_if : ℕ → Option PcrReport → List Event
 report_events_if pid None = []
 report_events_if pid (Some report) = report_events pid report
 
--- its accuracy, where that says something
+-- events of its accuracy, if that is meaningful
 abbrev pub inaccuracy_events : List PidError → List Event
 inaccuracy_events errors = map (λ e. error_event Accuracy e.pid e.error) errors
 
--- and where it is decided that it does not
+-- an event when it is decided that the rate varies
 abbrev pub variable_events : Bool → ℕ → JudgeState → List Event
 variable_events varies packet judge =
     if varies then found.Rule (rules.VariableRate (record { packet = packet; pairs = judge.pairs; apart = judge.apart })) ∷ [] else []
 
--- their number, without that of accuracy
+-- the number of errors, without the error of accuracy
 abbrev pub one_if : Bool → ℕ
 one_if there = if there then 1 else 0
 
@@ -57,8 +57,8 @@ errors_in (Some report) = one_if (is_some (repetition_error report)) + one_if (i
 
 -- 2. At the end, of each PID with references
 
--- those with which the clock begins anew by their discontinuity_indicator, the rate that all of them give in bits a second (0 if they give
--- none), the greatest time between two in ticks, and the greatest inaccuracy in nanoseconds
+-- the references of a PID: their number, how many begin a new clock by their discontinuity_indicator, the rate that all of them give in bits a second (0
+-- if they give none), the greatest time between two in ticks, and the greatest inaccuracy in nanoseconds
 abbrev pub clock_event : ℕ × PcrState → Event
 clock_event entry = found.Clock (record {
   pid = entry.0;

@@ -76,6 +76,6 @@ window_event number drifts entry = figures number entry.0 entry.1 (drift_of entr
 abbrev pub all_events : ClocksState → List Event
 all_events s = map (window_event s.number s.drifts) s.counts
 
--- of each PID with a reference in this window
+-- the events of each PID with a reference in this window
 abbrev pub window_events : ClocksState → ℕ → List Event
 window_events s window = if s.number == window then all_events s else []

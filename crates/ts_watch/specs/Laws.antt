@@ -39,12 +39,12 @@ unfoldable pub all_counted : List PcrReport → PcrCounts
 all_counted [] = none_counted
 all_counted (report ∷ earlier) = counted (all_counted earlier) report
 
--- the counts of a PID in the window of the last reference are those of all its references there
+-- the counts of a PID in the window of the last reference are the counts of all its references there
 abbrev pub ClockCountLaw : Type 0
 ClockCountLaw = (last : Placed) (earlier : List Placed) (pid : ℕ) → InOrder last.window (last ∷ earlier) →
     counts_of pid (state_of (last ∷ earlier)).counts ≡ all_counted (reports_in last.window pid (last ∷ earlier))
 
--- and of these the interval and the inaccuracy are the greatest ones
+-- the interval and the inaccuracy of a window are the greatest among its references
 unfoldable pub greatest : List ℕ → ℕ
 greatest [] = 0
 greatest (n ∷ earlier) = max (greatest earlier) n
@@ -70,17 +70,16 @@ unfoldable pub drift_by : List Placed → Option ClockDrift
 drift_by [] = None
 drift_by (r ∷ earlier) = drift_after (drift_by earlier) r.report.step r.moment
 
--- the drift of a PID is that of its own references
+-- the drift of a PID is the drift by its own references
 abbrev pub DriftLaw : Type 0
 DriftLaw = (references : List Placed) (pid : ℕ) → drift_of pid (state_of references).drifts ≡ drift_by (references_of pid references)
 
--- a reference to which a clock continues on a line, and the moment at which it arrives
+-- a reference that continues a clock on a line, and the moment at which it arrives
 pub record Continued : Type 0 where
   pub line : Line
   pub moment : ℕ
 
--- the drift at the last of these references, the last one first, after a reference that arrives at a moment and to which the clock does not
--- continue
+-- the drift at the last of these references, in reverse order, after a reference that arrives at a moment and does not continue the clock
 unfoldable pub drift_along : ℕ → ClockStep → List Continued → Option ClockDrift
 drift_along begin step [] = drift_after None step (Some begin)
 drift_along begin step (r ∷ earlier) = drift_after (drift_along begin step earlier) (GoesOn r.line) (Some r.moment)
@@ -93,7 +92,7 @@ unfoldable pub last_moment : ℕ → List Continued → ℕ
 last_moment begin [] = begin
 last_moment begin (r ∷ earlier) = r.moment
 
--- it is by the ticks of all lines and by the moments of the first reference and of the last
+-- the drift follows from the ticks of all lines and the moments of the first reference and of the last
 abbrev pub TotalDriftLaw : Type 0
 TotalDriftLaw = (begin : ℕ) (step : ClockStep) (references : List Continued) →
     drift_along begin step references ≡ Some (record { begin = begin; ticks = all_ticks references; arrived = last_moment begin references - begin })

@@ -1,5 +1,5 @@
--- What the packets of a PID carry, as far as it is known: by the numbers that the standards give to PIDs (ISO/IEC 13818-1, table 2-3; EN 300 468,
--- table 1), or by the first tables.
+-- The label of a PID: what its packets carry, as far as it is known: by the numbers that the standards give to PIDs (ISO/IEC 13818-1, table 2-3; EN 300
+-- 468, table 1), or by the first tables.
 use Rattle.std.specs.Prelude.{ℕ, ◌==◌, if◌then◌else◌, List, [], ◌∷◌, Option, Some, None}
 use Rattle.stream_coding.specs.Codings.{coding_of}
 use Rattle.stream_programs.specs.Programs.{FoundProgramView, FoundProgramsView}
@@ -42,6 +42,6 @@ unfoldable pub label_by : NamedView → ℕ → Option PidName → PidLabel
 label_by named pid None = in_tables named pid (stream_of named pid)
 label_by named pid (Some name) = record { program = None; coding = name }
 
--- of the tables that are known
+-- the label of a PID by the known tables
 abbrev pub label_of : NamedView → ℕ → PidLabel
 label_of named pid = label_by named pid (fixed pid)

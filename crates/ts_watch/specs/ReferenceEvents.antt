@@ -1,5 +1,4 @@
--- PIDs that no table names, and those that are named and have no packet (ETSI TR 101 290, 5.2.1, 1.6 PID_error; 5.2.3, 3.4
--- Unreferenced_PID).
+-- PIDs that no table names, and named PIDs without a packet (ETSI TR 101 290, 5.2.1, 1.6 PID_error; 5.2.3, 3.4 Unreferenced_PID).
 use Rattle.std.specs.Prelude.{ℕ, List, [], ◌++◌, map, Option, Some, None}
 use Rattle.pid_windows.specs.Windows.{WindowView}
 use Rattle.pid_windows.specs.declared.pid_windows.PidCounts.{PidCounts}
@@ -15,7 +14,7 @@ unreferenced_events pids = map (λ pid. Unreferenced pid) pids
 abbrev pub missing_events : List ℕ → List Event
 missing_events pids = map (λ pid. Missing pid) pids
 
--- those with packets and not named, and those the other way round; none while the tables have not come
+-- events for PIDs with packets that no table names, and for named PIDs without packets; none before the tables are known
 unfoldable pub events_by : List (ℕ × PidCounts) → Option (List ℕ) → List Event
 events_by entries None = []
 events_by entries (Some referenced) = unreferenced_events (unreferenced_pids referenced entries) ++ missing_events (missing_pids entries [] referenced)

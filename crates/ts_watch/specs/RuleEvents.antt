@@ -1,5 +1,5 @@
--- Time stamps (ETSI TR 101 290, 5.2.2, 2.5), scrambled packets (5.2.1, 1.3.a and 1.5.a; 5.2.2, 2.6), and the accuracy of clock references where the
--- rate is constant (5.2.2, 2.4).
+-- Time stamps (ETSI TR 101 290, 5.2.2, 2.5), scrambled packets (5.2.1, 1.3.a and 1.5.a; 5.2.2, 2.6), and the accuracy of clock references if the rate is
+-- constant (5.2.2, 2.4).
 use Rattle.std.specs.Prelude.{ℕ, ◌==◌, ◌&&◌, ◌||◌, not, Bool, true, false, if◌then◌else◌, List, [], ◌∷◌, ◌++◌, length, Option, Some, None}
 use Rattle.arrival.specs.Arrivals.{moment_on}
 use Rattle.arrival.specs.declared.arrival.Arrival.{Arrival}
@@ -22,7 +22,7 @@ use Rattle.tr101290.specs.declared.watch.PcrTiming.{PcrTiming}
 use Rattle.tr101290.specs.declared.watch.PcrTiming.TheVariants.{ConstantRate, References, Stamps}
 use Rattle.ts_packet.specs.Views.{PacketView}
 use Rattle.ts_watch.specs.ClockEvents.{inaccuracy_events, variable_events}
-use Rattle.es_view.specs.Clocks.{first_byte}
+use Rattle.es_events.specs.Clocks.{first_byte}
 use Rattle.ts_watch.specs.PidLabels.{label_of}
 use Rattle.ts_tables.specs.NamedStreams.{NamedView}
 
@@ -35,7 +35,7 @@ pub record RuleState : Type 0 where
 abbrev pub no_rule : TableTiming → RuleState
 no_rule timing = record { stamps = no_stamp timing; judge = no_rate; scrambled = None }
 
--- 1. The accuracy of clock references: at a given rate all errors count, by the references around those that the judge gives
+-- 1. The accuracy of clock references: at a given rate all errors count; by references around, the errors that the judge gives
 
 abbrev pub with_judge : RuleState → JudgeState → RuleState
 with_judge s judge = record { stamps = s.stamps; judge = judge; scrambled = s.scrambled }
@@ -147,7 +147,7 @@ taken s arrival index packet = record {
 abbrev pub packet_events : RuleState → Arrival → ℕ → NamedView → PacketView → List Event
 packet_events s arrival index named packet = stamp_events s.stamps index (place_at arrival index) packet ++ scrambled_events index named packet
 
--- 5. At the end: what is held of accuracy, and that packets are scrambled and no CAT is there
+-- 5. At the end: the held errors of accuracy, and an event if packets are scrambled without a CAT
 
 unfoldable pub cat_events : Option ScrambledPacket → Bool → List Event
 cat_events None has_cat = []

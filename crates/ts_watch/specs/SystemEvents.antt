@@ -1,4 +1,4 @@
--- What is found of the buffers of programs' tables.
+-- Events of the buffers of programs' tables.
 use Rattle.std.specs.Prelude.{ℕ, ◌&&◌, ◌||◌, not, nat_le, Bool, if◌then◌else◌, List, [], ◌∷◌, ◌++◌, flat_map}
 use Rattle.std.specs.List.{list_all}
 use Rattle.std.specs.Option.{option_to_list}
@@ -11,9 +11,9 @@ use Rattle.system_tables.specs.declared.table_excess.TableExcess.{TableExcess}
 use Rattle.events.specs.declared.event.Event.{Event}
 use Rattle.events.specs.declared.event.Event.TheVariants as found
 use Rattle.events.specs.declared.event.ProgramExcess.{ProgramExcess}
-use Rattle.es_view.specs.declared.view_options.ViewOptions.{ViewOptions}
+use Rattle.es_events.specs.declared.view_options.ViewOptions.{ViewOptions}
 use Rattle.ts_watch.specs.Choices.{ChoiceView, takes}
-use Rattle.es_view.specs.EntryEvents.{moment_of, with_one}
+use Rattle.es_events.specs.EntryEvents.{moment_of, with_one}
 
 -- 1. An excess, of a program that is viewed
 
@@ -21,7 +21,7 @@ unfoldable pub size_of : TableBuffer → ℕ
 size_of Transport = tb_size
 size_of System = bsys_size
 
--- of the transport buffer, and of the system buffer, found at the packet with which it has ended
+-- events for excesses of the transport buffer, and of the system buffer, reported at the packet where the excess ends
 unfoldable pub excess_by : TableBuffer → ProgramExcess → Event
 excess_by Transport e = found.SystemExcess e
 excess_by System e = found.SystemMainExcess e
@@ -44,7 +44,7 @@ excess_events options choice packet excesses = flat_map (excess_if options choic
 
 -- 2. At the end
 
--- the most bytes that were in each buffer, and the number of its excesses, with the one under way
+-- the most bytes that were in each buffer, and the number of its excesses, with a current excess
 abbrev pub system_event : ProgramState → Event
 system_event p = found.System (record {
   program = p.number;
@@ -56,11 +56,11 @@ system_event p = found.System (record {
   main_excesses = with_one p.system_excesses p.system.watch.under_way;
 })
 
--- the excess of each buffer that is under way
+-- the current excess of each buffer
 abbrev pub under_way : ProgramState → List TableExcess
 under_way p = told p.number (option_to_list p.transport.watch.under_way) (option_to_list p.system.watch.under_way)
 
--- comes first, and then what is found of both, of each program that is viewed
+-- current excesses come first, then the totals of both buffers, for each program that is viewed
 abbrev pub event_if : ChoiceView → ProgramState → List Event
 event_if choice p = if takes choice p.number then system_event p ∷ [] else []
 

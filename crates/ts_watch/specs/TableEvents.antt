@@ -1,15 +1,15 @@
--- The sections of tables: where they begin, those that begin too late (ETSI TR 101 290, 5.2.1, 1.3 and 1.5; 5.2.3, 3.1, 3.5,
--- 3.6 and 3.8), and what each table came to at the end.
+-- The sections of tables: where they begin, sections that begin too late (ETSI TR 101 290, 5.2.1, 1.3 and 1.5; 5.2.3, 3.1, 3.5, 3.6 and 3.8), and the
+-- totals of each table at the end.
 use Rattle.std.specs.Prelude.{◌≡◌, ℕ, ◌+◌, ◌-◌, ◌^◌, ◌%◌, min, is_some, Bool, true, false, if◌then◌else◌, unwrap_or, List, [], ◌∷◌, ◌++◌, map, option_and_then}
 use Rattle.std.specs.Prelude.{Option, Some, None}
 use Rattle.arrival.specs.Arrivals.{moment_on}
 use Rattle.arrival.specs.declared.arrival.Arrival.{Arrival}
 use Rattle.arrival.specs.declared.arrival.Arrival.TheVariants.{Unknown, AtRate, OnLines}
-use Rattle.demux.specs.Views.{FindingView, WhatView, IsDuplicate, BreaksCounter, IsScrambled, IsTruncated, IsSection, IsBadSection, IsPes, IsBadPes}
-use Rattle.demux.specs.Views.{IsBadPacket, IsErrored, IsStray}
+use Rattle.pid_findings.specs.Views.{FindingView, WhatView, IsDuplicate, BreaksCounter, IsScrambled, IsTruncated, IsSection, IsBadSection, IsPes, IsBadPes}
+use Rattle.pid_findings.specs.Views.{IsBadPacket, IsErrored, IsStray}
 use Rattle.psi_tables.specs.declared.error.SectionError.TheVariants as refusals
 use Rattle.demux.specs.Stream.{StreamState, start, pushed}
-use Rattle.demux.specs.Bodies.{headers_pushed}
+use Rattle.demux.specs.StreamBodies.{headers_pushed}
 use Rattle.demux.specs.FoundSoFar.{with_found}
 use Rattle.tr101290.specs.Distances.{DistanceState, no_end}
 use Rattle.tr101290.specs.Distances as distances
@@ -27,8 +27,8 @@ use Rattle.events.specs.declared.event.Event.{Event}
 use Rattle.events.specs.declared.event.TableFault.{TableFault}
 use Rattle.events.specs.declared.rule_event.RuleEvent.TheVariants as rules
 use Rattle.events.specs.declared.event.Event.TheVariants as found
-use Rattle.es_view.specs.declared.view_options.ViewOptions.{ViewOptions}
-use Rattle.es_view.specs.Clocks.{first_byte}
+use Rattle.es_events.specs.declared.view_options.ViewOptions.{ViewOptions}
+use Rattle.es_events.specs.Clocks.{first_byte}
 
 -- 1. A section that begins too late
 
@@ -49,7 +49,7 @@ more_errors errors (Some e) = min (errors + 1) (2 ^ 64 - 1)
 
 -- 2. Sections one after another
 
--- the sections of each table, where the last ones end, and the number of those that begin too late
+-- the sections of each table, where the last ones end, and how many begin too late
 pub record TimesState : Type 0 where
   pub intervals : IntervalState
   pub distances : DistanceState
@@ -70,14 +70,14 @@ unfoldable pub begin_events : TimesState → Option SectionBegin → List Event
 begin_events s None = []
 begin_events s (Some section) = error_events (error_at s.intervals section)
 
--- a section with its place: its packet at a constant rate; on lines the moment of its first packet, on the line of the packet with which it is
--- found; before the first line is known it has none, and does not count
+-- a section with its place: its packet at a constant rate; on lines the moment of its first packet, on the line of the packet where it is found; before
+-- the first line is known it has no place, and is ignored
 unfoldable pub placed : Arrival → SectionBegin → Option SectionBegin
 placed Unknown section = None
 placed (AtRate rate) section = Some section
 placed (OnLines lines) section = Some (record section { place = moment_on lines (first_byte section.packet) })
 
--- what is found, and what is wrong with it
+-- a section that begins, and its errors
 abbrev pub section_in : ViewOptions → FindingView → Option SectionBegin
 section_in options f = option_and_then (placed options.arrival) (section_begin f)
 
@@ -158,7 +158,7 @@ unfoldable pub findings_events : ViewOptions → TimesState → List FindingView
 findings_events options s [] = []
 findings_events options s (f ∷ fs) = finding_events options s f ++ findings_events options (with_finding options s f) fs
 
--- 3. Packet by packet: what is found of a packet is forgotten once its sections are known, and no body of a PES packet is kept
+-- 3. Packet by packet: the findings of a packet are dropped once its sections are known, and no body of a PES packet is kept
 
 pub record TablesState : Type 0 where
   pub demux : StreamState

@@ -1,4 +1,4 @@
--- What comes of each PID that has a packet in a window.
+-- Events of each PID that has a packet in a window.
 use Rattle.std.specs.Prelude.{ℕ, ◌*◌, ◌/◌, ◌^◌, ◌-◌, max, min, List, map, Option, Some, None}
 use Rattle.arrival.specs.Arrivals.{moment_on}
 use Rattle.arrival.specs.declared.arrival.Arrival.{Arrival}
@@ -7,14 +7,14 @@ use Rattle.pid_windows.specs.Windows.{WindowView}
 use Rattle.pid_windows.specs.declared.pid_windows.PidCounts.{PidCounts}
 use Rattle.events.specs.declared.event.Event.{Event}
 use Rattle.events.specs.declared.event.Event.TheVariants as found
-use Rattle.es_view.specs.declared.view_options.ViewOptions.{ViewOptions}
-use Rattle.es_view.specs.Clocks.{first_byte}
+use Rattle.es_events.specs.declared.view_options.ViewOptions.{ViewOptions}
+use Rattle.es_events.specs.Clocks.{first_byte}
 use Rattle.ts_tables.specs.NamedStreams.{NamedView}
 use Rattle.ts_tables.specs.ServiceNames.{NameState, known_name}
 use Rattle.ts_watch.specs.PidLabels.{label_of}
 
--- the window in which a packet begins: at R bits a second it begins 1,504,000 / R milliseconds after the one before it; on lines its
--- first byte comes at a moment in ticks, of which 27,000 are a millisecond; before the first line is known it is the first window
+-- the window where a packet begins: at R bits a second it begins 1,504,000 / R milliseconds after the packet before it; on lines its first byte comes at
+-- a moment in ticks, 27,000 a millisecond; before the first line is known it is the first window
 unfoldable pub window_by : Arrival → ViewOptions → ℕ → ℕ
 window_by Unknown options index = 0
 window_by (AtRate rate) options index = min (index * 1504000 / max 1 (rate * options.window)) (2 ^ 64 - 1)
@@ -23,7 +23,7 @@ window_by (OnLines lines) options index = (moment_on lines (first_byte index) - 
 abbrev pub window_of : ViewOptions → ℕ → ℕ
 window_of options index = window_by options.arrival options index
 
--- the bits of so many packets over a window, in bits a second, rounded down
+-- the bits of a number of packets over a window, in bits a second, rounded down
 abbrev pub rate_in : ViewOptions → ℕ → ℕ
 rate_in options packets = packets * 1504000 / max 1 options.window
 
@@ -32,7 +32,7 @@ unfoldable pub service_of : Option (List NameState) → Option ℕ → Option (L
 service_of names None = None
 service_of names (Some program) = known_name program names
 
--- what a PID carries, by the tables that were known before
+-- the bit rate of a PID and its label, by the tables known before
 abbrev pub window_event : ViewOptions → NamedView → Option (List NameState) → ℕ → ℕ × PidCounts → Event
 window_event options named names window entry = found.Window (record {
   number = window;
@@ -48,7 +48,7 @@ window_event options named names window entry = found.Window (record {
 abbrev pub window_events : ViewOptions → NamedView → Option (List NameState) → WindowView → List Event
 window_events options named names window = map (window_event options named names window.number) window.counts
 
--- of the whole stream
+-- the event of a PID for the whole stream
 abbrev pub pid_event : ℕ × PidCounts → Event
 pid_event entry = found.Pid (record { number = entry.0; packets = entry.1.packets; pcrs = entry.1.pcrs })
 

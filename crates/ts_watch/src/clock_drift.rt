@@ -1,4 +1,4 @@
-//! By how much the program clock of a PID drifts from the clock by which the stream arrives.
+//! The drift of the program clock of a PID from the arrival clock.
 ghost use Rattle.std.specs.Prelude.{◌≡◌};
 ghost use Rattle.ts_watch.specs.ClockDrifts as spec;
 
@@ -15,7 +15,7 @@ pub struct ClockDrift {
     pub arrived: u128,
 }
 
-// A clock begins with a reference that arrives at a moment.
+// Begins a clock with a reference that arrives at a moment.
 fn begun(moment: u128) -> ClockDrift
     ensures { result ≡ spec.begun moment }
 {
@@ -26,7 +26,7 @@ fn begun(moment: u128) -> ClockDrift
     }
 }
 
-// The clock continues for so many ticks, to a reference that arrives at a moment.
+// Takes a reference that arrives at a moment, `ticks` of the clock after the reference before it.
 fn continued(drift: ClockDrift, ticks: u64, moment: u128) -> ClockDrift
     ensures { result ≡ spec.continued drift ticks moment }
 {
@@ -37,7 +37,7 @@ fn continued(drift: ClockDrift, ticks: u64, moment: u128) -> ClockDrift
     }
 }
 
-// The same, if the clock was known before.
+// Returns the same, if the clock was known before.
 #[tactic(auto, unfolding(crate::specs::ClockDrifts::on_line))]
 fn on_line(drift: Option<ClockDrift>, ticks: u64, moment: u128) -> ClockDrift
     ensures { result ≡ spec.on_line drift ticks moment }
@@ -48,7 +48,7 @@ fn on_line(drift: Option<ClockDrift>, ticks: u64, moment: u128) -> ClockDrift
     }
 }
 
-// After a reference that arrives at a moment.
+// Takes a reference that arrives at a moment.
 #[tactic(auto, unfolding(crate::specs::ClockDrifts::drift_at))]
 fn drift_at(drift: Option<ClockDrift>, step: &ClockStep, moment: u128) -> ClockDrift
     ensures { result ≡ spec.drift_at drift step.now moment }

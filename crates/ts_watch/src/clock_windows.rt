@@ -33,7 +33,7 @@ impl Model for ClockWindows {
     ghost view = { λ w. record { number = w.number; counts = w.counts.entries; drifts = w.drifts.entries } };
 }
 
-// The counts of a PID.
+// Returns the counts of a PID.
 #[tactic(auto, unfolding(crate::specs::ClockWindows::counts_or_none))]
 fn counts_of(counts: &CountEntries, pid: u16) -> PcrCounts
     ensures { result ≡ spec.counts_of pid counts.now.entries }
@@ -44,7 +44,7 @@ fn counts_of(counts: &CountEntries, pid: u16) -> PcrCounts
     }
 }
 
-// The drift of a PID.
+// Returns the drift of a PID.
 #[tactic(auto, unfolding(crate::specs::ClockWindows::drift_or_none))]
 fn drift_of(drifts: &DriftEntries, pid: u16) -> Option<ClockDrift>
     ensures { result ≡ spec.drift_of pid drifts.now.entries }
@@ -109,7 +109,7 @@ impl ClockWindows {
     }
 
     /// Takes the report on the reference of a packet of a PID in a window, if the packet has one, and the moment at
-    /// which the reference arrives. Windows come in their order.
+    /// which the reference arrives. Windows are taken in their order.
     ///
     /// After an `AllocError` the state describes no stream: drop it.
     #[tactic(auto, unfolding(crate::specs::ClockWindows::taken))]

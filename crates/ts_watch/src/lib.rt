@@ -1,5 +1,5 @@
-//! The events of a transport stream beside those of its elementary streams: clock references, packets by PID, tables,
-//! the rules of TR 101 290, and the buffers of system data.
+//! The events of a transport stream that no elementary stream has: clock references, packets by PID, tables, the rules
+//! of TR 101 290, and the buffers of system data.
 #![tactic(auto)]
 
 mod clock_drift;

@@ -15,7 +15,7 @@ pub(crate) struct PidLabel {
     pub coding: PidName,
 }
 
-// The first program whose map has the PID.
+// Returns the first program whose map has the PID.
 #[tactic(auto, unfolding(crate::specs::PidLabels::of_map))]
 fn of_map(pid: u16, programs: &[FoundProgram]) -> Option<u16>
     ensures { result ≡ spec.of_map pid programs.now }
@@ -28,7 +28,7 @@ fn of_map(pid: u16, programs: &[FoundProgram]) -> Option<u16>
     None
 }
 
-// The first program whose clock references have the PID.
+// Returns the first program whose clock references have the PID.
 #[tactic(auto, unfolding(crate::specs::PidLabels::of_clock))]
 fn of_clock(pid: u16, programs: &[FoundProgram]) -> Option<u16>
     ensures { result ≡ spec.of_clock pid programs.now }
@@ -56,13 +56,16 @@ fn by_program(map: Option<u16>, clock: Option<u16>) -> PidLabel
     }
 }
 
-#[tactic(auto, unfolding(crate::specs::PidLabels::in_programs))]
+#[tactic(auto, unfolding(crate::specs::PidLabels::in_programs, crate::specs::PidLabels::by_program))]
 fn in_programs(pid: u16, found: Option<&FoundPrograms>) -> PidLabel
     ensures { result ≡ spec.in_programs pid (option_map (λ found. found.now) found.entry) }
 {
     match found {
         None => by_program(None, None),
-        Some(found) => by_program(of_map(pid, &found.programs), of_clock(pid, &found.programs)),
+        Some(found) => match of_map(pid, &found.programs) {
+            Some(program) => by_program(Some(program), None),
+            None => by_program(None, of_clock(pid, &found.programs)),
+        },
     }
 }
 

@@ -6,7 +6,7 @@ ghost use Rattle.ts_watch.specs.RuleEvents as spec;
 use crate::clock_events::{push_inaccuracies, push_variable_if};
 use crate::pid_labels::label_of;
 use arrival::Arrival;
-use es_view::clocks::first_byte;
+use es_events::clocks::first_byte;
 use events::{ClockFault, Event, PidName, RuleEvent, ScrambledPacket};
 use std::alloc::{AllocError, Global};
 use std::marker::Model;
@@ -31,7 +31,7 @@ impl Model for RuleWatch {
     ghost view = { λ w. record { stamps = w.stamps; judge = w.judge; scrambled = w.scrambled } };
 }
 
-// The place of a packet: its index at a constant rate, else its moment, if that is known.
+// Returns the place of a packet: its index at a constant rate, else its moment, if that is known.
 #[tactic(auto, unfolding(crate::specs::RuleEvents::place_at))]
 fn place_at(arrival: &Arrival, index: u64) -> Option<u64>
     ensures { result ≡ spec.place_at arrival.now index }
@@ -156,7 +156,7 @@ impl RuleWatch {
         }
     }
 
-    // Takes the report on a reference by the references around it, and appends what is decided of accuracy.
+    // Takes the report on a reference by the references around it, and appends the accuracies that are decided.
     fn take_judged(
         &mut self,
         index: u64,
@@ -224,8 +224,8 @@ impl RuleWatch {
         }
     }
 
-    /// Takes the packet at an index: appends the error of its PTS, and that it is scrambled though it is one of a PAT
-    /// or of a PMT.
+    /// Takes the packet at an index: appends the error of its PTS, and that a packet of a PAT or of a PMT is
+    /// scrambled.
     pub fn take(
         &mut self,
         arrival: &Arrival,
@@ -252,8 +252,7 @@ impl RuleWatch {
         self.judge.varies() || self.judge.is_empty()
     }
 
-    /// Appends at the end of a stream of so many packets what is held of accuracy, and that packets are scrambled and
-    /// there is no CAT.
+    /// Appends, at the end of a stream, the accuracies that wait, and that packets are scrambled and there is no CAT.
     pub fn push_end(
         &self,
         packets: u64,

@@ -5,8 +5,8 @@ ghost use Rattle.system_tables.specs.Programs.{all_of};
 ghost use Rattle.ts_watch.specs.SystemEvents as spec;
 
 use crate::view_choice::ViewChoice;
-use es_view::entry_events::{moment_of, with_one};
-use es_view::view_options::ViewOptions;
+use es_events::entry_events::{moment_of, with_one};
+use es_events::view_options::ViewOptions;
 use events::{Event, ProgramExcess, SystemTotals};
 use std::alloc::AllocError;
 use system_tables::{DRAIN, ProgramTables, TableBuffer, TableExcess};
@@ -46,7 +46,7 @@ fn excess_event(options: &ViewOptions, packet: u64, told: &TableExcess) -> Event
     excess_by(told.buffer, excess)
 }
 
-// An excess, where its program is viewed.
+// Appends an excess, if its program is viewed.
 fn push_excess_if(
     events: &mut Vec<Event>,
     options: &ViewOptions,
@@ -109,7 +109,7 @@ fn push_if(
     Ok(())
 }
 
-// The excess of a buffer that is under way, if there is one.
+// Returns the excess of a buffer that has not ended, if any.
 fn push_under_way(
     events: &mut Vec<Event>,
     options: &ViewOptions,
@@ -135,7 +135,7 @@ fn push_under_way(
     }
 }
 
-// What is under way, and what is found.
+// Appends the excess that has not ended, and the totals.
 fn push_program(
     events: &mut Vec<Event>,
     options: &ViewOptions,
@@ -170,7 +170,7 @@ fn push_program(
     push_if(events, choice, program)
 }
 
-/// Appends what is found of each program that is viewed, at the end of a stream of `packets` packets.
+/// Appends the totals of each program that is viewed, at the end of a stream of `packets` packets.
 pub fn push_systems(
     events: &mut Vec<Event>,
     options: &ViewOptions,
@@ -187,7 +187,7 @@ pub fn push_systems(
     Ok(())
 }
 
-// Whether neither buffer of a program that is viewed held more than its size.
+// Returns whether neither buffer of a program that is viewed held more than its size.
 fn fits(choice: &ViewChoice, program: &ProgramTables) -> bool
     ensures { result ≡ spec.fits choice.now program.now }
 {

@@ -4,14 +4,15 @@ ghost use Rattle.bit_fields.specs.Reading.{Gives};
 ghost use Rattle.ts_packet.specs.Packets.{null_packet};
 ghost use Rattle.ts_packet.specs.Reading.{packet_at};
 ghost use Rattle.ts_packet.specs.Views.{packet_view};
-ghost use Rattle.demux.specs.Shown.{finding_view, what_view};
+ghost use Rattle.pid_findings.specs.Shown.{finding_view, what_view};
 ghost use Rattle.ts_watch.specs.TableEvents as spec;
 
 use arrival::Arrival;
-use demux::{Finding, HeaderDemux, What};
-use es_view::clocks::first_byte;
-use es_view::view_options::ViewOptions;
+use demux::HeaderDemux;
+use es_events::clocks::first_byte;
+use es_events::view_options::ViewOptions;
 use events::{CheckWordFault, Event, OtherTable, RuleEvent, TableFault, TableTotals};
+use pid_findings::{Finding, What};
 use psi_tables::SectionError;
 use std::alloc::{AllocError, Global};
 use std::marker::Model;
@@ -124,7 +125,7 @@ fn more_errors(errors: u64, error: &Option<TableError>) -> u64
     }
 }
 
-// A section with its place in time.
+// Takes a section with its place in time.
 #[tactic(auto, unfolding(crate::specs::TableEvents::placed))]
 fn placed(arrival: &Arrival, section: SectionBegin) -> Option<SectionBegin>
     ensures { result ≡ spec.placed arrival.now section }
@@ -139,7 +140,7 @@ fn placed(arrival: &Arrival, section: SectionBegin) -> Option<SectionBegin>
     }
 }
 
-// A whole section with its places in time.
+// Takes a whole section with its places in time.
 #[tactic(auto, unfolding(crate::specs::TableEvents::placed_whole))]
 fn placed_whole(arrival: &Arrival, section: WholeSection) -> Option<WholeSection>
     ensures { result ≡ spec.placed_whole arrival.now section }
@@ -168,7 +169,7 @@ fn placed_if(arrival: &Arrival, section: Option<WholeSection>) -> Option<WholeSe
     }
 }
 
-// The section of a finding, if it counts.
+// Returns the section of a finding, if it counts.
 fn section_in(options: &ViewOptions, finding: &Finding<'_>) -> Option<SectionBegin>
     ensures { result ≡ spec.section_in options.now (finding_view finding.now) }
 {
@@ -183,7 +184,7 @@ fn is_wrong(what: &What<'_>) -> bool
     matches!(what, What::BadSection(SectionError::CheckWord))
 }
 
-// The event of a section whose check word is wrong, if a finding is one.
+// Appends the event of a section whose check word is wrong, if the finding is such a section.
 fn push_check_word_if(events: &mut Vec<Event>, finding: &Finding<'_>) -> Result<(), AllocError>
     ensures { OnOk result (events.new.items
         ≡ events.old.items ++ spec.check_word_events (finding_view finding.now)) }
@@ -198,7 +199,7 @@ fn push_check_word_if(events: &mut Vec<Event>, finding: &Finding<'_>) -> Result<
 }
 
 impl TableTimes {
-    // A whole section, with its places.
+    // Takes a whole section with its places.
     #[tactic(auto, unfolding(crate::specs::TableEvents::distances_after, crate::specs::TableEvents::distance_events))]
     fn take_whole(
         &mut self,

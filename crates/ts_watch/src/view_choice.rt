@@ -28,7 +28,7 @@ impl Model for ViewChoice {
     ghost view = { λ c. record { programs = c.programs.items; buffers = c.buffers.items } };
 }
 
-// Whether a number is among these.
+// Returns whether a number is among these.
 #[tactic(auto, unfolding(crate::specs::Choices::is_among))]
 fn is_among(number: u16, numbers: &[u16]) -> bool
     ensures { result ≡ spec.is_among number numbers.now }
@@ -36,7 +36,7 @@ fn is_among(number: u16, numbers: &[u16]) -> bool
     numbers.iter().any(|other| *other == number)
 }
 
-// The two buffers of video, as its coding says.
+// Returns the two buffers of video, as its coding says.
 #[tactic(auto, unfolding(crate::specs::Choices::rates_if))]
 fn rates_of(coding: Coding) -> Option<VideoRates>
     ensures { result ≡ spec.rates_if (multiplexing_of coding) (buffers_of coding).main }

@@ -1,10 +1,10 @@
 //! The request of a view.
 use crate::view_choice::ViewChoice;
-use es_view::view_options::ViewOptions;
+use es_events::view_options::ViewOptions;
 use std::marker::Model;
 
-/// The part of a stream whose faults and windows are asked for, between two moments in ms from its first byte on: where
-/// one is not given, from its begin on, or up to its end. What is counted of the whole stream stays so.
+/// The part of a stream whose faults and windows are asked for, between two moments in ms from its first byte on: from
+/// the begin on, or up to the end, if a moment is not given. Totals are still of the whole stream.
 #[derive(Clone, Copy)]
 pub struct ViewSpan {
     pub from: Option<u64>,

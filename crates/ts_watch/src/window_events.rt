@@ -5,14 +5,14 @@ ghost use Rattle.ts_watch.specs.WindowEvents as spec;
 use crate::pid_labels::label_of;
 use arrival::Arrival;
 use clock27::{Rate, SLOT_MS_AT_1BPS};
-use es_view::clocks::first_byte;
-use es_view::view_options::ViewOptions;
+use es_events::clocks::first_byte;
+use es_events::view_options::ViewOptions;
 use events::{Event, PidTotals, WindowFigures};
 use pid_windows::{PidCounts, PidWindow};
 use std::alloc::{AllocError, Global};
 use ts_tables::{NamedStreams, ServiceNames};
 
-// The window in which a packet begins at a constant rate.
+// Returns the window of the first byte of a packet at a constant rate.
 fn window_at_rate(rate: Rate, window: u32, index: u64) -> u64
     ensures { result ≡ min (index * 1504000 / max 1 (rate * window)) (2 ^ 64 - 1) }
 {
@@ -25,7 +25,7 @@ fn window_at_rate(rate: Rate, window: u32, index: u64) -> u64
     }
 }
 
-/// Returns the window in which a packet begins.
+/// Returns the window of the first byte of a packet.
 #[tactic(auto, unfolding(crate::specs::WindowEvents::window_by))]
 pub fn window_of(options: &ViewOptions, index: u64) -> u64
     ensures { result ≡ spec.window_of options.now index }
@@ -58,7 +58,7 @@ fn service_of(names: &ServiceNames, program: Option<u16>) -> Option<&str>
     }
 }
 
-// A copy of the name of a program's service, if it has one.
+// Returns a copy of the name of a program's service, if it has one.
 fn copied(alloc: Global, name: Option<&str>) -> Result<Option<String>, AllocError>
     ensures { IfOk result (λ copy. option_map string_bytes copy ≡ option_map (λ name. name.now) name.entry) }
 {
@@ -96,7 +96,7 @@ fn window_event(
     }))
 }
 
-/// Appends what comes of each PID in a window, with what the PIDs carry by the tables that are known.
+/// Appends the packets of each PID in a window, with what the PIDs carry by the tables that are known.
 pub fn push_window(
     alloc: Global,
     events: &mut Vec<Event>,

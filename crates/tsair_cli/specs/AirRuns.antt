@@ -1,4 +1,4 @@
--- What the program does: a front of its input, a run over its plans, and the records after it.
+-- The work of the program: a front of its input, a run over its plans, and the records after it.
 use Rattle.std.specs.Prelude.{◌≡◌, ◌⊎◌, ℕ, Bool, if◌then◌else◌, List, [], length, map, Option, Some, None, Result, Ok, Err, codes, is_some, unwrap_or}
 use Rattle.std.specs.Io.KnownBytes.{Appends, Consumes}
 use Rattle.slot_plan.specs.Planned.{Planned}
@@ -26,7 +26,7 @@ use Rattle.tsair_cli.specs.Endings.{end_outcome}
 
 -- 1. The run that a job asks for
 
--- the number of periods of the first plan, where there are two
+-- the number of periods of the first plan, if there are two plans
 abbrev pub periods_of : AirOptions → ℕ
 periods_of o = unwrap_or o.periods 0
 
@@ -51,7 +51,7 @@ begin_outcome NoRoom = halted Memory
 
 -- 2. Its records
 
--- the run ended: the writer took the output of all its slots, of which every promise holds, and the last that is told is why
+-- the run ended: the writer took the output of all its slots, every promise holds for them, and the last report is why it ended
 pub record EndsRun (o : AirOptions) (run : Run) (input output faults : Device) (status : ℕ) : Type 0 where
   pub rest : Option (List ℕ)
   pub told : Port
@@ -66,7 +66,8 @@ pub record EndsRun (o : AirOptions) (run : Run) (input output faults : Device) (
   pub reports : Reports (between told faults.after) (end_outcome o.terms.slots airs.came.records end).report
   pub status_is : status ≡ (end_outcome o.terms.slots airs.came.records end).status
 
--- the writer failed: it took exactly the first bytes of what the records heard settle, or of all slots of the run, and every promise holds of these slots
+-- the writer failed: it took exactly the first bytes of the output that the records so far settle, or of all slots of the run, and every promise holds for
+-- these slots
 pub record FailsToAir (run : Run) (input output faults : Device) (status : ℕ) : Type 0 where
   pub rest : Option (List ℕ)
   pub told : Port

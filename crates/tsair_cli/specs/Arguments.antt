@@ -14,7 +14,7 @@ air_terms wait ahead slots room = record { wait = wait; ahead = ahead; slots = s
 abbrev pub air_options : Bool → Bool → Bool → Terms → Option ℕ → AirOptions
 air_options hex stop unframe terms periods = record { terms = terms; periods = periods; hex = hex; stop = stop; unframe = unframe }
 
--- none where one of them is none
+-- the terms; none if any value is none
 abbrev pub terms_by : Option ℕ → Option ℕ → Option (Option ℕ) → Option (Option ℕ) → Option Terms
 terms_by wait ahead slots room =
     option_and_then (λ w. option_and_then (λ a. option_and_then (λ s. option_and_then (λ r. Some (air_terms w a s r)) room) slots) ahead) wait
@@ -34,7 +34,7 @@ options_of rows =
     (number_if options (codes "switch") rows))
     (terms_of rows)
 
--- what the words ask for, none where they are a usage error
+-- the options that the words give; none if they are a usage error
 abbrev pub asked_in : List Text → Option AirOptions
 asked_in words = option_and_then options_of (given_options (codes "tsair") options words)
 

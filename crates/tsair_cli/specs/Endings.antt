@@ -1,4 +1,4 @@
--- What is told of the end of a run, and its status.
+-- The report at the end of a run, and its status.
 use Rattle.std.specs.Prelude.{ℕ, Bool, if◌then◌else◌, [], Option, Some, None, codes}
 use Rattle.devices.specs.Lines.{line_text}
 use Rattle.devices.specs.Outcomes.{Outcome, printed, reported}
@@ -7,11 +7,11 @@ use Rattle.on_air.specs.declared.answers.Ending.{Ending}
 use Rattle.on_air.specs.declared.answers.Ending.TheVariants.{Input, Unread, Slots, Records}
 use Rattle.tsair_cli.specs.declared.hearing.RecordsEnd.{RecordsEnd}
 
--- nothing more is told: status 1 where a record was refused
+-- no report: status 1 if a record was refused
 abbrev pub quiet : Bool → Outcome
 quiet refused = printed [] (if refused then 1 else 0)
 
--- of slots that were asked for, or of all that there may be
+-- after the slots that were asked for, or after all slots that a run may have
 unfoldable pub slots_outcome : Option ℕ → Bool → Outcome
 slots_outcome None refused = reported (line_text (codes "slots") [])
 slots_outcome (Some slots) refused = quiet refused

@@ -22,12 +22,12 @@ abbrev pub end_lines : Bool → List ℕ → ℕ
 end_lines at_line [] = 0
 end_lines at_line (x ∷ xs) = (if at_line && starts_with nat_eq (x ∷ xs) (codes "end\n") then 1 else 0) + end_lines (x == 10) xs
 
--- what follows these bytes stands at the beginning of a line, where these begin at the beginning of a line or within one
+-- whether the bytes after these are at the beginning of a line; these begin at the beginning of a line if `at_line`, otherwise within a line
 abbrev pub ends_a_line : Bool → List ℕ → Bool
 ends_a_line at_line [] = at_line
 ends_a_line at_line (x ∷ xs) = ends_a_line (x == 10) xs
 
--- the number of plans that have ended in a text; none before the first line of a plan
+-- the number of plans that have ended in a text; none if it has no first line of a plan
 abbrev pub ended_plans : List ℕ → Option ℕ
 ended_plans xs = option_map (λ parts. end_lines true parts.1) (parts_of xs)
 
@@ -39,12 +39,12 @@ ended_after (Some n) lines = Some (n + end_lines true lines)
 abbrev pub plan_count : Bool → ℕ
 plan_count switch = if switch then 2 else 1
 
--- so many plans have ended
+-- `wanted` plans have ended
 abbrev pub have_ended : ℕ → Option ℕ → Bool
 have_ended wanted None = false
 have_ended wanted (Some n) = nat_le wanted n
 
--- the last line of each plan stands in the bytes from the first line of a plan on
+-- the last line of each of `wanted` plans is in the bytes from the first line of a plan on
 abbrev pub have_ends : ℕ → Option (List ℕ × List ℕ) → Bool
 have_ends wanted None = false
 have_ends wanted (Some parts) = nat_le wanted (end_lines true parts.1)
@@ -54,7 +54,7 @@ plans_end switch xs = have_ends (plan_count switch) (parts_of xs)
 
 -- 2. A front that was read
 
--- a front may have so many bytes
+-- the most bytes of a front
 abbrev pub max_front : ℕ
 max_front = 2 ^ 22
 
@@ -65,15 +65,15 @@ pub record Grows (input : Device) (old new : List ℕ) : Type 0 where
   pub read : Consumes input.before.bytes input.after.bytes bytes
   pub clean : IsClean input
 
--- no byte is left, where bytes were known
+-- no byte is left, if the bytes were known
 abbrev pub IsSpent : Device → Type 0
 IsSpent input = (xs : List ℕ) → input.before.bytes ≡ Some xs → IsAtEnd input.after.bytes
 
--- its last line has come whole, or it is longer than a front may be
+-- its last line is whole, or it is longer than a front may be
 abbrev pub IsLined : List ℕ → Type 0
 IsLined text = (max_front < length text) ⊎ (ends_a_line true text ≡ true)
 
--- it grew by a line, as far as a front may; where it is answered that the input does not go on, no byte is left
+-- it grew by a line, as far as a front may; if the answer is that the input has ended, no byte is left
 abbrev pub ReadsLine : Device → List ℕ → List ℕ → Result Bool Halt → Type 0
 ReadsLine input old new (Ok true) = Grows input old new × (length old ≤ max_front → length old < length new) × IsLined new
 ReadsLine input old new (Ok false) = Grows input old new × IsSpent input
@@ -107,7 +107,7 @@ pub record ReadsFault (switch : Bool) (input : Device) (Is : List ℕ → Type 0
   pub has_read : HasRead input front
   pub is : Is front
 
--- the plans of a front; or its fault, where the last line of each plan has come or the input has ended; or it is too long
+-- the plans of a front; or its fault, if the last line of each plan has arrived or the input has ended; or it is too long
 abbrev pub ReadsFront : Bool → Device → Result JobPlans FrontError → Type 0
 ReadsFront switch input (Ok plans) = ReadsPlans switch input plans
 ReadsFront switch input (Err (Fault (Job fault))) =
@@ -118,7 +118,7 @@ ReadsFront switch input (Err (Stopped Read)) = HasFailed input
 ReadsFront switch input (Err (Stopped Write)) = ⊥
 ReadsFront switch input (Err (Stopped Memory)) = IsClean input
 
--- 3. What is told of one that is not read
+-- 3. The report of a front that is not read
 
 unfoldable pub front_outcome : FrontError → Outcome
 front_outcome (Fault (Job fault)) = reported (fault_line (fault_view fault))

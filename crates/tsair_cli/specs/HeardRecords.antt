@@ -1,4 +1,4 @@
--- The records of a run, heard one after another, and the lines of those that are refused.
+-- The records of a run, taken one after another, and a line for each refused record.
 use Rattle.std.specs.Prelude.{◌≡◌, ◌<◌, ℕ, Bool, true, nat_lt, List, [], ◌∷◌, length, map, Option, Some, None, Result, Ok, Err, codes}
 use Rattle.devices.specs.Devices.{Device, Port, HasFailed, IsClean, between}
 use Rattle.devices.specs.Lines.{Tells, line_text}
@@ -15,8 +15,8 @@ use Rattle.tsair_cli.specs.declared.hearing.RecordsEnd.{RecordsEnd}
 
 -- 1. The lines of records that are refused
 
--- its number, and why; of a record that the run follows its number, the number of packets before it, and the DTS from which to which the run
--- goes on
+-- the record's number, and why; for a record that the run follows in spite of a leap: its number, the number of packets before it, and the DTS before and after
+-- the leap
 unfoldable pub refusal_by : ℕ → AirRefusal → List ℕ
 refusal_by index (Feed cause) = line_text (codes "unit") (index ∷ air_code (Feed cause) ∷ [])
 refusal_by index Ahead = line_text (codes "unit") (index ∷ air_code Ahead ∷ [])
@@ -30,18 +30,18 @@ has_refused a = nat_lt 0 (length a.refused)
 
 -- 2. All records
 
--- the run has come as far as this, over bytes that the reader gave at its beginning, and each record that was refused is told
+-- the run has come as far as `came`, over bytes that the reader gave at its beginning, and has reported each refused record
 pub record Airs (run : Run) (origin left : Option (List ℕ)) (faults : Device) : Type 0 where
   pub came : Air
   pub heard_is : HeardOn run origin left came
   pub told : Tells faults.before faults.after (map refusal_line came.refused)
 
--- why no further record is heard: a record was refused, where that ends a run; or what comes at this place of the input
+-- why the run takes no further record: a record was refused, if that ends a run; or the end that comes at this place of the input
 abbrev pub EndsBy : Run → Air → Bool → Option (List ℕ) → Option (List ℕ) → Option Ending → Type 0
 EndsBy run came stop before left None = (stop ≡ true) × ((has_refused came ≡ true) × (left ≡ before))
 EndsBy run came stop before left (Some why) = EndsAt run came before left why
 
--- a call of the reader failed exactly where that is why
+-- a call of the reader failed exactly if that is why
 abbrev pub NamesReader : Device → Option Ending → Type 0
 NamesReader input None = IsClean input
 NamesReader input (Some Input) = IsClean input

@@ -16,7 +16,7 @@ use word_faults::{given_options, number_if, number_of};
 pub struct AirOptions {
     /// Its terms: `--wait`, `--ahead`, `--slots` and `--room`.
     pub terms: Terms,
-    /// The number of periods of the first plan before the second; where it is not given, there is one plan.
+    /// The number of periods of the first plan before the second; if it is not given, there is one plan.
     pub periods: Option<u64>,
     /// Whether packets are written as lines of hexadecimal digits, and not as bytes.
     pub hex: bool,
@@ -26,7 +26,7 @@ pub struct AirOptions {
     pub unframe: bool,
 }
 
-// The terms of the run; none if a number is out of its range.
+// Returns the terms of the run; none if a number is out of its range.
 #[tactic(auto, unfolding(crate::specs::Arguments::terms_of))]
 fn terms_of(matches: &ArgMatches<'_>) -> Option<Terms>
     ensures { result ≡ spec.terms_of (rows_of (found_of matches.now)) }
@@ -43,7 +43,7 @@ fn terms_of(matches: &ArgMatches<'_>) -> Option<Terms>
     })
 }
 
-// The values of the options; none if one is out of its range.
+// Returns the values of the options; none if one is out of its range.
 #[tactic(auto, unfolding(crate::specs::Arguments::options_of))]
 fn options_of(matches: &ArgMatches<'_>) -> Option<AirOptions>
     ensures { result ≡ spec.options_of (rows_of (found_of matches.now)) }
@@ -59,7 +59,7 @@ fn options_of(matches: &ArgMatches<'_>) -> Option<AirOptions>
     })
 }
 
-/// Returns what the words ask for; none where they are a usage error.
+/// Returns the options that the words give; none if they are a usage error.
 pub(crate) fn read_arguments(
     alloc: Global,
     words: &[&str],

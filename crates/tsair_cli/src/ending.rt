@@ -10,15 +10,14 @@ use checked_jobs::{report_record, report_refusal};
 use counted_io::Sink;
 use on_air::Ending;
 
-/// Returns the status of a run of which nothing else is told.
+/// Returns the status of a run that ends without a report.
 fn quiet_status(has_refused: bool) -> u8
     ensures { result ≡ (if has_refused then 1 else 0) }
 {
     if has_refused { 1 } else { 0 }
 }
 
-/// Reports why a run of `records` records ended, where that is no end of its input or its slots, and returns the
-/// status.
+/// Reports why a run of `records` records ended, unless its input or its slots ended, and returns the status.
 #[tactic(auto, unfolding(crate::specs::Endings::end_outcome, crate::specs::Endings::why_outcome, crate::specs::Endings::slots_outcome))]
 pub fn report_end<E: Sink>(faults: &mut E, slots: Option<u64>, records: u64, end: RecordsEnd) -> u8
     ensures report { Reports (writes E.Sink faults.old faults.new) (end_outcome slots records end).report }

@@ -58,7 +58,7 @@ fn read_line<R: Source>(input: &mut R, text: &mut Vec<u8>) -> Result<bool, Halt>
     Ok(true)
 }
 
-/// The number of lines `end` in bytes.
+/// Returns the number of lines `end` in bytes.
 fn end_lines(bytes: &[u8]) -> usize
     ensures value { result ≡ spec.end_lines true bytes.now }
     ensures upper { result ≤ length bytes.now }

@@ -6,7 +6,7 @@ ghost use Rattle.word_faults.specs.KnownWords.{known_of};
 use option_lists::Scale;
 use word_faults::{KnownWords, OptionRow, ValueKind};
 
-/// The options. What is read, which word is a fault, and the usage follow these rows.
+/// The options. The values that are read, the faults of words, and the usage follow from these rows.
 pub(crate) const OPTIONS: [OptionRow; 11] = [
     OptionRow {
         name: "wait",

@@ -66,7 +66,7 @@ fn report_begin<E: Sink>(faults: &mut E, cause: NewError) -> u8
     }
 }
 
-/// Hears the records of a run, writes its slots to the last, and returns the status.
+/// Takes the records of a run, writes all its slots, and returns the status.
 fn air<R: HeldInput, W: Sink, E: Sink>(
     alloc: Global,
     options: AirOptions,
@@ -124,11 +124,11 @@ pub fn run<R: HeldInput, W: Sink, E: Sink>(
     output: &mut W,
     faults: &mut E,
 ) -> u8
-    // A job, its records as they come, to packets.
+    // A job, with its records as they arrive, to packets.
     ensures air { (o : AirOptions) → asked words.now ≡ Some o → o.unframe ≡ false →
         spec.AirsJob o (reads R.Source input.old input.new) (writes W.Sink output.old output.new)
         (writes E.Sink faults.old faults.new) result }
-    // Frames of records, as they come, to the records of them that are whole.
+    // Frames of records, as they arrive, to their whole records.
     ensures unframes { (o : AirOptions) → asked words.now ≡ Some o → o.unframe ≡ true →
         PassesFrames (reads R.Source input.old input.new) (writes W.Sink output.old output.new)
         (writes E.Sink faults.old faults.new) result }

@@ -16,11 +16,11 @@ use Rattle.tsjob_cli.specs.Options.{usage_text}
 both : (b : Bool) → b ≡ true → b ≡ false → ⊥
 both b is unlike = let clash : true ≡ false = sym is ∙ unlike in absurd cc
 
-pub to_file : (creates : Option Bool) (name : Text) (words : List Text) (files : Files) (input : Device) (before mid after : Port) (bytes : List ℕ)
+pub to_file : (creates keeps : Option Bool) (name : Text) (words : List Text) (files : Files) (input : Device) (before mid after : Port) (bytes : List ℕ)
     (made status : ℕ) →
-    MakesJob words files input (between before mid) bytes made → Saves creates name bytes made (between mid after) status →
-    ToFile creates name words files input (between before after) status
-to_file creates name words files input before mid after bytes made status makes saves =
+    MakesJob words files input (between before mid) bytes made → Saves creates keeps name bytes made (between mid after) status →
+    ToFile creates keeps name words files input (between before after) status
+to_file creates keeps name words files input before mid after bytes made status makes saves =
     record { bytes = bytes; made = made; told = mid; makes = makes; saves = saves }
 
 -- the name and the words are those that are asked for

@@ -21,7 +21,7 @@ use Rattle.tsjob_cli.specs.Subcommands.{subcommand_of}
 
 -- 1. One value each
 
--- the file of a description whose units are written while the stream comes, where one is named: for units alone
+-- the file of a description whose units are written while the stream comes, if it is named: for `units` alone
 unfoldable pub stream_of : Subcommand → Option Text → Option (Option Text)
 stream_of subcommand None = Some None
 stream_of Whole (Some name) = None
@@ -58,7 +58,7 @@ reporting_in rows = record {
 
 -- 2. All of them
 
--- with empty lists
+-- arguments with empty lists
 abbrev pub plain : Subcommand → Option Text → Reporting → Option ℕ → Option Text → ℕ → ℕ → DeclareBy → Bool → Bool → Bool → Bool → ClockBase → JobArgumentsView
 plain subcommand stream reporting rate start pcr_limit lead declare_by make_dts mark_access joined strict base = record {
   subcommand = subcommand;
@@ -100,7 +100,7 @@ values_of rows =
     (is_given (first_of (codes "joined") rows))
     (is_given (first_of (codes "strict") rows)) base)))))))))
 
--- with lists
+-- arguments with lists
 abbrev pub with_lists : List ℕ → List ℕ → List PidBuffers → Option NetworkNameView → List ServiceNameView → List ℕ → JobArgumentsView → JobArgumentsView
 with_lists programs without buffers network names aligned arguments =
     record arguments {
@@ -120,11 +120,11 @@ arguments_of rows =
 
 -- 3. From words
 
--- what a subcommand and options ask for, none where they are a usage error
+-- the request of a subcommand and options; none for a usage error
 abbrev pub options_in : List Text → Option JobArgumentsView
 options_in words = given (given_options (codes "tsjob") options words) arguments_of
 
--- what the words ask for of the input, none where names of files may stand among them
+-- the options that the words ask for; none if the words may contain names of files
 abbrev pub arguments_in : List Text → Option JobArgumentsView
 arguments_in words = if has_mark words then None else options_in words
 

@@ -30,7 +30,7 @@ shorts = map commands.constant_short SHORT_NAMES
 abbrev pub sorted_words : List Text → List Text
 sorted_words words = commands.sorted_command sorting_words (commands.long_words shorts words)
 
--- sorted words ask for an explanation; of all others it is known what is known of the words of `run`
+-- sorted words ask for an explanation; all other words are known as for `run`
 abbrev pub is_explain_word : Option Text → Bool
 is_explain_word None = false
 is_explain_word (Some w) = bytes_eq w (codes "explain")
@@ -52,7 +52,7 @@ output_file words = option_and_then unless_output (value_given output_word (opti
 abbrev pub words_but_output : List Text → List Text
 words_but_output words = words_without output_word (option_words words) ++ marked_names words
 
--- what is written is text
+-- the output is text
 abbrev pub is_text_word : Option Text → Bool
 is_text_word None = false
 is_text_word (Some w) = bytes_eq w (codes "describe") || (bytes_eq w (codes "why") || bytes_eq w (codes "explain"))
@@ -60,15 +60,17 @@ is_text_word (Some w) = bytes_eq w (codes "describe") || (bytes_eq w (codes "why
 abbrev pub is_text : List Text → Bool
 is_text words = is_text_word (commands.command_of sorting_words words)
 
--- 2. What is written
+-- 2. The output
 
--- what is known of files that are written: whether one can be created, and whether standard output is a terminal
+-- the known facts about written files: whether a file can be created, whether a new file can be given its name, and whether standard output is a
+-- terminal
 pub record Outputs : Type 0 where
   pub creates : List ℕ → Option Bool
+  pub keeps : List ℕ → Option Bool
   pub shows : Option Bool
 
-abbrev pub outputs_of : (List ℕ → Option Bool) → Option Bool → Outputs
-outputs_of creates shows = record { creates = creates; shows = shows }
+abbrev pub outputs_of : (List ℕ → Option Bool) → (List ℕ → Option Bool) → Option Bool → Outputs
+outputs_of creates keeps shows = record { creates = creates; keeps = keeps; shows = shows }
 
 -- no packets or units go to a terminal
 pub record IsTerminal (shows : Option Bool) (words : List Text) (input output faults : Device) (status : ℕ) : Type 0 where
@@ -83,24 +85,24 @@ abbrev pub ToOutput : Option Bool → List Text → Files → Device → Device 
 ToOutput shows words files input output faults status =
     IsTerminal shows words input output faults status ⊎ RunsJob words files input output faults status
 
--- what was made is written to a file, if it is to be kept
-abbrev pub Saves : Option Bool → Text → List ℕ → ℕ → Device → ℕ → Type 0
-Saves creates name bytes made faults status =
+-- the output is written to a file, if it is to be kept
+abbrev pub Saves : Option Bool → Option Bool → Text → List ℕ → ℕ → Device → ℕ → Type 0
+Saves creates keeps name bytes made faults status =
     ((is_kept bytes made ≡ false) × ((status ≡ made) × IsUntouched faults))
-    ⊎ ((is_kept bytes made ≡ true) × SavesFile creates name bytes made faults status)
+    ⊎ ((is_kept bytes made ≡ true) × SavesFile creates keeps name bytes made faults status)
 
-pub record ToFile (creates : Option Bool) (name : Text) (words : List Text) (files : Files) (input faults : Device) (status : ℕ) : Type 0 where
+pub record ToFile (creates keeps : Option Bool) (name : Text) (words : List Text) (files : Files) (input faults : Device) (status : ℕ) : Type 0 where
   pub bytes : List ℕ
   pub made : ℕ
   -- the second writer between both
   pub told : Port
   pub makes : MakesJob words files input (between faults.before told) bytes made
-  pub saves : Saves creates name bytes made (between told faults.after) status
+  pub saves : Saves creates keeps name bytes made (between told faults.after) status
 
 abbrev pub WritesTo : Outputs → Option Text → List Text → Files → Device → Device → Device → ℕ → Type 0
 WritesTo outputs None words files input output faults status = ToOutput outputs.shows words files input output faults status
 WritesTo outputs (Some name) words files input output faults status =
-    ToFile (outputs.creates name) name words files input faults status × IsUntouched output
+    ToFile (outputs.creates name) (outputs.keeps name) name words files input faults status × IsUntouched output
 
 -- memory runs out for the words
 abbrev pub LacksWords : Device → Device → Device → ℕ → Type 0
@@ -110,7 +112,7 @@ abbrev pub PerformsWords : Outputs → List Text → Files → Device → Device
 PerformsWords outputs words files input output faults status =
     WritesTo outputs (output_file words) (words_but_output words) files input output faults status ⊎ LacksWords input output faults status
 
--- an explanation of files, or what `run` does
+-- an explanation of files, or the effect of `run`
 abbrev pub explains_files : List Text → Bool
 explains_files words = is_explained words && not (length (file_words words) == 0)
 

@@ -1,4 +1,4 @@
--- The word `explain`: what is wrong with a description, or with a plan after it.
+-- The word `explain`: the fault of a description, or of a plan after it.
 use Rattle.std.specs.Prelude.{◌≡◌, ◌⊎◌, ℕ, ◌==◌, Bool, false, List, [], ◌∷◌, length, if◌then◌else◌, codes}
 use Rattle.std.specs.Str.{bytes_eq}
 use Rattle.clap.specs.Words.{Text}
@@ -33,7 +33,7 @@ pub record ExplainsBytes (files : Files) (names : List Text) (output faults : De
   pub leads : ExplainLeads bytes outcome
   pub written : IsWritten outcome output faults status
 
--- or one of them can't be read, or memory runs out: nothing is written
+-- or a file can't be read, or memory runs out: nothing is written
 pub record ExplainsNothing (files : Files) (names : List Text) (output faults : Device) (status : ℕ) : Type 0 where
   pub unwritten : IsUntouched output
   pub why : StopsAtOne files names faults status ⊎ Reports faults (halt_line Memory)

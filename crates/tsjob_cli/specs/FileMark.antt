@@ -1,4 +1,4 @@
--- The word `--`, after which names of files stand.
+-- The word `--`: names of files follow it.
 use Rattle.std.specs.Prelude.{Bool, List, length, nat_lt, codes}
 use Rattle.std.specs.List.{position_or_len}
 use Rattle.std.specs.Str.{bytes_eq}
@@ -7,6 +7,6 @@ use Rattle.clap.specs.Words.{Text}
 abbrev pub is_mark : Text → Bool
 is_mark word = bytes_eq word (codes "--")
 
--- it stands among these words
+-- it is among these words
 abbrev pub has_mark : List Text → Bool
 has_mark words = nat_lt (position_or_len is_mark words) (length words)

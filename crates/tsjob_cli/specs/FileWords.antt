@@ -17,11 +17,11 @@ marked_names words = drop (position_or_len is_mark words) words
 abbrev pub file_words : List Text → List Text
 file_words words = after_first is_mark words
 
--- no file of a description may be named beside them
+-- no file of a description may be named with names of files
 unfoldable pub unless_streamed : Option JobArgumentsView → Option JobArgumentsView
 unless_streamed None = None
 unless_streamed (Some a) = if is_some a.stream then None else Some a
 
--- what the words before it ask for of the streams in the files; none where these are a usage error, or no file is named
+-- the request of the words before `--` for the streams in the files; none for a usage error, or if no file is named
 unfoldable pub file_arguments : List Text → Option JobArgumentsView
 file_arguments words = if length (file_words words) == 0 then None else unless_streamed (arguments_in (option_words words))

@@ -14,7 +14,7 @@ use Rattle.tsjob_cli.specs.NamedInputs.{ReadsFiles}
 use Rattle.tsjob_cli.specs.Options.{known_for, usage_text}
 use Rattle.tsjob_cli.specs.StreamedUnits.{StreamsUnits}
 
--- what the program does with these words: each clause of the contract of its `run`
+-- the effects of the program with these words: each clause of the contract of its `run`
 pub record RunsJob (words : List Text) (files : Files) (input job faults : Device) (status : ℕ) : Type 0 where
   pub explain : is_explain words ≡ true → Performs ExplainLeads input job faults status
   pub stream : is_explain words ≡ false → (a : JobArgumentsView) → arguments_in words ≡ Some a → a.stream ≡ None → Performs (Leads a) input job faults status
@@ -25,17 +25,17 @@ pub record RunsJob (words : List Text) (files : Files) (input job faults : Devic
   pub other : is_explain words ≡ false → arguments_in words ≡ None → file_arguments words ≡ None →
       AnswersWords (codes "tsjob") (known_for words) words usage_text input job faults status
 
--- it does that with a writer that held nothing, and now has these bytes
+-- the program runs with a writer that held nothing, and now has these bytes
 pub record MakesJob (words : List Text) (files : Files) (input faults : Device) (bytes : List ℕ) (status : ℕ) : Type 0 where
   pub job : Device
   pub empty : job.before.bytes ≡ Some []
   pub bytes_are : job.after.bytes ≡ Some bytes
   pub runs : RunsJob words files input job faults status
 
--- it is a job: something was written, to the end
+-- the output is a job: something was written, to the end
 abbrev pub is_job : List ℕ → ℕ → Bool
 is_job bytes status = nat_le status 1 && nat_lt 0 (length bytes)
 
--- it is to be kept: a job, or an empty output with status 0
+-- the output is to be kept: it is a job, or empty with status 0
 abbrev pub is_kept : List ℕ → ℕ → Bool
 is_kept bytes status = is_job bytes status || status == 0

@@ -16,12 +16,12 @@ options = map constant_view OPTIONS
 
 -- 1. The words
 
--- where the file of a description cannot be named, its option is not known
+-- if the file of a description cannot be named, its option is unknown
 abbrev pub barred_word : Bool → Option Text
 barred_word true = None
 barred_word false = Some (codes "--stream")
 
--- a subcommand, or the mark of names of files, may stand beside the options
+-- a subcommand, or the mark of names of files, may accompany the options
 abbrev pub known_but_one : Option Text → CommandLine
 known_but_one barred =
     known_but barred options (codes "describe" ∷ codes "units" ∷ codes "why" ∷ codes "explain" ∷ codes "--" ∷ []) (codes "-V" ∷ []) None
@@ -48,7 +48,7 @@ is_units subcommand = false
 abbrev pub takes_stream : List Text → Bool
 takes_stream words = is_units (subcommand_of (word_beside (known_words true) words)) && not (has_mark words)
 
--- what is known of these words
+-- the known options for these words
 abbrev pub known_for : List Text → CommandLine
 known_for words = known_words (takes_stream words)
 
@@ -60,6 +60,6 @@ usage_front =
     codes "usage: tsjob [describe|units|why] [OPTIONS] [FILE..|-] [-o OUT]\n"
     ++ (codes "       tsjob units --stream DESCRIPTION < PACKETS > RECORDS\n" ++ codes "       tsjob explain [DESCRIPTION [PLAN [RECORDS]]]\n")
 
--- and a line for each option
+-- the usage, with a line for each option
 abbrev pub usage_text : List ℕ
 usage_text = usage_by usage_front options

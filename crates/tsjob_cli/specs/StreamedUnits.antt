@@ -24,8 +24,8 @@ use Rattle.tsjob_cli.specs.declared.streaming.NoDescription.TheVariants.{Unopene
 
 -- 1. The streams of a description
 
--- the first unit of all is due so late, in units of 90 kHz: a unit leaves a second before it is due at most, and streams that
--- begin up to 2 s earlier are then still due late enough
+-- when the first unit of all is due, in units of 90 kHz: a unit leaves at most a second before it is due, and streams that begin up to 2 s earlier are
+-- then still due late enough
 abbrev pub earliest : ℕ
 earliest = 270000
 
@@ -64,7 +64,7 @@ feed_of w d = feed_first earliest (marking_by w d) (maps_of d) (streams_from 0 d
 abbrev pub pids_of : Described → List ℕ
 pids_of d = map (λ s. s.pid) d.streams
 
--- 2. The description in a file, of which these bytes are known
+-- 2. The description in a file with these bytes
 
 abbrev pub IsDescriptionIn : List ℕ → Result Described NoDescription → Type 0
 IsDescriptionIn text (Ok d) = described text ≡ Ok d
@@ -72,7 +72,7 @@ IsDescriptionIn text (Err Unopened) = ⊥
 IsDescriptionIn text (Err (Stopped halt)) = halt ≡ Memory
 IsDescriptionIn text (Err (Refused f)) = described text ≡ Err (refused_by.Refused f)
 
--- in the file of a name; where its bytes are not known, nothing is said of the description
+-- the description in the file of a name; if its bytes are not known, the description is not either
 abbrev pub IsNamedDescription : Files → List ℕ → Result Described NoDescription → Type 0
 IsNamedDescription files name (Ok d) = IsOpened files name × ((text : List ℕ) → files.contents name ≡ Some text → described text ≡ Ok d)
 IsNamedDescription files name (Err Unopened) = IsUnopened files name
@@ -82,7 +82,7 @@ IsNamedDescription files name (Err (Stopped Memory)) = ⊤
 IsNamedDescription files name (Err (Refused f)) =
     IsOpened files name × ((text : List ℕ) → files.contents name ≡ Some text → described text ≡ Err (refused_by.Refused f))
 
--- what is told where there is none
+-- the line for a refused description
 abbrev pub refused_line : DescFault → List ℕ
 refused_line f = line_text (codes "description") (fault_code f ∷ fault_item f ∷ [])
 
@@ -91,9 +91,9 @@ none_outcome Unopened = record { output = []; report = line_text (codes "open") 
 none_outcome (Stopped halt) = halted halt
 none_outcome (Refused f) = reported (refused_line f)
 
--- 3. What is done
+-- 3. The run
 
--- the stream goes by options and a description; or there is no memory for what is kept of its streams
+-- the stream is read by options and a description; or memory for the state of its streams is refused
 abbrev pub GoesBy : JobOptionsView → Described → Device → Device → Device → ℕ → Type 0
 GoesBy w d input output faults status = RunsStream (feed_of w d) (pids_of d) input output faults status ⊎ LacksMemory input output faults status
 

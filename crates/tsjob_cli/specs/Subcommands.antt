@@ -1,4 +1,4 @@
--- What is written of a stream, by the word beside the options.
+-- The output for a stream, by the subcommand.
 use Rattle.std.specs.Prelude.{Option, Some, None, if◌then◌else◌, codes}
 use Rattle.std.specs.Str.{bytes_eq}
 use Rattle.clap.specs.Words.{Text}

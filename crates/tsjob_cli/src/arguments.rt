@@ -18,7 +18,7 @@ use option_lists::{base_of, buffer_list, declare_by_of, name_list, network_in, s
 use std::alloc::{AllocError, Global};
 use word_faults::{given_options, number_if, number_of, numbers_of};
 
-// The subcommand of this name; without a name, the whole job.
+// Returns the subcommand of this name; without a name, the whole job.
 #[tactic(auto, unfolding(crate::specs::Subcommands::subcommand_of))]
 pub(crate) fn subcommand_of(text: Option<&str>) -> Option<Subcommand>
     ensures { result ≡ subcommand_of (option_map (λ s. s.now) text.entry) }
@@ -32,7 +32,7 @@ pub(crate) fn subcommand_of(text: Option<&str>) -> Option<Subcommand>
     }
 }
 
-// The network, if the option is given; none where it is none.
+// Returns the network, if the option is given; `None` if its value is no network.
 #[tactic(auto, unfolding(option_lists::specs::NameLists::network_if_given))]
 fn network_if_given<'a>(
     alloc: Global,
@@ -50,7 +50,7 @@ fn network_if_given<'a>(
     }
 }
 
-// The file of a description, where one is named; none where it is and not units are asked for.
+// Returns the file of a description, if it is named; `None` if it is named without `units`.
 #[tactic(auto, unfolding(crate::specs::Arguments::stream_of))]
 fn stream_of<'a>(subcommand: Subcommand, text: Option<&'a str>) -> Option<Option<&'a str>>
     ensures { option_map (λ o. option_map (λ s. s.now) o) result
@@ -65,7 +65,7 @@ fn stream_of<'a>(subcommand: Subcommand, text: Option<&'a str>) -> Option<Option
     }
 }
 
-// The rate; none where its text is no number of its range.
+// Returns the rate; `None` if its text is no number of its range.
 #[tactic(auto, unfolding(crate::specs::Arguments::rate_in))]
 fn rate_in(matches: &ArgMatches<'_>) -> Option<Option<u64>>
     ensures { result ≡ spec.rate_in (rows_of (found_of matches.now)) }
@@ -73,7 +73,7 @@ fn rate_in(matches: &ArgMatches<'_>) -> Option<Option<u64>>
     number_if(&OPTIONS, matches, "rate")
 }
 
-// The greatest time between clock references, in ms.
+// Returns the greatest time between clock references, in ms.
 #[tactic(auto, unfolding(crate::specs::Arguments::limit_in))]
 fn limit_in(matches: &ArgMatches<'_>) -> Option<u8>
     ensures { result ≡ spec.limit_in (rows_of (found_of matches.now)) }
@@ -82,7 +82,7 @@ fn limit_in(matches: &ArgMatches<'_>) -> Option<u8>
     Some(pcr_limit)
 }
 
-// The greatest lead of a unit, in units of 90 kHz.
+// Returns the greatest lead of a unit, in units of 90 kHz.
 #[tactic(auto, unfolding(crate::specs::Arguments::lead_in))]
 fn lead_in(matches: &ArgMatches<'_>) -> Option<u32>
     ensures { result ≡ spec.lead_in (rows_of (found_of matches.now)) }
@@ -91,7 +91,7 @@ fn lead_in(matches: &ArgMatches<'_>) -> Option<u32>
     Some(lead)
 }
 
-// The programs that are taken.
+// Returns the programs that are taken.
 #[tactic(auto, unfolding(crate::specs::Arguments::programs_in))]
 fn programs_in(alloc: Global, matches: &ArgMatches<'_>) -> Result<Option<Vec<u16>>, AllocError>
     ensures { IfOk result
@@ -100,7 +100,7 @@ fn programs_in(alloc: Global, matches: &ArgMatches<'_>) -> Result<Option<Vec<u16
     numbers_of(alloc, &OPTIONS, matches, "program")
 }
 
-// The PIDs that are left out.
+// Returns the PIDs that are left out.
 #[tactic(auto, unfolding(crate::specs::Arguments::without_in))]
 fn without_in(alloc: Global, matches: &ArgMatches<'_>) -> Result<Option<Vec<u16>>, AllocError>
     ensures { IfOk result
@@ -109,7 +109,7 @@ fn without_in(alloc: Global, matches: &ArgMatches<'_>) -> Result<Option<Vec<u16>
     numbers_of(alloc, &OPTIONS, matches, "without")
 }
 
-// The PIDs whose units are aligned.
+// Returns the PIDs whose units are aligned.
 #[tactic(auto, unfolding(crate::specs::Arguments::aligned_in))]
 fn aligned_in(alloc: Global, matches: &ArgMatches<'_>) -> Result<Option<Vec<u16>>, AllocError>
     ensures { IfOk result
@@ -118,7 +118,7 @@ fn aligned_in(alloc: Global, matches: &ArgMatches<'_>) -> Result<Option<Vec<u16>
     numbers_of(alloc, &OPTIONS, matches, "aligned")
 }
 
-// Which lines are reported.
+// Returns which lines are reported.
 #[tactic(auto, unfolding(crate::specs::Arguments::reporting_in))]
 fn reporting_in(matches: &ArgMatches<'_>) -> Reporting
     ensures { result ≡ spec.reporting_in (rows_of (found_of matches.now)) }
@@ -130,7 +130,7 @@ fn reporting_in(matches: &ArgMatches<'_>) -> Reporting
     }
 }
 
-// The options with one value each.
+// Returns the options with one value each.
 #[tactic(auto, unfolding(crate::specs::Arguments::values_of))]
 fn values_of<'a>(alloc: Global, matches: &ArgMatches<'a>) -> Option<JobArguments<'a>>
     ensures { result ≡ spec.values_of (rows_of (found_of matches.now)) }
@@ -166,7 +166,7 @@ fn values_of<'a>(alloc: Global, matches: &ArgMatches<'a>) -> Option<JobArguments
     })
 }
 
-// With the options that are lists.
+// Adds the options that are lists.
 #[tactic(auto, unfolding(crate::specs::Arguments::arguments_of))]
 fn arguments_of<'a>(
     alloc: Global,
@@ -206,7 +206,7 @@ fn arguments_of<'a>(
     }))
 }
 
-// What a subcommand and options ask for; none where they are a usage error.
+// Reads a subcommand and options; `None` if they are a usage error.
 fn read_options<'a>(
     alloc: Global,
     words: &'a [&'a str],

@@ -43,7 +43,7 @@ pub const SHORT_NAMES: [ShortName; 3] = [
     },
 ];
 
-// The words with long names of options: the subcommand, the options, then the names of files after `--`.
+// Returns the words with long names of options: the subcommand, the options, then the names of files after `--`.
 fn sorted_words<'a>(alloc: Global, words: &[&'a str]) -> Result<Vec<&'a str>, AllocError>
     ensures { IfOk result (λ sorted. map (λ s. s.now) sorted.items ≡ spec.sorted_words (map (λ s. s.now) words.now)) }
 {
@@ -51,7 +51,7 @@ fn sorted_words<'a>(alloc: Global, words: &[&'a str]) -> Result<Vec<&'a str>, Al
     sorted_command(alloc, sorting_words(), &long)
 }
 
-// Whether these sorted words ask for an explanation.
+// Returns whether these sorted words ask for an explanation.
 fn is_explained(words: &[&str]) -> bool
     ensures { result ≡ spec.is_explained (map (λ s. s.now) words.now) }
 {
@@ -61,7 +61,7 @@ fn is_explained(words: &[&str]) -> bool
     }
 }
 
-// What is known of sorted words.
+// Returns the options and words that sorted words may have.
 fn known_words(words: &[&str]) -> KnownWords
     ensures { known_of result ≡ spec.known_words (map (λ s. s.now) words.now) }
 {
@@ -72,7 +72,7 @@ fn known_words(words: &[&str]) -> KnownWords
     }
 }
 
-/// Returns the file that is written, by sorted words; none if it is standard output.
+/// Returns the file that is written, by sorted words; `None` if it is standard output.
 pub fn output_file<'a>(words: &[&'a str]) -> Option<&'a str>
     ensures { option_map (λ s. s.now) result ≡ spec.output_file (map (λ s. s.now) words.now) }
 {
@@ -92,7 +92,7 @@ pub fn words_but_output<'a>(alloc: Global, words: &[&'a str]) -> Result<Vec<&'a 
     Ok(left)
 }
 
-// Whether what is written is text, and may go to a terminal.
+// Returns whether the output is text, which may go to a terminal.
 fn is_text(words: &[&str]) -> bool
     ensures { result ≡ spec.is_text (map (λ s. s.now) words.now) }
 {
@@ -104,7 +104,7 @@ fn is_text(words: &[&str]) -> bool
     }
 }
 
-// Writes to standard output, unless that is a terminal and what is written is no text; returns the status.
+// Writes to standard output and returns the status. A terminal gets text only: anything else is refused.
 fn write_output<F: NamedFiles + OutputFiles, R: Source, W: Sink, E: Sink>(
     alloc: Global,
     words: &[&str],
@@ -127,7 +127,7 @@ fn write_output<F: NamedFiles + OutputFiles, R: Source, W: Sink, E: Sink>(
 
 // Writes what was made to the file of a name, if it is to be kept; returns the status.
 fn save<F: OutputFiles, E: Sink>(files: &F, name: &str, made: &MadeJob, faults: &mut E) -> u8
-    ensures { spec.Saves (F.creates files.now name.now) name.now made.now.bytes.items made.now.status
+    ensures { spec.Saves (F.creates files.now name.now) (F.keeps files.now name.now) name.now made.now.bytes.items made.now.status
         (writes E.Sink faults.old faults.new) result }
 {
     if !made.is_kept() {
@@ -145,7 +145,7 @@ fn write_file<F: NamedFiles + OutputFiles, R: Source, E: Sink>(
     input: &mut R,
     faults: &mut E,
 ) -> u8
-    ensures { spec.ToFile (F.creates files.now name.now) name.now (map (λ s. s.now) words.now)
+    ensures { spec.ToFile (F.creates files.now name.now) (F.keeps files.now name.now) name.now (map (λ s. s.now) words.now)
         (files_of (F.contents_of files.now) (F.opens files.now) F.never_fails)
         (reads R.Source input.old input.new) (writes E.Sink faults.old faults.new) result }
 {
@@ -162,7 +162,7 @@ fn perform_words<F: NamedFiles + OutputFiles, R: Source, W: Sink, E: Sink>(
     output: &mut W,
     faults: &mut E,
 ) -> u8
-    ensures { spec.PerformsWords (spec.outputs_of (F.creates files.now) (F.shows files.now)) (map (λ s. s.now) words.now)
+    ensures { spec.PerformsWords (spec.outputs_of (F.creates files.now) (F.keeps files.now) (F.shows files.now)) (map (λ s. s.now) words.now)
         (files_of (F.contents_of files.now) (F.opens files.now) F.never_fails)
         (reads R.Source input.old input.new) (writes W.Sink output.old output.new)
         (writes E.Sink faults.old faults.new) result }
@@ -185,7 +185,7 @@ fn answer<F: NamedFiles + OutputFiles, R: Source, W: Sink, E: Sink>(
     output: &mut W,
     faults: &mut E,
 ) -> u8
-    ensures { spec.Answers (spec.outputs_of (F.creates files.now) (F.shows files.now)) (map (λ s. s.now) words.now)
+    ensures { spec.Answers (spec.outputs_of (F.creates files.now) (F.keeps files.now) (F.shows files.now)) (map (λ s. s.now) words.now)
         (files_of (F.contents_of files.now) (F.opens files.now) F.never_fails)
         (reads R.Source input.old input.new) (writes W.Sink output.old output.new)
         (writes E.Sink faults.old faults.new) result }
@@ -208,7 +208,7 @@ fn run_sorted<F: NamedFiles + OutputFiles, R: Source, W: Sink, E: Sink>(
     faults: &mut E,
 ) -> u8
     ensures taken { are_taken (spec.known_words (map (λ s. s.now) words.now)) (map (λ s. s.now) words.now) ≡ true →
-        spec.Answers (spec.outputs_of (F.creates files.now) (F.shows files.now)) (map (λ s. s.now) words.now)
+        spec.Answers (spec.outputs_of (F.creates files.now) (F.keeps files.now) (F.shows files.now)) (map (λ s. s.now) words.now)
         (files_of (F.contents_of files.now) (F.opens files.now) F.never_fails)
         (reads R.Source input.old input.new) (writes W.Sink output.old output.new)
         (writes E.Sink faults.old faults.new) result ⊎ spec.LacksWords (reads R.Source input.old input.new)
@@ -226,8 +226,8 @@ fn run_sorted<F: NamedFiles + OutputFiles, R: Source, W: Sink, E: Sink>(
     }
 }
 
-/// Runs the program for words as people type them, and returns the status of `run`: words that are no options and no
-/// subcommand are names of files, `-` alone is the input; what is written goes to standard output, or to a file, whole
+/// Runs the program for words as people type them, and returns the status of `run`. Words that are neither options nor
+/// subcommands are names of files; `-` alone is standard input. The output goes to standard output, or to a file, whole
 /// or not at all.
 pub fn run_command<F: NamedFiles + OutputFiles, R: Source, W: Sink, E: Sink>(
     alloc: Global,
@@ -237,7 +237,7 @@ pub fn run_command<F: NamedFiles + OutputFiles, R: Source, W: Sink, E: Sink>(
     output: &mut W,
     faults: &mut E,
 ) -> u8
-    ensures { spec.Commands (spec.outputs_of (F.creates files.now) (F.shows files.now))
+    ensures { spec.Commands (spec.outputs_of (F.creates files.now) (F.keeps files.now) (F.shows files.now))
         (spec.sorted_words (map (λ s. s.now) words.now))
         (files_of (F.contents_of files.now) (F.opens files.now) F.never_fails)
         (reads R.Source input.old input.new) (writes W.Sink output.old output.new)

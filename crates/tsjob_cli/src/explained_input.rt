@@ -24,14 +24,14 @@ pub(crate) fn is_explain(words: &[&str]) -> bool
     }
 }
 
-// The status for lines of faults.
+// Returns the status for lines of faults.
 fn status_of(lines: &str) -> u8
     ensures { result ≡ spec.status_of lines.now }
 {
     if lines.is_empty() { 0 } else { 1 }
 }
 
-// The outcome for the bytes of a description, and of a plan.
+// Returns the outcome for the bytes of a description, and of a plan.
 #[tactic(auto, using(crate::proofs::Explaining::leads))]
 fn explained(alloc: Global, bytes: &[u8]) -> Result<JobOutcome, AllocError>
     ensures { IfOk result (λ o. spec.ExplainLeads bytes.now o) }
@@ -45,8 +45,7 @@ fn explained(alloc: Global, bytes: &[u8]) -> Result<JobOutcome, AllocError>
     })
 }
 
-/// Writes what is wrong with the description or the plan in the files of these names, one after another, and returns
-/// the status.
+/// Reads the named files one after another, writes which faults their description or plan has, and returns the status.
 pub(crate) fn explain_files<F: NamedFiles, W: Sink, E: Sink>(
     alloc: Global,
     files: &F,
@@ -67,7 +66,7 @@ pub(crate) fn explain_files<F: NamedFiles, W: Sink, E: Sink>(
     }
 }
 
-/// Writes what is wrong with the description or the plan in the input, and returns the status.
+/// Reads the input, writes which faults its description or plan has, and returns the status.
 #[tactic(auto, using(crate::proofs::Explaining::outcome_written, crate::proofs::Explaining::no_memory_left))]
 pub(crate) fn explain_input<R: Source, W: Sink, E: Sink>(
     alloc: Global,

@@ -4,7 +4,7 @@ ghost use Rattle.std.specs.Prelude.{◌≡◌, ◌≤◌, length, map};
 ghost use Rattle.std.specs.List.{position_or_len};
 ghost use Rattle.tsjob_cli.specs.FileMark as spec;
 
-/// Returns how many words stand before it; all, where it does not stand among them.
+/// Returns the number of words before `--`; all words, if `--` is not among them.
 pub(crate) fn mark_place(words: &[&str]) -> usize
     ensures place { result ≡ position_or_len spec.is_mark (map (λ s. s.now) words.now) }
     ensures within { result ≤ length words.now }
@@ -17,7 +17,7 @@ pub(crate) fn mark_place(words: &[&str]) -> usize
     words.len()
 }
 
-/// Returns whether it stands among words.
+/// Returns whether `--` is among words.
 pub(crate) fn has_mark(words: &[&str]) -> bool
     ensures { result ≡ spec.has_mark (map (λ s. s.now) words.now) }
 {

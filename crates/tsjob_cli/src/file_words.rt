@@ -16,7 +16,7 @@ pub fn option_words<'w, 'a>(words: &'w [&'a str]) -> &'w [&'a str]
     options
 }
 
-/// The names of files.
+/// Returns the names of files.
 pub(crate) fn file_words<'w, 'a>(words: &'w [&'a str]) -> &'w [&'a str]
     ensures { map (λ s. s.now) result.now ≡ spec.file_words (map (λ s. s.now) words.now) }
 {
@@ -30,7 +30,7 @@ pub(crate) fn file_words<'w, 'a>(words: &'w [&'a str]) -> &'w [&'a str]
     names
 }
 
-// No file of a description is named.
+// Returns the arguments, unless they name the file of a description.
 #[tactic(auto, unfolding(crate::specs::FileWords::unless_streamed))]
 fn unless_streamed(arguments: Option<JobArguments<'_>>) -> Option<JobArguments<'_>>
     ensures { result ≡ spec.unless_streamed arguments.entry }
@@ -43,8 +43,7 @@ fn unless_streamed(arguments: Option<JobArguments<'_>>) -> Option<JobArguments<'
     }
 }
 
-/// Returns what the words before it ask for of the streams in the files; none where these are a usage error, or no file
-/// is named.
+/// Returns what the words before the names ask for; `None` if they are a usage error, or no file is named.
 #[tactic(auto, unfolding(crate::specs::FileWords::file_arguments))]
 pub(crate) fn read_file_arguments<'a>(
     alloc: Global,

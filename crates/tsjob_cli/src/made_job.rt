@@ -37,14 +37,14 @@ pub fn make_job<F: NamedFiles, R: Source, E: Sink>(
 }
 
 impl MadeJob {
-    /// Returns whether it is a job: something was written, to the end.
+    /// Returns whether the output is a job: bytes were written, to the end.
     pub fn is_job(&self) -> bool
         ensures { result ≡ spec.is_job self.now.bytes.items self.now.status }
     {
         self.status <= 1 && self.bytes.len() > 0
     }
 
-    // Whether it is to be kept: a job, or an empty output with status 0.
+    // Returns whether the output is kept: a job, or an empty output with status 0.
     pub(crate) fn is_kept(&self) -> bool
         ensures { result ≡ spec.is_kept self.now.bytes.items self.now.status }
     {

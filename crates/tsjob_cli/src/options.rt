@@ -12,7 +12,7 @@ use crate::rows::{
 use job_run::Subcommand;
 use word_faults::{KnownWords, OptionRow, ValueKind, word_beside};
 
-/// The options, and the word beside them. What is read, which word is a fault, and the usage follow these rows.
+/// The options and the subcommand. The reader, the first faulty word and the usage follow these rows.
 pub(crate) const OPTIONS: [OptionRow; 25] = [
     OptionRow {
         name: "subcommand",
@@ -103,14 +103,14 @@ pub(crate) fn usage() -> &'static str
     USAGE
 }
 
-// The word of the option that is barred, if the file of a description cannot be named.
+// Returns the word of the option that is barred, if the file of a description cannot be named.
 fn barred_word(takes_stream: bool) -> Option<&'static str>
     ensures { option_map (λ s. s.now) result ≡ spec.barred_word takes_stream }
 {
     if takes_stream { None } else { Some("--stream") }
 }
 
-// What the program knows of its command line, where the file of a description can be named or not.
+// Returns the options and words of the command line; `--stream` is known if `takes_stream`.
 fn known_words(takes_stream: bool) -> KnownWords
     ensures { known_of result ≡ spec.known_words takes_stream }
 {
@@ -124,14 +124,14 @@ fn known_words(takes_stream: bool) -> KnownWords
     }
 }
 
-/// Returns what is known of words before they are sorted: all options, and all subcommands.
+/// Returns the options and words known before the words are sorted: all options, and all subcommands.
 pub(crate) fn sorting_words() -> KnownWords
     ensures { known_of result ≡ spec.sorting_words }
 {
     known_words(true)
 }
 
-/// Returns what is known of the words that ask for an explanation.
+/// Returns the options and words known for an explanation.
 pub(crate) fn explain_words() -> KnownWords
     ensures { known_of result ≡ spec.explain_words }
 {
@@ -145,7 +145,7 @@ pub(crate) fn explain_words() -> KnownWords
     }
 }
 
-// Whether units are asked for.
+// Returns whether units are asked for.
 fn is_units(subcommand: Option<Subcommand>) -> bool
     ensures { result ≡ spec.is_units subcommand }
 {
@@ -155,7 +155,7 @@ fn is_units(subcommand: Option<Subcommand>) -> bool
     }
 }
 
-// Whether the file of a description can be named beside these words.
+// Returns whether the file of a description can be named beside these words.
 fn takes_stream(words: &[&str]) -> bool
     ensures { result ≡ spec.takes_stream (map (λ s. s.now) words.now) }
 {
@@ -163,7 +163,8 @@ fn takes_stream(words: &[&str]) -> bool
     is_units(subcommand_of(word_beside(all, words))) && !has_mark(words)
 }
 
-/// Returns what is known of these words: the file of a description can be named with units, and with no names of files.
+/// Returns the options and words known for these words. `--stream` is known only with `units` and without names of
+/// files.
 pub(crate) fn known_for(words: &[&str]) -> KnownWords
     ensures { known_of result ≡ spec.known_for (map (λ s. s.now) words.now) }
 {

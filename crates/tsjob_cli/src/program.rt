@@ -61,7 +61,7 @@ fn answer<F: NamedFiles, R: Source, W: Sink, E: Sink>(
     }
 }
 
-// The program for streams in files, or a usage error.
+// Runs the program for streams in files, or reports a usage error.
 fn run_on_files<F: NamedFiles, R: Source, W: Sink, E: Sink>(
     alloc: Global,
     words: &[&str],
@@ -91,7 +91,7 @@ fn run_on_files<F: NamedFiles, R: Source, W: Sink, E: Sink>(
     }
 }
 
-// The program for a transport stream in the input, or a usage error.
+// Runs the program for a transport stream in the input, or reports a usage error.
 #[tactic(auto, using(crate::proofs::StreamedUnits::no_memory_for_words, crate::proofs::StreamedUnits::no_memory_for_stream))]
 fn run_on_stream<F: NamedFiles, R: Source, W: Sink, E: Sink>(
     alloc: Global,
@@ -105,7 +105,7 @@ fn run_on_stream<F: NamedFiles, R: Source, W: Sink, E: Sink>(
     ensures job { (a : JobArgumentsView) → arguments words.now ≡ Some a → a.stream ≡ None →
         Performs (spec.Leads a) (reads R.Source input.old input.new) (writes W.Sink output.old output.new)
         (writes E.Sink faults.old faults.new) result }
-    // A stream that comes, to the units of the streams of a description that stands in a file.
+    // A stream that arrives on the input, to the units of the streams of a description in a file.
     ensures stream { (a : JobArgumentsView) (name : Text) → arguments words.now ≡ Some a → a.stream ≡ Some name →
         StreamsUnits a.options (files_of (F.contents_of files.now) (F.opens files.now) F.never_fails) name
         (reads R.Source input.old input.new)
@@ -139,7 +139,7 @@ pub fn run<F: NamedFiles, R: Source, W: Sink, E: Sink>(
     output: &mut W,
     faults: &mut E,
 ) -> u8
-    // `explain` alone: a description, or a description and a plan, to what is wrong with it.
+    // `explain` alone: a description, or a description and a plan, to the words about its faults.
     ensures explain { is_explain (map (λ s. s.now) words.now) ≡ true →
         Performs ExplainLeads (reads R.Source input.old input.new)
         (writes W.Sink output.old output.new) (writes E.Sink faults.old faults.new) result }
@@ -148,7 +148,7 @@ pub fn run<F: NamedFiles, R: Source, W: Sink, E: Sink>(
         a.stream ≡ None →
         Performs (spec.Leads a) (reads R.Source input.old input.new) (writes W.Sink output.old output.new)
         (writes E.Sink faults.old faults.new) result }
-    // A stream that comes, to the units of the streams of a description that stands in a file.
+    // A stream that arrives on the input, to the units of the streams of a description in a file.
     ensures stream { is_explain (map (λ s. s.now) words.now) ≡ false → (a : JobArgumentsView) (name : Text) →
         arguments words.now ≡ Some a → a.stream ≡ Some name →
         StreamsUnits a.options (files_of (F.contents_of files.now) (F.opens files.now) F.never_fails) name

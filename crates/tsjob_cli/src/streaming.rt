@@ -42,7 +42,7 @@ fn push_stream(fed: &mut Vec<FedStream>, number: usize, pid: u16) -> Result<(), 
     Ok(())
 }
 
-// Each stream of a description, before its first unit.
+// Returns each stream of a description, before its first unit.
 fn fed_streams(alloc: Global, streams: &[StreamDescription]) -> Result<Vec<FedStream>, AllocError>
     requires { length streams.now ≤ 256 }
     ensures { IfOk result (λ fed. fed.items ≡ spec.streams_from 0 streams.now) }
@@ -54,7 +54,7 @@ fn fed_streams(alloc: Global, streams: &[StreamDescription]) -> Result<Vec<FedSt
     Ok(fed)
 }
 
-// A stream of a description by its PID and stream_type.
+// Returns a stream of a description by its PID and stream_type.
 fn named_stream(stream: &StreamDescription) -> NamedStream
     ensures { result ≡ spec.named_stream stream.now }
 {
@@ -64,7 +64,7 @@ fn named_stream(stream: &StreamDescription) -> NamedStream
     }
 }
 
-// The streams of a program.
+// Returns the streams of a program.
 fn named_of(
     alloc: Global,
     number: u16,
@@ -96,7 +96,7 @@ fn push_map(
     Ok(())
 }
 
-// The map of each of these programs.
+// Returns the map of each of these programs.
 fn program_maps(
     alloc: Global,
     programs: &[ProgramDescription],
@@ -111,14 +111,14 @@ fn program_maps(
     Ok(maps)
 }
 
-// The map of each program of a description.
+// Returns the map of each program of a description.
 fn maps_of(alloc: Global, description: &Description) -> Result<Vec<FedMap>, AllocError>
     ensures { IfOk result (λ maps. maps.items ≡ spec.maps_of description.now) }
 {
     program_maps(alloc, description.programs(), description.streams())
 }
 
-// The PID of each stream of a description.
+// Returns the PID of each stream of a description.
 fn pids_of(alloc: Global, description: &Description) -> Result<Vec<u16>, AllocError>
     ensures { IfOk result (λ pids. pids.items ≡ spec.pids_of description.now) }
 {
@@ -129,7 +129,7 @@ fn pids_of(alloc: Global, description: &Description) -> Result<Vec<u16>, AllocEr
         .collect(alloc)
 }
 
-// The PID of a stream, and its stream_type.
+// Returns the PID of a stream, and its stream_type.
 fn typed_pid(stream: &StreamDescription) -> TypedPid
     ensures { result ≡ spec.typed_pid stream.now }
 {
@@ -139,7 +139,7 @@ fn typed_pid(stream: &StreamDescription) -> TypedPid
     }
 }
 
-// The PID of each of these streams, and its stream_type.
+// Returns the PID of each of these streams, and its stream_type.
 fn typed_pids(alloc: Global, streams: &[StreamDescription]) -> Result<Vec<TypedPid>, AllocError>
     ensures { IfOk result (λ types. types.items ≡ map spec.typed_pid streams.now) }
 {
@@ -149,7 +149,7 @@ fn typed_pids(alloc: Global, streams: &[StreamDescription]) -> Result<Vec<TypedP
         .collect(alloc)
 }
 
-// Those of streams, if access points are to be marked.
+// Returns the PID and stream_type of each stream, if access points are to be marked.
 #[tactic(auto, unfolding(crate::specs::StreamedUnits::access_of))]
 fn access_of(
     alloc: Global,
@@ -164,7 +164,7 @@ fn access_of(
     typed_pids(alloc, streams)
 }
 
-// The marks that options ask for of the streams of a description.
+// Returns the marks that options ask for of the streams of a description.
 fn marking_by(
     alloc: Global,
     options: &JobOptions<'_>,
@@ -177,7 +177,7 @@ fn marking_by(
     Ok(Marking { access, aligned })
 }
 
-// The streams of a description, before the first byte.
+// Returns the streams of a description, before the first byte.
 #[tactic(auto, using(crate::proofs::StreamedUnits::few_streams))]
 fn feed_of(
     alloc: Global,
@@ -192,7 +192,7 @@ fn feed_of(
     Ok(UnitFeed::new(EARLIEST, marking, maps, streams))
 }
 
-// The description in the bytes of a file.
+// Returns the description in the bytes of a file.
 fn description_in(alloc: Global, text: &[u8]) -> Result<Description, NoDescription>
     ensures { spec.IsDescriptionIn text.now result }
 {
@@ -203,7 +203,7 @@ fn description_in(alloc: Global, text: &[u8]) -> Result<Description, NoDescripti
     }
 }
 
-// The description in the file of a name.
+// Returns the description in the file of a name.
 #[tactic(auto, using(crate::proofs::StreamedUnits::of_text, crate::proofs::StreamedUnits::of_none))]
 fn named_description<F: NamedFiles>(
     alloc: Global,

@@ -6,14 +6,16 @@ use Rattle.std.proofs.lemmas.List.{append-nil, drop_all, length-replicate}
 use Rattle.std.proofs.lemmas.Grind.{flat_map-append}
 use Rattle.std.proofs.lemmas.List.Folds.{list_any-append}
 use Rattle.std.proofs.lemmas.Option.{slice_get_cases}
-use Rattle.demux.specs.Views.{WhatView, IsDuplicate, BreaksCounter, IsScrambled, IsTruncated, IsSection, IsBadSection, IsPes, IsBadPes, IsBadPacket, IsErrored}
-use Rattle.demux.specs.Views.{IsStray}
-use Rattle.demux.specs.Views.{FindingView}
-use Rattle.demux.specs.Machine.{PidState}
-use Rattle.demux.specs.Findings.{ended}
-use Rattle.demux.specs.Shown.{with_pid}
+use Rattle.pid_findings.specs.Views.{WhatView, IsDuplicate, BreaksCounter, IsScrambled, IsTruncated, IsSection, IsBadSection, IsPes, IsBadPes, IsBadPacket}
+use Rattle.pid_findings.specs.Views.{IsErrored}
+use Rattle.pid_findings.specs.Views.{IsStray}
+use Rattle.pid_findings.specs.Views.{FindingView}
+use Rattle.pid_findings.specs.Machine.{PidState}
+use Rattle.pid_findings.specs.Findings.{ended}
+use Rattle.pid_findings.specs.Shown.{with_pid}
 use Rattle.demux.specs.Stream.{States, ended_found}
-use Rattle.demux.specs.Bodies.{AddsHeaders, all_without_body, finding_without_body, without_body}
+use Rattle.pid_findings.specs.Bodies.{all_without_body, finding_without_body, without_body}
+use Rattle.demux.specs.StreamBodies.{AddsHeaders}
 use Rattle.demux.proofs.StreamEnd.{ended_next}
 use Rattle.tsmux_cli.specs.FindingLines.{finding_lines, has_fault, is_fault, is_listed, listed_line, pes_text, place_text, what_text}
 

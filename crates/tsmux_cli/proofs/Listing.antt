@@ -1,10 +1,11 @@
 -- The lines of a stream's findings, piece by piece and at its end.
 use Rattle.std.proofs.Common.{◌≡◌, ℕ, Bool, false, List, [], ◌++◌, refl, sym, ap, subst, ◌∙◌, Ok}
 use Rattle.std.specs.Prelude.{◌||◌}
-use Rattle.demux.specs.Views.{FindingView}
+use Rattle.pid_findings.specs.Views.{FindingView}
 use Rattle.demux.specs.Stream.{StreamState, pushed, start}
 use Rattle.demux.specs.FoundSoFar.{with_found}
-use Rattle.demux.specs.Bodies.{HeadersSoFar, all_without_body, headers_pushed}
+use Rattle.pid_findings.specs.Bodies.{all_without_body}
+use Rattle.demux.specs.StreamBodies.{HeadersSoFar, headers_pushed}
 use Rattle.demux.proofs.StreamBodies.{headers_are_found, no_headers_at_first}
 use Rattle.devices.specs.Devices.{Device}
 use Rattle.devices.specs.WholeInput.{ReadsInput}

@@ -1,4 +1,4 @@
--- `carry`: what it writes and reports, and its status.
+-- `carry`: its output, its report and its status.
 use Rattle.std.specs.Prelude.{◌≡◌, ℕ, List, [], Some, Result, Ok, Err}
 use Rattle.carry.specs.RecordRuns.{Answers, Leaves, NamesDevice, Writes, carried, run_of}
 use Rattle.carry.specs.declared.carrying.CarryError.{CarryError}
@@ -18,9 +18,8 @@ carry_outcome (Err (AtRecord index fault)) = record_outcome index fault
 carry_outcome (Err (AtWriter sent)) = halted Write
 carry_outcome (Err (NoMemory index)) = halted Memory
 
--- a run of `carry`: of an input whose bytes are known the output has the packets of its records before the first
--- refused one, as `carried` gives them; the line and the status are those of the answer, and a device is named where
--- a call of it failed
+-- a run of `carry`: for an input with known bytes, the output has the packets of its records before the first refused one, as `carried` gives them; the
+-- line and the status are the answer's, and a device is named if a call of it failed
 pub record Carries (c : CarryOptions) (input output faults : Device) (status : ℕ) : Type 0 where
   pub answer : Result ℕ CarryError
   pub answers : (xs : List ℕ) → input.before.bytes ≡ Some xs → Answers (run_of c.id xs) answer

@@ -1,9 +1,9 @@
 -- `demux`: a line for each finding.
 use Rattle.std.specs.Prelude.{◌≡◌, ℕ, ◌++◌, Bool, List, [], if◌then◌else◌, Result, Ok, Err}
-use Rattle.demux.specs.Views.{FindingView}
+use Rattle.pid_findings.specs.Views.{FindingView}
 use Rattle.demux.specs.Stream.{StreamState, start, ended_found, held_found, pushed, finished}
 use Rattle.demux.specs.FoundSoFar.{with_found}
-use Rattle.demux.specs.Bodies.{HeadersSoFar, headers_pushed}
+use Rattle.demux.specs.StreamBodies.{HeadersSoFar, headers_pushed}
 use Rattle.devices.specs.Devices.{Device}
 use Rattle.devices.specs.Outcomes.{Outcome}
 use Rattle.devices.specs.WholeInput.{ReadsInput}
@@ -29,7 +29,7 @@ pub record ListsSome (bytes : List ℕ) (demux : StreamState) (faulty : Bool) (l
   pub faults : faulty ≡ has_fault found
   pub lines_are : lines ≡ finding_lines found
 
--- the lines of what the next piece finds follow those that were there, and nothing of it is kept beside
+-- the lines of the findings in the next piece follow the earlier lines, and no other copy of the findings is kept
 pub record ListsBytes (piece : List ℕ) (before after : StreamState) (lines more : List ℕ) (faulty : Bool) : Type 0 where
   pub state : after ≡ with_found [] (headers_pushed before piece)
   pub faults : faulty ≡ has_fault (pushed before piece).found
@@ -39,7 +39,7 @@ abbrev pub ListsPiece : List ℕ → StreamState → StreamState → List ℕ �
 ListsPiece piece before after lines more (Ok faulty) = ListsBytes piece before after lines more faulty
 ListsPiece piece before after lines more (Err halt) = halt ≡ Memory
 
--- what the end of a stream decides: of the bytes of a packet that is not whole, then of each PID
+-- the findings at the end of a stream: for the bytes of a packet that is not whole, then for each PID
 abbrev pub found_at_end : StreamState → List FindingView
 found_at_end s = held_found s.packets s.held ++ ended_found s.packets s.states
 

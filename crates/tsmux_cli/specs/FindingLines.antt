@@ -7,11 +7,12 @@ use Rattle.pes_packet.specs.declared.reading.PesHeader.{PesHeader}
 use Rattle.pes_packet.specs.Codes.{code_of as pes_code}
 use Rattle.psi_tables.specs.Codes.{code_of as section_code}
 use Rattle.ts_packet.specs.Codes.{code_of as packet_code}
-use Rattle.demux.specs.Views.{WhatView, IsDuplicate, BreaksCounter, IsScrambled, IsTruncated, IsSection, IsBadSection, IsPes, IsBadPes, IsBadPacket, IsErrored}
-use Rattle.demux.specs.Views.{IsStray}
-use Rattle.demux.specs.Views.{FindingView}
+use Rattle.pid_findings.specs.Views.{WhatView, IsDuplicate, BreaksCounter, IsScrambled, IsTruncated, IsSection, IsBadSection, IsPes, IsBadPes, IsBadPacket}
+use Rattle.pid_findings.specs.Views.{IsErrored}
+use Rattle.pid_findings.specs.Views.{IsStray}
+use Rattle.pid_findings.specs.Views.{FindingView}
 
--- `I pid P`, or `I` where the packet has no PID
+-- `I pid P`, or `I` if the packet has no PID
 abbrev pub place_text : ℕ → Option ℕ → List ℕ
 place_text packet None = decimal packet
 place_text packet (Some pid) = decimal packet ++ codes " pid " ++ decimal pid
@@ -31,7 +32,7 @@ dts_of Absent = None
 dts_of (Pts pts) = None
 dts_of (PtsDts pts dts) = Some dts
 
--- `pes ID pts X dts Y size N`, N the bytes after the header; ` open` where the stream ended before its end was known
+-- `pes ID pts X dts Y size N`, N the bytes after the header; ` open` if the stream ended before its end was known
 abbrev pub pes_text : PesHeader → Bool → ℕ → List ℕ
 pes_text header unended size = codes " pes " ++ decimal header.id ++ codes " pts " ++ stamp_text (pts_of header.stamps)
     ++ codes " dts " ++ stamp_text (dts_of header.stamps) ++ codes " size " ++ decimal size ++ (if unended then codes " open" else [])
@@ -39,7 +40,7 @@ pes_text header unended size = codes " pes " ++ decimal header.id ++ codes " pts
 abbrev pub section_text : ℕ → ℕ → List ℕ
 section_text table_id size = codes " section " ++ decimal table_id ++ codes " size " ++ decimal size
 
--- what was found, after its place
+-- the text of a finding, after its place
 unfoldable pub what_text : WhatView → List ℕ
 what_text IsDuplicate = codes " duplicate"
 what_text (BreaksCounter expected found) = codes " counter " ++ decimal expected ++ codes " " ++ decimal found

@@ -8,13 +8,13 @@ use Rattle.tsmux_cli.specs.declared.job_taker.FrontState.{FrontState}
 use Rattle.tsmux_cli.specs.declared.job_taker.FrontState.TheVariants.{Open, Plans, Fault}
 use Rattle.checked_jobs.specs.declared.jobs.JobPlans.{JobPlans}
 
--- these plans are read, whatever comes, and the bytes after them are taken
+-- these plans are read, whatever bytes follow, and the bytes after them are taken
 pub record ReadsPlans (Taken : List ℕ → Type 0) (switch : Bool) (bytes : List ℕ) (plans : JobPlans) : Type 0 where
   pub after : List ℕ
   pub plans_are : (more : List ℕ) → Ok (plans_view plans (after ++ more)) ≡ job_of switch (bytes ++ more)
   pub taken : Taken after
 
--- what these bytes of a job are read as, so far
+-- the state of reading after these bytes of a job
 abbrev pub StandsAt : (List ℕ → Type 0) → Bool → List ℕ → List ℕ → FrontState → Type 0
 StandsAt Taken switch bytes text Open = (text ≡ bytes) × Taken []
 StandsAt Taken switch bytes text (Plans plans) = ReadsPlans Taken switch bytes plans

@@ -12,7 +12,7 @@ use Rattle.tsmux_cli.specs.declared.request.MonitorOptions.{MonitorOptions}
 use Rattle.devices.specs.declared.halt.Halt.{Halt}
 use Rattle.devices.specs.declared.halt.Halt.TheVariants.{Memory}
 
--- 1 where there is a fault
+-- 1 if there is a fault
 abbrev pub report_status : ReportView → ℕ
 report_status report = if length report.faults == 0 then 0 else 1
 

@@ -20,11 +20,11 @@ use Rattle.devices.specs.declared.halt.Halt.TheVariants.{Write, Memory as NoMemo
 
 -- 1. The run that a job asks for
 
--- the number of slots: that of the option, else the slots up to the greatest DTS of all records
+-- the number of slots: the option's, otherwise the slots up to the greatest DTS of all records
 abbrev pub slots_of : MuxOptions → MuxJobView → ℕ
 slots_of o j = unwrap_or o.slots (default_slots j.description.rate j.units)
 
--- the number of periods of the first plan, where there are two
+-- the number of periods of the first plan, if there are two plans
 abbrev pub periods_of : MuxOptions → ℕ
 periods_of o = unwrap_or o.periods 0
 
@@ -42,7 +42,7 @@ range_cause_of first (Some second) periods slots = or_cause (slots_cause slots) 
 abbrev pub range_cause : MuxOptions → MuxJobView → Option MuxError
 range_cause o j = range_cause_of (first_of j) j.second (periods_of o) (slots_of o j)
 
--- why nothing is written: a number out of range, else the first unit that is refused
+-- why nothing is written: a number out of range, otherwise the first unit that is refused
 abbrev pub cause_of : MuxOptions → MuxJobView → Option MuxError
 cause_of o j = job_cause (range_cause o j) (schedule_of o j) j.units
 
@@ -54,13 +54,13 @@ packets_of o j = output_of o.hex (schedule_of o j) (job_history j.units (slots_o
 abbrev pub run_bytes_of : MuxOptions → MuxJobView → List ℕ
 run_bytes_of o j = bytes_of (schedule_of o j) (job_history j.units (slots_of o j))
 
--- what is promised of them: every promise of the multiplexer's slot call, and that measuring them with these units is not refused and finds no late
--- unit and no buffer over its size
+-- the promises for these packets: every promise of the multiplexer's slot call, and that measuring them with these units is not refused and finds no
+-- late unit and no buffer over its size
 pub record IsKept (o : MuxOptions) (j : MuxJobView) : Type 0 where
   pub headline : Headline (schedule_of o j) (λ k. units_of k j.units) (slots_of o j) (run_bytes_of o j)
   pub measured : MeasuresWell (schedule_of o j) j.units (run_bytes_of o j)
 
--- 2. What it leads to
+-- 2. The outcome
 
 -- the line and the status of an error
 unfoldable pub error_outcome : MuxError → Outcome
@@ -90,7 +90,7 @@ abbrev pub KeepsPromises : MuxOptions → Result MuxJobView MuxFaultView → Typ
 KeepsPromises o (Ok j) = KeptUnlessRefused (cause_of o j) (IsKept o j)
 KeepsPromises o (Err fault) = ⊤
 
--- the outcome is that one, and packets keep what is promised
+-- the outcome is the outcome of `multiplexed`, and its packets keep every promise
 pub record Muxes (o : MuxOptions) (bytes : List ℕ) (outcome : Outcome) : Type 0 where
   pub is : outcome ≡ multiplexed o bytes
   pub kept : KeepsPromises o (mux_job_of (is_some o.periods) bytes)

@@ -57,7 +57,7 @@ greatest_dts units = fold (λ greatest entry. max greatest entry.1.dts) 0 units
 abbrev pub default_slots : ℕ → List (ℕ × AccessUnit) → ℕ
 default_slots rate units = min ((greatest_dts units * rate + 135_359_999) / 135_360_000) (2 ^ 40)
 
--- 3. What stands in memory
+-- 3. The values in memory
 
 abbrev pub mux_fault_view : MuxFault → MuxFaultView
 mux_fault_view (Job f) = InJob (fault_view f)

@@ -41,7 +41,7 @@ abbrev pub required_of : FirstWord → Option Text
 required_of Monitor = required_rate
 required_of first = None
 
--- 2. The first word, and what may follow it
+-- 2. The first word, and the words that may follow it
 
 -- the subcommand of this name
 unfoldable pub named : Text → Option FirstWord

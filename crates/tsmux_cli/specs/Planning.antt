@@ -39,7 +39,7 @@ MakesPlanFor (Ok d) outcome = GivesPlan d outcome ⊎ FindsNone d outcome
 abbrev pub MakesPlan : List ℕ → Outcome → Type 0
 MakesPlan bytes outcome = MakesPlanFor (described bytes) outcome
 
--- the line and the status where the description can't be read
+-- the line and the status if the description can't be read
 abbrev pub ReportsUnread : DescError → Device → ℕ → Type 0
 ReportsUnread (Refused f) faults status = Reports faults (fault_line (BadDescription f)) × (status ≡ 1)
 ReportsUnread Memory faults status = Reports faults (halt_line NoMemory) × (status ≡ 3)

@@ -66,7 +66,7 @@ unfoldable pub requested_of : List Text → Kinds → Option (Text × List Row) 
 requested_of [] faults named = Some (Carry (record { hex = true; pid = 256; id = 192 }))
 requested_of (w ∷ words) faults named = unless_faulty faults (subcommand_request named)
 
--- what the words ask for; none where they are a usage error
+-- the request of the words; none for a usage error
 abbrev pub requested : List Text → Option Request
 requested words = requested_of words (fault_of tsmux_app words) (subcommand_of tsmux_app words)
 

@@ -18,27 +18,27 @@ unfoldable pub with_first : ℕ × AccessUnit → Units → Units
 with_first entry (Ok entries) = Ok (entry ∷ entries)
 with_first entry (Err fault) = Err fault
 
--- the record at the front, and those after it
+-- the record at the front, and the records after it
 unfoldable pub units_step : ℕ → Result (Option (ℕ × AccessUnit)) UnitFileError → Units → Units
 units_step index (Err fault) after = Err (index, fault)
 units_step index (Ok None) after = Ok []
 units_step index (Ok (Some entry)) after = with_first entry after
 
--- those of at most n records, the first of which has this index
+-- the units of at most n records; the first record has this index
 unfoldable pub units_from : ℕ → ℕ → List ℕ → Units
 units_from zero index xs = Ok []
 units_from (suc n) index xs = units_step index (record_at xs) (units_from n (index + 1) (after_record xs))
 
--- those of all bytes: there are no more records than bytes
+-- the units of all bytes: there are no more records than bytes
 abbrev pub units_in : List ℕ → Units
 units_in xs = units_from (1 + length xs) 0 xs
 
--- units before others
+-- units before further units
 unfoldable pub joined : List (ℕ × AccessUnit) → Units → Units
 joined done (Ok entries) = Ok (done ++ entries)
 joined done (Err fault) = Err fault
 
--- so many units of these bytes are read, and these bytes are left: as many records more at most as are spare
+-- these units were read, and these bytes are left, with no more further records than bytes
 pub record ReadSoFar (xs : List ℕ) (done : List (ℕ × AccessUnit)) (left : List ℕ) : Type 0 where
   pub spare : ℕ
   pub enough : length left ≤ spare
@@ -49,7 +49,7 @@ abbrev pub StandsOn : List ℕ → List ℕ → List (ℕ × AccessUnit) → Ope
 StandsOn xs left units begun None = IsOpen begun × ReadSoFar xs units (come_of begun ++ left)
 StandsOn xs left units begun (Some f) = Err (f.index, f.fault) ≡ units_in xs
 
--- these bytes have come, whatever comes after them
+-- these bytes have come, whatever bytes follow
 abbrev pub TakesRecords : List ℕ → List (ℕ × AccessUnit) → OpenRecord → Option RecordFault → Type 0
 TakesRecords bytes units begun fault = (more : List ℕ) → StandsOn (bytes ++ more) more units begun fault
 

@@ -13,8 +13,7 @@ use counted_io::{Sink, Source};
 use devices::{Halt, report_halt, take_input, write_line};
 use std::alloc::Global;
 
-/// Returns the first fault in the job in the input, if there is one. It is read to its end, and nothing is kept of what
-/// comes after the plans.
+/// Reads the job in the input to its end, and returns its first fault, if it has one. Keeps nothing after the plans.
 fn find_fault<R: Source>(
     alloc: Global,
     switch: bool,

@@ -1,9 +1,9 @@
 //! `demux`: a line for each finding in a transport stream, which is read piece by piece.
 ghost use Rattle.std.specs.Prelude.{◌≡◌, ◌<◌, ◌++◌, ℕ, true, IfOk, IfErr, OnOk, Some, Err, length, map, slice_get};
-ghost use Rattle.demux.specs.Findings.{ended};
-ghost use Rattle.demux.specs.Machine.{PidState};
+ghost use Rattle.pid_findings.specs.Findings.{ended};
+ghost use Rattle.pid_findings.specs.Machine.{PidState};
 ghost use Rattle.demux.specs.Stream.{held_found};
-ghost use Rattle.demux.specs.Shown.{finding_view, with_pid};
+ghost use Rattle.pid_findings.specs.Shown.{finding_view, with_pid};
 ghost use Rattle.devices.specs.Devices.{reads, writes};
 ghost use Rattle.devices.specs.Runs.{Performs};
 ghost use Rattle.devices.specs.WholeInput.{ReadsInput};
@@ -12,8 +12,9 @@ ghost use Rattle.tsmux_cli.specs.FindingLines.{finding_lines, has_fault};
 
 use crate::finding_lines::{has_fault, write_findings};
 use counted_io::{Sink, Source};
-use demux::{Finding, HeaderDemux};
+use demux::HeaderDemux;
 use devices::{Halt, PieceTaker, report_halt, take_input, write_bytes};
+use pid_findings::Finding;
 use std::alloc::Global;
 
 /// The size of a piece in bytes.
@@ -119,7 +120,7 @@ fn list_end(alloc: Global, demux: &HeaderDemux, text: &mut Vec<u8>) -> Result<bo
     Ok(faulty)
 }
 
-/// The lines of all findings in the input, and whether there is a fault.
+/// Returns the lines of all findings in the input, and whether there is a fault.
 fn list_input<R: Source>(alloc: Global, input: &mut R) -> Result<(Vec<u8>, bool), Halt>
     ensures ok { IfOk result (λ listed. ListsWhole (reads R.Source input.old input.new)
         listed.0.items listed.1) }

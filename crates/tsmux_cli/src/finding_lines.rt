@@ -2,13 +2,14 @@
 //!
 //! A line is put into a room on the stack from its end: each part of it before the parts that are already there.
 ghost use Rattle.std.specs.Prelude.{◌≡◌, ◌++◌, ◌+◌, ◌≤◌, codes, decimal, drop, OnOk, Option, length, slice_index, map};
-ghost use Rattle.demux.specs.Shown.{finding_view, what_view};
-ghost use Rattle.tsmux_cli.specs.FindingLines.{dts_of, finding_line, finding_lines, has_fault, is_fault, is_listed, listed_line};
+ghost use Rattle.pid_findings.specs.Shown.{finding_view, what_view};
+ghost use Rattle.tsmux_cli.specs.FindingLines.{dts_of, finding_line, finding_lines, has_fault, is_fault, is_listed};
+ghost use Rattle.tsmux_cli.specs.FindingLines.{listed_line};
 ghost use Rattle.tsmux_cli.specs.FindingLines.{pes_text, place_text, pts_of, section_text, stamp_text, what_text};
 
-use demux::{Finding, What};
 use itoa::write_digits;
 use pes_packet::{PesHeader, Stamps};
+use pid_findings::{Finding, What};
 use std::alloc::AllocError;
 
 /// The room of a line. A line has at most 152 bytes: LF, 45 of its place, and 106 of what was found.

@@ -13,7 +13,7 @@ use std::mem;
 /// The size of a piece in bytes: more than most descriptions with their plans have.
 pub const PIECE: usize = 1 << 18;
 
-/// What the bytes of a job that have come are read as.
+/// What the bytes of a job so far are read as.
 #[derive(Drop)]
 pub enum FrontState {
     /// a text that may go on
@@ -32,9 +32,9 @@ pub struct JobTaker<T> {
     /// with a second plan
     switch: bool,
     state: FrontState,
-    /// the bytes that have come, as long as a text may go on
+    /// the bytes so far, while a text may continue
     text: Vec<u8>,
-    /// the size from which on the text is read again
+    /// the text is read again when it has this size
     again: usize,
     rest: T,
 }

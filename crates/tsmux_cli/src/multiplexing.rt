@@ -28,7 +28,7 @@ pub fn rate_of(plans: &JobPlans) -> u64
     }
 }
 
-/// Returns the number of slots of a job: that of the option, else the slots up to the greatest DTS.
+/// Returns the number of slots of a job: the number in the options, or otherwise the slots up to the greatest DTS.
 pub fn slots_of(options: MuxOptions, job: &MuxJob) -> u64
     ensures { result ≡ spec.slots_of options (mux_job_view job.now) }
 {

@@ -143,7 +143,7 @@ pub enum FirstWord {
     Monitor,
 }
 
-// The subcommand of this name.
+// Returns the subcommand of this name, if there is one.
 #[tactic(auto, unfolding(crate::specs::Options::named))]
 fn named(word: &str) -> Option<FirstWord>
     ensures { result ≡ spec.named word.now }
@@ -159,7 +159,7 @@ fn named(word: &str) -> Option<FirstWord>
     }
 }
 
-// The first of these words.
+// Returns the first word; `NoSubcommand` if it is no subcommand.
 fn known_after(words: &[&str]) -> FirstWord
     ensures { result ≡ spec.known_after (map (λ s. s.now) words.now) }
 {
@@ -169,7 +169,7 @@ fn known_after(words: &[&str]) -> FirstWord
     }
 }
 
-// The options of a subcommand.
+// Returns the options of a subcommand.
 #[tactic(auto, unfolding(crate::specs::Options::options_of))]
 fn options_of(first: FirstWord) -> &'static [OptionRow]
     ensures { map view result.now ≡ spec.options_of first }
@@ -183,7 +183,7 @@ fn options_of(first: FirstWord) -> &'static [OptionRow]
     }
 }
 
-// The word of the option that has to be given.
+// Returns the word of the option that must be given.
 fn required_of(first: FirstWord) -> Option<&'static str>
     ensures { option_map (λ s. s.now) result ≡ spec.required_of first }
 {
@@ -193,7 +193,7 @@ fn required_of(first: FirstWord) -> Option<&'static str>
     }
 }
 
-// What may follow a first word: the options of a subcommand, or nothing if it is none.
+// Returns the options and words known after a first word.
 fn known_words(first: FirstWord) -> KnownWords
     ensures { known_of result ≡ spec.known_words first }
 {
@@ -207,7 +207,7 @@ fn known_words(first: FirstWord) -> KnownWords
     }
 }
 
-/// Returns what is known of these words.
+/// Returns the options and words that these words may have.
 pub(crate) fn known_for(words: &[&str]) -> KnownWords
     ensures { known_of result ≡ spec.known_words (spec.known_after (map (λ s. s.now) words.now)) }
 {

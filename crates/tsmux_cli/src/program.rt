@@ -80,7 +80,7 @@ pub fn run<R: Source, W: Sink, E: Sink>(
     ensures version { asked words.now ≡ None → is_version (map (λ s. s.now) words.now) ≡ true →
         Prints (version_text (codes "tsmux")) (reads R.Source input.old input.new)
         (writes W.Sink output.old output.new) (writes E.Sink faults.old faults.new) result }
-    // Anything else: the first word that cannot be taken and the usage are told.
+    // Anything else: the first word that cannot be taken, and the usage.
     ensures usage { asked words.now ≡ None → is_version (map (λ s. s.now) words.now) ≡ false →
         TellsUsage (usage_report (known_words (known_after (map (λ s. s.now) words.now))) (map (λ s. s.now) words.now)
         usage_text) (reads R.Source input.old input.new) (writes W.Sink output.old output.new)

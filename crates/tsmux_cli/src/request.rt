@@ -29,9 +29,9 @@ pub struct CarryOptions {
 pub struct MuxOptions {
     /// the packets are written as lines of hexadecimal digits, and not as bytes
     pub hex: bool,
-    /// the number of packets; where it is not given, the slots up to the greatest DTS
+    /// the number of packets; by default the slots up to the greatest DTS
     pub slots: Option<u64>,
-    /// the number of periods of the first plan before the second; where it is not given, there is one plan
+    /// the number of periods of the first plan before the second; by default there is one plan
     pub periods: Option<u64>,
 }
 
@@ -182,7 +182,7 @@ fn subcommand_request(matches: &ArgMatches<'_>) -> Option<Request>
     }
 }
 
-/// Returns what the command line asks for; none where it is a usage error. Without words, it is `carry --hex`.
+/// Returns what the command line asks for; `None` if it is a usage error. Without words, it is `carry --hex`.
 pub fn requested(alloc: Global, words: &[&str]) -> Result<Option<Request>, AllocError>
     ensures value { IfOk result (λ r. r ≡ asked.asked words.now) }
     ensures fits { IfOk result (λ r. asked.Fits r) }

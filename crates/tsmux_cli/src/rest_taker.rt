@@ -15,7 +15,7 @@ pub trait RestTaker {
         ensures memory { IfErr result (λ halt. halt ≡ Halt.Memory) };
 }
 
-/// It keeps nothing of them.
+/// Discards the bytes.
 #[derive(Drop)]
 pub struct Dropped {}
 

@@ -36,11 +36,16 @@ pub to_output : (shows : Option Bool) (shown : Bool) (words : List Text) (files 
     WritesOutput words files input output faults status → ToOutput shows words files input output faults status
 to_output shows shown words files input output faults status known is writes = inr (subst (λ (b : Bool). IsAsKnown shows b) is known, writes)
 
-pub to_file : (creates : Option Bool) (name : Text) (words : List Text) (quiet : Bool) (files : Files) (input file : Device) (before mid after : Port)
+-- a known fact about a value is a fact about an equal value
+pub known_as : (keeps : Option Bool) (b b' : Bool) → IsAsKnown keeps b → b ≡ b' → IsAsKnown keeps b'
+known_as keeps b b' known is = subst (λ (c : Bool). IsAsKnown keeps c) is known
+
+pub to_file : (creates keeps : Option Bool) (name : Text) (words : List Text) (quiet : Bool) (files : Files) (input file : Device) (before mid after : Port)
     (result : Remuxed) (status : ℕ) →
     IsAsKnown creates true → ((bytes : List ℕ) → file.before.bytes ≡ Some bytes → bytes ≡ []) → WritesFor words files input file (between before mid) result →
-    quiet ≡ is_quiet words → Finishes quiet name result (between mid after) status → ToFile creates name words files input (between before after) status
-to_file creates name words quiet files input file before mid after result status created empty makes is finishes =
+    quiet ≡ is_quiet words → Finishes keeps quiet name result (between mid after) status →
+    ToFile creates keeps name words files input (between before after) status
+to_file creates keeps name words quiet files input file before mid after result status created empty makes is finishes =
     inl (record {
       created = created;
       file = file;
@@ -48,13 +53,13 @@ to_file creates name words quiet files input file before mid after result status
       result = result;
       told = mid;
       makes = makes;
-      finishes = subst (λ (b : Bool). Finishes b name result (between mid after) status) is finishes;
+      finishes = subst (λ (b : Bool). Finishes keeps b name result (between mid after) status) is finishes;
     })
 
-pub to_none : (creates : Option Bool) (name : Text) (words : List Text) (files : Files) (input faults : Device) (status : ℕ) → IsAsKnown creates false →
+pub to_none : (creates keeps : Option Bool) (name : Text) (words : List Text) (files : Files) (input faults : Device) (status : ℕ) → IsAsKnown creates false →
     IsUntouched input →
-    TellsOf name uncreated_text faults → status ≡ 3 → ToFile creates name words files input faults status
-to_none creates name words files input faults status uncreated unread tells is =
+    TellsOf name uncreated_text faults → status ≡ 3 → ToFile creates keeps name words files input faults status
+to_none creates keeps name words files input faults status uncreated unread tells is =
     inr (record { uncreated = uncreated; unread = unread; tells = tells; status_is = is })
 
 -- the name and the words are those that are asked for

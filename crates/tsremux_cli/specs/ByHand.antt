@@ -36,20 +36,20 @@ SaysWhy bytes status faults = SaysIf (status == 1) bytes faults
 
 -- 2. Its plan
 
--- what `tsmux plan` does with the bytes of a description, and a writer that held nothing
+-- the effects of `tsmux plan` with the bytes of a description, and a writer that held nothing
 pub record RunsPlan (description : List ℕ) (plan faults : Device) (status : ℕ) : Type 0 where
   pub input : Device
   pub begins : input.before.bytes ≡ Some description
   pub empty : plan.before.bytes ≡ Some []
   pub runs : Performs MakesPlan input plan faults status
 
--- it writes this plan, and its status is 0
+-- `tsmux plan` writes this plan, and its status is 0
 pub record WritesPlan (description plan : List ℕ) (faults : Device) : Type 0 where
   pub written : Device
   pub runs : RunsPlan description written faults 0
   pub is : written.after.bytes ≡ Some plan
 
--- it ends otherwise, and the words for that come after its line
+-- `tsmux plan` ends otherwise, and the words for that follow its line
 pub record WritesNone (description : List ℕ) (faults : Device) (status : ℕ) : Type 0 where
   pub written : Device
   pub told : Port
@@ -61,7 +61,7 @@ abbrev pub PlansFor : List ℕ → Device → Result (List ℕ) ℕ → Type 0
 PlansFor description faults (Ok plan) = WritesPlan description plan faults
 PlansFor description faults (Err status) = WritesNone description faults status
 
--- the plan in the file of a name; without one, that of `tsmux plan`
+-- the plan in the file of a name; without a name, the plan of `tsmux plan`
 abbrev pub ReadsPlan : Files → Option Text → List ℕ → Device → Result (List ℕ) ℕ → Type 0
 ReadsPlan files (Some name) description faults result = ReadsAll files (name ∷ []) faults result
 ReadsPlan files None description faults result = PlansFor description faults result
@@ -154,7 +154,7 @@ ReadsJob h files input faults (Err status) =
     Reads h files input faults (Err status) ⊎ (HasNoDescription h files input faults status
     ⊎ (HasNoPlan h files input faults status ⊎ HasNoRecords h files input faults status))
 
--- 5. Its packets: those of `tsmux mux` for the job
+-- 5. Its packets: the packets of `tsmux mux` for the job
 
 -- all are written
 pub record WritesPackets (h : Hand) (files : Files) (input packets faults : Device) (figures : Figures) (status : ℕ) : Type 0 where

@@ -1,13 +1,13 @@
--- What is reported of an output.
+-- The report on an output.
 use Rattle.std.specs.Prelude.{◌⊎◌, ℕ, ◌*◌, ◌/◌, ◌%◌, max, Bool, true, false, ◌++◌, codes, decimal}
 use Rattle.devices.specs.Devices.{Device, IsUntouched}
 use Rattle.devices.specs.Lines.{Reports}
 use Rattle.word_faults.specs.CommandLine.{Text}
 use Rattle.tsremux_cli.specs.declared.figures.Figures.{Figures}
 
--- what holds of an output whose packets are all written
+-- the promises for an output whose packets are all written
 
--- its length, in tenths of a second: a packet has 1,504 bits
+-- the output's length, in tenths of a second: a packet has 1,504 bits
 abbrev pub tenths_of : Figures → ℕ
 tenths_of figures = figures.packets * 15040 / max figures.rate 1
 
@@ -24,7 +24,7 @@ held_text = codes ": every accepted unit by its DTS, no buffer over its size\n"
 abbrev pub held_line : Text → Figures → Text
 held_line name figures = name ++ (figures_text figures ++ held_text)
 
--- it is reported, unless only refusals are, or memory for the line runs out
+-- the output is reported, unless only refusals are, or memory for the line runs out
 abbrev pub TellsHeld : Bool → Text → Figures → Device → Type 0
 TellsHeld true name figures faults = IsUntouched faults
 TellsHeld false name figures faults = Reports faults (held_line name figures) ⊎ IsUntouched faults

@@ -13,7 +13,7 @@ options = map constant_view OPTIONS
 abbrev pub known_words : CommandLine
 known_words = known_by options (codes "--" ∷ []) (codes "-V" ∷ []) None
 
--- those of a service by hand: its description has to be given, and no names of files
+-- the options of a service by hand: its description has to be given, and no names of files
 abbrev pub hand_options : List OptionRow
 hand_options = map constant_view HAND_OPTIONS
 

@@ -13,7 +13,7 @@ use Rattle.tsremux_cli.specs.declared.figures.Remuxed.TheVariants.{Whole, Ended}
 
 -- 1. Standard output
 
--- what holds of the packets is reported, if all are written
+-- the promises for the packets are reported, if all are written
 abbrev pub Concludes : Bool → Text → Remuxed → Device → ℕ → Type 0
 Concludes quiet name (Whole figures ended) faults status = (status ≡ ended) × TellsHeld quiet name figures faults
 Concludes quiet name (Ended ended) faults status = (status ≡ ended) × IsUntouched faults
@@ -41,29 +41,30 @@ ToOutput shows words files input output faults status =
 
 -- 2. A file
 
--- what holds of the packets is reported, if all are written and the file has its name
-abbrev pub Finishes : Bool → Text → Remuxed → Device → ℕ → Type 0
-Finishes quiet name (Whole figures ended) faults status =
-    ((status ≡ ended) × TellsHeld quiet name figures faults) ⊎ ((status ≡ 3) × TellsOf name unnamed_text faults)
-Finishes quiet name (Ended ended) faults status = (status ≡ ended) × IsUntouched faults
+-- the promises for the packets are reported, if all are written and the file has its name
+abbrev pub Finishes : Option Bool → Bool → Text → Remuxed → Device → ℕ → Type 0
+Finishes keeps quiet name (Whole figures ended) faults status =
+    (IsAsKnown keeps true × ((status ≡ ended) × TellsHeld quiet name figures faults))
+    ⊎ (IsAsKnown keeps false × ((status ≡ 3) × TellsOf name unnamed_text faults))
+Finishes keeps quiet name (Ended ended) faults status = (status ≡ ended) × IsUntouched faults
 
 -- the packets go to a new file
-pub record WritesFile (creates : Option Bool) (name : Text) (words : List Text) (files : Files) (input faults : Device) (status : ℕ) : Type 0 where
+pub record WritesFile (creates keeps : Option Bool) (name : Text) (words : List Text) (files : Files) (input faults : Device) (status : ℕ) : Type 0 where
   pub created : IsAsKnown creates true
   pub file : Device
   pub empty : (bytes : List ℕ) → file.before.bytes ≡ Some bytes → bytes ≡ []
   pub result : Remuxed
   pub told : Port
   pub makes : WritesFor words files input file (between faults.before told) result
-  pub finishes : Finishes (is_quiet words) name result (between told faults.after) status
+  pub finishes : Finishes keeps (is_quiet words) name result (between told faults.after) status
 
--- it can't be created: nothing is read
+-- the file can't be created: nothing is read
 pub record HasNoFile (creates : Option Bool) (name : Text) (input faults : Device) (status : ℕ) : Type 0 where
   pub uncreated : IsAsKnown creates false
   pub unread : IsUntouched input
   pub tells : TellsOf name uncreated_text faults
   pub status_is : status ≡ 3
 
-abbrev pub ToFile : Option Bool → Text → List Text → Files → Device → Device → ℕ → Type 0
-ToFile creates name words files input faults status =
-    WritesFile creates name words files input faults status ⊎ HasNoFile creates name input faults status
+abbrev pub ToFile : Option Bool → Option Bool → Text → List Text → Files → Device → Device → ℕ → Type 0
+ToFile creates keeps name words files input faults status =
+    WritesFile creates keeps name words files input faults status ⊎ HasNoFile creates name input faults status

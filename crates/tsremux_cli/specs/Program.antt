@@ -12,9 +12,9 @@ use Rattle.tsremux_cli.specs.Words.{job_words}
 abbrev pub WritesTo : Outputs → Option Text → List Text → Files → Device → Device → Device → ℕ → Type 0
 WritesTo outputs None words files input output faults status = ToOutput outputs.shows words files input output faults status
 WritesTo outputs (Some name) words files input output faults status =
-    ToFile (outputs.creates name) name words files input faults status × IsUntouched output
+    ToFile (outputs.creates name) (outputs.keeps name) name words files input faults status × IsUntouched output
 
--- of sorted words; or memory runs out for the words
+-- the answer to sorted words; or memory runs out for the words
 abbrev pub Answers : Outputs → List Text → Files → Device → Device → Device → ℕ → Type 0
 Answers outputs words files input output faults status =
     WritesTo outputs (output_file words) (job_words words) files input output faults status ⊎ LacksMemory input output faults status

@@ -1,4 +1,4 @@
--- Streams to a job, and the job to its packets: `tsjob` and `tsmux mux`, one after the other.
+-- Streams to a job, and the job to its packets: `tsjob`, and then `tsmux mux`.
 use Rattle.std.specs.Prelude.{◌≡◌, ◌⊎◌, ℕ, true, false, List, Ok, Err}
 use Rattle.word_faults.specs.CommandLine.{Text}
 use Rattle.devices.specs.Devices.{Device, IsUntouched, Port, between}
@@ -23,7 +23,7 @@ pub record FailsThen (bytes : List ℕ) (job_status : ℕ) (packets faults : Dev
   pub is : is_job bytes job_status ≡ true
   pub muxed : MuxesBytes bytes packets faults (Err status)
 
--- it writes them all
+-- all packets are written
 pub record WritesAll (bytes : List ℕ) (job_status : ℕ) (packets faults : Device) (figures : Figures) (status : ℕ) : Type 0 where
   pub is : is_job bytes job_status ≡ true
   pub muxed : MuxesBytes bytes packets faults (Ok figures)

@@ -24,20 +24,20 @@ plan_of words = value_of (codes "--plan") words
 abbrev pub records_of : List Text → Option Text
 records_of words = option_and_then unless_output (value_of (codes "--records") words)
 
--- words ask for it: one of its files is named
+-- words ask for a service by hand if they name one among its files
 abbrev pub is_by_hand : List Text → Bool
 is_by_hand words = is_some (description_of words) || (is_some (plan_of words) || is_some (value_of (codes "--records") words))
 
 -- 2. All words
 
--- with long names of options: for a service by hand in their order; else the options, each with its value, then the names of files after `--`
+-- with long names of options: for a service by hand in their order; otherwise the options, each with its value, then the names of files after `--`
 abbrev pub in_order : List Text → List Text
 in_order long = if is_by_hand long then long else commands.sorted_command known_words long
 
 abbrev pub sorted_words : List Text → List Text
 sorted_words words = in_order (commands.long_words shorts words)
 
--- what the program knows of them
+-- the options known to the program
 abbrev pub known_for : List Text → CommandLine
 known_for words = if is_by_hand words then hand_words else known_words
 

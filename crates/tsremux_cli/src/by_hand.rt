@@ -15,7 +15,7 @@ use named_files::read_files;
 use std::alloc::{AllocError, Global};
 use tsmux_cli::make_plan;
 
-// The bytes of the file of a name; if there are none, reports why, and returns the status.
+// Returns the bytes of the named file. If it can't be read, reports why and returns the status.
 fn file_bytes<F: NamedFiles, E: Sink>(
     alloc: Global,
     files: &F,
@@ -28,7 +28,7 @@ fn file_bytes<F: NamedFiles, E: Sink>(
     read_files(alloc, files, &[name], faults)
 }
 
-// Reports what `tsjob explain` says of these bytes, if the status is that of a fault in them.
+// Reports the words of `tsjob explain` about these bytes, if the status is 1, a fault in them.
 fn report_why<E: Sink>(alloc: Global, bytes: &[u8], status: u8, faults: &mut E)
     ensures { spec.SaysWhy bytes.now status (writes E.Sink faults.old faults.new) }
 {
@@ -43,7 +43,7 @@ fn report_why<E: Sink>(alloc: Global, bytes: &[u8], status: u8, faults: &mut E)
     }
 }
 
-// The plan that is made for a description; if there is none, reports why, and returns the status.
+// Returns the plan made for a description. If there is no plan, reports why and returns the status.
 fn made_plan<E: Sink>(alloc: Global, description: &[u8], faults: &mut E) -> Result<Vec<u8>, u8>
     ensures { spec.PlansFor description.now (writes E.Sink faults.old faults.new)
         (result_map_both (λ bytes. bytes.items) (λ status. status) result) }
@@ -58,7 +58,7 @@ fn made_plan<E: Sink>(alloc: Global, description: &[u8], faults: &mut E) -> Resu
     Err(status)
 }
 
-// The plan in the file of a name; without one, that which is made.
+// Returns the plan in the named file; without a name, makes a plan.
 fn plan_bytes<F: NamedFiles, E: Sink>(
     alloc: Global,
     name: Option<&str>,
@@ -76,7 +76,7 @@ fn plan_bytes<F: NamedFiles, E: Sink>(
     }
 }
 
-// The whole input; if it can't be read, reports why, and returns the status.
+// Returns the whole input. If it can't be read, reports why and returns the status.
 fn input_bytes<R: Source, E: Sink>(
     alloc: Global,
     input: &mut R,
@@ -91,7 +91,7 @@ fn input_bytes<R: Source, E: Sink>(
     }
 }
 
-// The records in the file of a name; without one, the input.
+// Returns the records in the named file; without a name, the input.
 fn record_bytes<F: NamedFiles, R: Source, E: Sink>(
     alloc: Global,
     name: Option<&str>,
@@ -110,14 +110,14 @@ fn record_bytes<F: NamedFiles, R: Source, E: Sink>(
     }
 }
 
-// Whether a text has a line feed at its end, or is empty.
+// Returns whether a text has a line feed at its end, or is empty.
 fn ends_line(text: &[u8]) -> bool
     ensures { result ≡ spec.ends_line text.now }
 {
     text.is_empty() || text[text.len() - 1] == b'\n'
 }
 
-// A text with a line feed at its end.
+// Returns a text with a line feed at its end, added if it lacks one.
 fn ended(text: Vec<u8>) -> Result<Vec<u8>, AllocError>
     ensures { IfOk result (λ whole. whole.items ≡ spec.ended text.items) }
 {
@@ -135,7 +135,7 @@ fn append(job: &mut Vec<u8>, bytes: &[u8]) -> Result<(), AllocError>
     job.extend_from_slice(bytes)
 }
 
-// The job of these three.
+// Joins description, plan and records to a job.
 fn join(description: Vec<u8>, plan: Vec<u8>, records: &[u8]) -> Result<Vec<u8>, AllocError>
     ensures { IfOk result (λ job. job.items ≡ spec.joined description.items plan.items records.now) }
 {
@@ -145,7 +145,7 @@ fn join(description: Vec<u8>, plan: Vec<u8>, records: &[u8]) -> Result<Vec<u8>, 
     Ok(job)
 }
 
-// All three as one; if memory runs out, reports that, and returns the status.
+// Joins description, plan and records to a job. If memory runs out, reports it and returns the status.
 fn job_of<E: Sink>(
     description: Vec<u8>,
     plan: Vec<u8>,
@@ -161,7 +161,7 @@ fn job_of<E: Sink>(
     }
 }
 
-// The job of a service by hand; if there is none, reports why, and returns the status.
+// Returns the job of a service by hand. If there is no job, reports why and returns the status.
 #[tactic(auto, using(crate::proofs::ByHand::no_description, crate::proofs::ByHand::no_plan, crate::proofs::ByHand::no_records, crate::proofs::ByHand::has_job, crate::proofs::ByHand::no_room))]
 fn hand_job<F: NamedFiles, R: Source, E: Sink>(
     alloc: Global,

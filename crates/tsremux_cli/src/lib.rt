@@ -2,9 +2,9 @@
 //! step.
 //!
 //! `options` is the table of options, with the usage; `words` sorts the words of the command line, and has the words
-//! for `tsjob` and the name of the file that is written. `remuxing` runs `tsjob` into memory and writes the packets of
-//! its job, by `muxing`; `by_hand` does so for a description, a plan and records in files. `packets` does what the
-//! words ask for; `outputs` writes to standard output or to a file, and reports by `lines` what holds of the packets.
+//! for `tsjob` and the name of the output file. `remuxing` runs `tsjob` into memory and writes the packets of its job,
+//! by `muxing`; `by_hand` does so for a description, a plan and records in files. `packets` serves the request of the
+//! words; `outputs` writes to standard output or to a file, and reports by `lines` which promises the packets keep.
 //! `program` is `run`.
 #![tactic(auto)]
 

@@ -1,4 +1,4 @@
-//! What is reported of an output.
+//! The line that reports on an output.
 ghost use Rattle.std.specs.Prelude.{◌≡◌, ◌++◌, IfOk, OnOk, string_bytes};
 ghost use Rattle.devices.specs.Devices.{writes};
 ghost use Rattle.tsremux_cli.specs.Lines as spec;
@@ -9,7 +9,7 @@ use devices::report_text;
 use std::alloc::{AllocError, Global};
 use std::fmt::Write;
 
-// The length of an output, in tenths of a second.
+// Returns the length of an output, in tenths of a second.
 fn tenths_of(figures: Figures) -> u128
     ensures { result ≡ spec.tenths_of figures }
 {
@@ -34,7 +34,7 @@ fn write_figures(text: &mut String, figures: Figures) -> Result<(), AllocError>
     write!(text, "{packets} packets")
 }
 
-// What holds of the output of this name.
+// Returns the line about the output of this name: its rate, length and packets, and the promises that they keep.
 fn held_line(alloc: Global, name: &str, figures: Figures) -> Result<String, AllocError>
     ensures { IfOk result (λ text. string_bytes text ≡ spec.held_line name.now figures) }
 {
@@ -45,7 +45,7 @@ fn held_line(alloc: Global, name: &str, figures: Figures) -> Result<String, Allo
     Ok(text)
 }
 
-/// Reports what holds of the output of this name, unless only refusals are reported, or memory for the line runs out.
+/// Reports the figures and promises of the output of this name, unless only refusals are reported or memory runs out.
 pub(crate) fn report_held<E: Sink>(
     alloc: Global,
     quiet: bool,

@@ -13,7 +13,7 @@ use tsmux_cli::{
     slots_of, write_packets,
 };
 
-// The figures of a job.
+// Returns the figures of a job.
 fn figures_of(job: &MuxJob) -> Figures
     ensures { result ≡ spec.figures_of (mux_job_view job.now) }
 {

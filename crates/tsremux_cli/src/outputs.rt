@@ -13,7 +13,7 @@ use devices::{NamedFiles, OutputFiles, report_text};
 use named_files::{TERMINAL, report_of};
 use std::alloc::Global;
 
-// Reports what holds of standard output, if all packets are written, and returns the status.
+// Reports on standard output if all packets are written, and returns the status.
 fn conclude<E: Sink>(alloc: Global, quiet: bool, remuxed: Remuxed, faults: &mut E) -> u8
     ensures { spec.Concludes quiet spec.output_name remuxed (writes E.Sink faults.old faults.new) result }
 {
@@ -65,7 +65,7 @@ pub(crate) fn remux_to_output<F: NamedFiles + OutputFiles, R: Source, W: Sink, E
     write_output(alloc, words, files, input, output, faults)
 }
 
-// Gives a new file its name if all packets are written, reports what holds of it, and returns the status.
+// Gives a new file its name if all packets are written, reports on the file, and returns the status.
 fn finish<F: OutputFiles, E: Sink>(
     alloc: Global,
     quiet: bool,
@@ -75,11 +75,11 @@ fn finish<F: OutputFiles, E: Sink>(
     file: F::Writer,
     faults: &mut E,
 ) -> u8
-    ensures { spec.Finishes quiet name.now remuxed (writes E.Sink faults.old faults.new) result }
+    ensures { spec.Finishes (F.keeps files.now name.now) quiet name.now remuxed (writes E.Sink faults.old faults.new) result }
 {
     match remuxed {
         Remuxed::Whole { figures, status } => {
-            if files.keep_file(file) {
+            if files.keep_file(name, file) {
                 report_held(alloc, quiet, name, figures, faults);
                 status
             } else {
@@ -103,7 +103,7 @@ pub(crate) fn remux_to_file<F: NamedFiles + OutputFiles, R: Source, E: Sink>(
     input: &mut R,
     faults: &mut E,
 ) -> u8
-    ensures { spec.ToFile (F.creates files.now name.now) name.now (map (λ s. s.now) words.now)
+    ensures { spec.ToFile (F.creates files.now name.now) (F.keeps files.now name.now) name.now (map (λ s. s.now) words.now)
         (files_of (F.contents_of files.now) (F.opens files.now) F.never_fails)
         (reads R.Source input.old input.new) (writes E.Sink faults.old faults.new) result }
 {

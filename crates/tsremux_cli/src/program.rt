@@ -37,7 +37,7 @@ fn write_to<F: NamedFiles + OutputFiles, R: Source, W: Sink, E: Sink>(
     output: &mut W,
     faults: &mut E,
 ) -> u8
-    ensures { spec.WritesTo (outputs_of (F.creates files.now) (F.shows files.now))
+    ensures { spec.WritesTo (outputs_of (F.creates files.now) (F.keeps files.now) (F.shows files.now))
         (option_map (λ s. s.now) name.entry) (map (λ s. s.now) words.now)
         (files_of (F.contents_of files.now) (F.opens files.now) F.never_fails)
         (reads R.Source input.old input.new) (writes W.Sink output.old output.new)
@@ -58,7 +58,7 @@ fn answer<F: NamedFiles + OutputFiles, R: Source, W: Sink, E: Sink>(
     output: &mut W,
     faults: &mut E,
 ) -> u8
-    ensures { spec.Answers (outputs_of (F.creates files.now) (F.shows files.now)) (map (λ s. s.now) words.now)
+    ensures { spec.Answers (outputs_of (F.creates files.now) (F.keeps files.now) (F.shows files.now)) (map (λ s. s.now) words.now)
         (files_of (F.contents_of files.now) (F.opens files.now) F.never_fails)
         (reads R.Source input.old input.new) (writes W.Sink output.old output.new)
         (writes E.Sink faults.old faults.new) result }
@@ -87,7 +87,7 @@ fn run_sorted<F: NamedFiles + OutputFiles, R: Source, W: Sink, E: Sink>(
     faults: &mut E,
 ) -> u8
     ensures remux { are_taken (map (λ s. s.now) words.now) ≡ true →
-        spec.Answers (outputs_of (F.creates files.now) (F.shows files.now)) (map (λ s. s.now) words.now)
+        spec.Answers (outputs_of (F.creates files.now) (F.keeps files.now) (F.shows files.now)) (map (λ s. s.now) words.now)
         (files_of (F.contents_of files.now) (F.opens files.now) F.never_fails)
         (reads R.Source input.old input.new) (writes W.Sink output.old output.new)
         (writes E.Sink faults.old faults.new) result }
@@ -106,9 +106,9 @@ fn run_sorted<F: NamedFiles + OutputFiles, R: Source, W: Sink, E: Sink>(
     }
 }
 
-/// Runs the whole program: it reads the input, or files that are named, writes the packets of one job of these streams
-/// to the output or to a file, reports what `tsjob` reports and what holds of the packets, and returns the exit status:
-/// 0 all is carried, 1 refused or a warning of a loss, 2 a usage error, 3 a device failed or out of memory.
+/// Runs the whole program: it reads the input, or named files, writes the packets of one job of these streams to the
+/// output or to a file, reports the lines of `tsjob` and the promises that the packets keep, and returns the exit
+/// status: 0 all is carried, 1 refused or a warning of a loss, 2 a usage error, 3 a device failed or out of memory.
 pub fn run<F: NamedFiles + OutputFiles, R: Source, W: Sink, E: Sink>(
     alloc: Global,
     words: &[&str],
@@ -120,7 +120,7 @@ pub fn run<F: NamedFiles + OutputFiles, R: Source, W: Sink, E: Sink>(
     // Words that can be taken: what `tsmux mux` writes of the job that `tsjob` writes for them, or of the files of a
     // service by hand.
     ensures remux { are_taken (sorted_words (map (λ s. s.now) words.now)) ≡ true →
-        spec.Answers (outputs_of (F.creates files.now) (F.shows files.now)) (sorted_words (map (λ s. s.now) words.now))
+        spec.Answers (outputs_of (F.creates files.now) (F.keeps files.now) (F.shows files.now)) (sorted_words (map (λ s. s.now) words.now))
         (files_of (F.contents_of files.now) (F.opens files.now) F.never_fails)
         (reads R.Source input.old input.new) (writes W.Sink output.old output.new)
         (writes E.Sink faults.old faults.new) result }

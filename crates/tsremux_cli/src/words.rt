@@ -13,7 +13,7 @@ use std::alloc::{AllocError, Global};
 use tsjob_cli::{SHORT_NAMES, option_words, words_but_output};
 use word_faults::{KnownWords, are_taken, long_words, push_words, sorted_command, value_given};
 
-// The value of an option.
+// Returns the value of an option.
 fn value_of<'a>(option: &str, words: &[&'a str]) -> Option<&'a str>
     ensures { option_map (λ s. s.now) result
         ≡ sorting.value_given option.now (filed.option_words (map (λ s. s.now) words.now)) }
@@ -21,7 +21,7 @@ fn value_of<'a>(option: &str, words: &[&'a str]) -> Option<&'a str>
     value_given(option, option_words(words))
 }
 
-// Whether an option has a value.
+// Returns whether an option has a value.
 fn is_given(option: &str, words: &[&str]) -> bool
     ensures { result
         ≡ is_some (sorting.value_given option.now (filed.option_words (map (λ s. s.now) words.now))) }
@@ -46,7 +46,7 @@ pub(crate) fn plan_of<'a>(words: &[&'a str]) -> Option<&'a str>
     value_of("--plan", words)
 }
 
-/// Returns the file of its records; none if they are the input.
+/// Returns the file of its records; `None` if they are the input.
 pub(crate) fn records_of<'a>(words: &[&'a str]) -> Option<&'a str>
     ensures { option_map (λ s. s.now) result ≡ spec.records_of (map (λ s. s.now) words.now) }
 {
@@ -56,7 +56,7 @@ pub(crate) fn records_of<'a>(words: &[&'a str]) -> Option<&'a str>
     }
 }
 
-// Whether words ask for a service by hand.
+// Returns whether words ask for a service by hand.
 fn is_by_hand(words: &[&str]) -> bool
     ensures { result ≡ spec.is_by_hand (map (λ s. s.now) words.now) }
 {
@@ -74,8 +74,8 @@ pub(crate) fn known_for(words: &[&str]) -> KnownWords
     }
 }
 
-/// Returns words with long names of options: for a service by hand in their order; else the options, each with its
-/// value, then the names of files after `--`.
+/// Returns words with long names of options. The words for a service by hand keep their order; otherwise the options
+/// come first, each with its value, then the names of files after `--`.
 pub(crate) fn sorted_words<'a>(alloc: Global, words: &[&'a str]) -> Result<Vec<&'a str>, AllocError>
     ensures { IfOk result (λ sorted. map (λ s. s.now) sorted.items ≡ spec.sorted_words (map (λ s. s.now) words.now)) }
 {

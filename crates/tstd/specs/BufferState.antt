@@ -8,7 +8,7 @@ use Rattle.tstd.specs.BufferedUnits.{all_buffered, buffered_bytes, all_bytes, al
 abbrev pub fullness_at : {A : Type 0} → MainBuffer A → ℕ → ℕ
 fullness_at buffer x = all_buffered x buffer.earlier.items + buffered_bytes x buffer.current
 
--- its numbers agree with its bytes
+-- the counts of a buffer agree with its bytes
 pub record AreCounted (units : List BufferedUnit) (current : BufferedUnit) (next fullness : ℕ) : Type 0 where
   pub all : fullness ≡ all_bytes units + current.bytes
   pub early : all_until next units ≡ true

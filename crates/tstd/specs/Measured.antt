@@ -1,5 +1,4 @@
--- How full the buffers of the decoder model are (ISO/IEC 13818-1, 2.4.2.3), and which units come late, of finished
--- bytes.
+-- The fullness of the buffers of the decoder model (ISO/IEC 13818-1, 2.4.2.3), and the late units, of finished bytes.
 --
 -- At a stream's transport and main buffer times are in units of 8 / (rate * rx) seconds, at its multiplexing buffer MB and
 -- elementary stream buffer EB in units of 8 / (rate * rx * rbx) seconds, at the buffers of a program's tables in units of
@@ -22,7 +21,7 @@ use Rattle.tstd.specs.declared.fullness.SystemFullness.{SystemFullness}
 use Rattle.tstd.specs.declared.fullness.VideoFullness.{VideoFullness}
 use Rattle.tstd.specs.declared.fullness.LateUnit.{LateUnit}
 
--- what is measured: of each stream and of each program the greatest numbers of bytes, and the first late unit
+-- the result of a measurement: the greatest numbers of bytes for each stream and each program, and the first late unit
 pub record Measured : Type 0 where
   pub streams : List StreamFullness
   pub programs : List SystemFullness
@@ -34,14 +33,14 @@ pub record IsTwoBuffers (rate base0 : ℕ) (s : DescribedStream) (units : List A
   pub transport : IsPeak (λ x. tb_fullness rate s.rx x (slots_of packets)) most_transport
   pub main : IsPeak (λ x. mb_fullness rate s.rx x (timed_pes_packets s.stream_id base0 units) (pes_left rate s.rx 0 packets)) most_main
 
--- the greatest numbers of bytes over all moments in MB and in EB of a stream with a multiplexing buffer, filled by these
--- packets with these units, by the leak method (ISO/IEC 13818-1, 2.4.2.3) where EB never is full
+-- the greatest numbers of bytes over all moments in MB and in EB of a stream with a multiplexing buffer, filled by these packets with these units, by the
+-- leak method (ISO/IEC 13818-1, 2.4.2.3) if EB is never full
 pub record IsVideoFullness (rate base0 : ℕ) (s : DescribedStream) (units : List AccessUnit) (packets : List Packet) (b : MultiplexingBuffer)
     (f : VideoFullness) : Type 0 where
   pub multiplexing : IsPeak (λ x. multiplexing_fullness rate s.rx b.rbx x packets) f.multiplexing
   pub elementary : IsPeak (λ x. elementary_fullness rate s.rx b.rbx x (timed_pes_packets s.stream_id base0 units) packets) f.elementary
 
--- a stream has these two numbers exactly where it has a multiplexing buffer
+-- a stream has these two numbers exactly if it has a multiplexing buffer
 unfoldable pub HasVideoFullness : ℕ → ℕ → DescribedStream → List AccessUnit → List Packet → Option MultiplexingBuffer → Option VideoFullness → Type 0
 HasVideoFullness rate base0 s units packets None None = Unit {0}
 HasVideoFullness rate base0 s units packets None (Some f) = ⊥
@@ -55,7 +54,7 @@ pub record IsStreamFullness (rate base0 : ℕ) (s : DescribedStream) (units : Li
   pub main : IsPeak (λ x. mb_fullness rate s.rx x (timed_pes_packets s.stream_id base0 units) (pes_left rate s.rx 0 packets)) f.main
   pub video : HasVideoFullness rate base0 s units packets s.multiplexing f.video
 
--- of each stream of a description
+-- the fullness of each stream of a description
 pub record StreamsMeasured (d : Described) (units : List (ℕ × AccessUnit)) (bytes : List ℕ) (found : List StreamFullness) : Type 0 where
   pub count : length found ≡ length d.streams
   pub each : (number : ℕ) (s : DescribedStream) (f : StreamFullness) → slice_get d.streams number ≡ Some s → slice_get found number ≡ Some f →
@@ -67,7 +66,7 @@ pub record IsSystemFullness (rate : ℕ) (slots : List ℕ) (f : SystemFullness)
   pub transport : IsPeak (λ x. system_tb_fullness rate x slots) f.transport
   pub system : IsPeak (λ x. bsys_fullness rate x slots) f.system
 
--- of each program of a description
+-- the fullness of each program of a description
 pub record SystemsMeasured (d : Described) (bytes : List ℕ) (found : List SystemFullness) : Type 0 where
   pub count : length found ≡ length d.programs
   pub each : (number : ℕ) (p : DescribedProgram) (f : SystemFullness) → slice_get d.programs number ≡ Some p → slice_get found number ≡ Some f →
@@ -79,8 +78,8 @@ abbrev pub late_of : ℕ → ℕ → ℕ → DescribedStream → List AccessUnit
 late_of rate base0 slots s units packets =
     first_late rate s.rx slots 0 (timed_pes_packets s.stream_id base0 units) (pes_left rate s.rx 0 packets)
 
--- of a stream with a multiplexing buffer the unit has to be whole in the elementary stream buffer by then: a later moment,
--- since each byte enters that buffer after it has left the transport buffer
+-- the same for a stream with a multiplexing buffer: a unit has to be whole in the elementary stream buffer by then, a later moment, since each byte enters
+-- this buffer after it has left the transport buffer
 abbrev pub late_in_video : ℕ → ℕ → ℕ → DescribedStream → List AccessUnit → List Packet → MultiplexingBuffer → Option ℕ
 late_in_video rate base0 slots s units packets b =
     first_late rate (s.rx * b.rbx) slots 0 (timed_pes_packets s.stream_id base0 units) (multiplexing_left rate s.rx b.rbx packets)
@@ -89,12 +88,12 @@ unfoldable pub late_in : ℕ → ℕ → ℕ → DescribedStream → List Access
 late_in rate base0 slots s units packets None = late_of rate base0 slots s units packets
 late_in rate base0 slots s units packets (Some b) = late_in_video rate base0 slots s units packets b
 
--- a late unit of a stream, before those of the streams after it
+-- a late unit of a stream, or otherwise the late unit of the later streams
 abbrev pub late_or : ℕ → Option ℕ → Option LateUnit → Option LateUnit
 late_or stream None later = later
 late_or stream (Some number) later = Some (record { stream = stream; number = number })
 
--- the first late unit of these streams, the first of which has this number
+-- the first late unit of these streams, which have the numbers from `number` on
 unfoldable pub late_from : Described → List (ℕ × AccessUnit) → List ℕ → ℕ → List DescribedStream → Option LateUnit
 late_from d units bytes number [] = None
 late_from d units bytes number (s ∷ streams) =

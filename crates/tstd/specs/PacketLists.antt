@@ -5,7 +5,7 @@ use Rattle.ts_packet.specs.Views.{PacketView}
 use Rattle.ts_packet.specs.Reading.{packet_at}
 use Rattle.ts_packet.specs.PidList.{is_of_pid, payload_of}
 
--- the payload that a packet carries on a PID, no bytes where it is none of that PID
+-- the payload that a packet carries on a PID, no bytes if the packet is on another PID
 unfoldable pub payload_in : ℕ → Result PacketView PacketError → List ℕ
 payload_in pid (Ok packet) = if is_of_pid pid packet then payload_of packet else []
 payload_in pid (Err _) = []
@@ -20,7 +20,7 @@ unfoldable pub is_of_tables : ℕ → Result PacketView PacketError → Bool
 is_of_tables pmt_pid (Ok packet) = is_of_pid 0 packet || is_of_pid pmt_pid packet
 is_of_tables pmt_pid (Err _) = false
 
--- the indices of those of these packets that do; the first has this index
+-- the indices of the packets that enter these buffers; the first packet has this index
 unfoldable pub tables_from : ℕ → ℕ → List (List ℕ) → List ℕ
 tables_from pmt_pid index [] = []
 tables_from pmt_pid index (chunk ∷ chunks) =

@@ -6,17 +6,17 @@ use Rattle.ts_packet.specs.Reading.{packet_at}
 use Rattle.ts_packet.specs.PidList.{is_of_pid, payload_of}
 use Rattle.unit_timing.specs.Schedule.{Packet}
 
--- the size of the payload that a packet carries on a PID, if it is one of that PID
+-- the size of the payload that a packet carries on a PID, if the packet is on this PID
 unfoldable pub size_in : ℕ → Result PacketView PacketError → Option ℕ
 size_in pid (Ok packet) = if is_of_pid pid packet then Some (length (payload_of packet)) else None
 size_in pid (Err _) = None
 
--- a packet of that size before others
+-- a packet of this size in front of a list of packets
 abbrev pub listed : ℕ → Option ℕ → List Packet → List Packet
 listed index None packets = packets
 listed index (Some size) packets = record { slot = index; size = size } ∷ packets
 
--- the packets of a PID among these packets of 188 bytes, the first of which has this index
+-- the packets of a PID among these packets of 188 bytes, which have the indices from `index` on
 unfoldable pub packets_from : ℕ → ℕ → List (List ℕ) → List Packet
 packets_from pid index [] = []
 packets_from pid index (chunk ∷ chunks) = listed index (size_in pid (packet_at chunk)) (packets_from pid (index + 1) chunks)

@@ -14,11 +14,11 @@ arrived queue time = record {
 abbrev pub all_arrived : Queue → List ℕ → Queue
 all_arrived queue times = fold arrived queue times
 
--- the longest time from a byte's arrival to its departure; `prev` is when the byte before the first left
+-- the longest time from the arrival of a byte to its departure; `prev` is when the byte before the first byte left
 unfoldable pub greatest_residence : ℕ → ℕ → List ℕ → ℕ
 greatest_residence step prev [] = 0
 greatest_residence step prev (time ∷ times) = max (max time prev + step - time) (greatest_residence step (max time prev + step) times)
 
--- the bytes that leave in that time, the last of them included
+-- the number of bytes that leave in a time, including the last byte
 abbrev pub bytes_within : ℕ → ℕ → ℕ
 bytes_within step time = (time + (step - 1)) / step

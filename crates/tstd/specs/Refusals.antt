@@ -1,4 +1,4 @@
--- Why bytes can't be measured, and which refusal is given.
+-- Why bytes can't be measured, and which refusal is the answer.
 use Rattle.std.specs.Prelude.{◌≡◌, ⊤, ℕ, ◌+◌, ◌%◌, ◌==◌, ◌&&◌, nat_le, Bool, true, false, List, [], ◌∷◌, length, slice_get, Option, Some, None, Result, Ok, Err}
 use Rattle.std.specs.Prelude.{if◌then◌else◌}
 use Rattle.std.specs.List.{list_all}
@@ -14,7 +14,7 @@ use Rattle.tstd.specs.Carried.{carries}
 use Rattle.tstd.specs.declared.refusal.MeasureError.{MeasureError}
 use Rattle.tstd.specs.declared.refusal.MeasureError.TheVariants.{Length, Packet, Carried, Memory}
 
--- a packet that can't be read, or else what is refused of those after it
+-- a packet that can't be read, or otherwise the refusal of a later packet
 abbrev pub unreadable_or : ℕ → Result PacketView PacketError → Option MeasureError → Option MeasureError
 unreadable_or index (Err error) later = Some (Packet index error)
 unreadable_or index (Ok packet) later = later
@@ -33,7 +33,7 @@ is_within size (Some s) = nat_le 1 size && nat_le size s.size
 abbrev pub is_declared : Described → ℕ × AccessUnit → Bool
 is_declared d unit = is_within (length unit.1.bytes) (slice_get d.streams unit.0)
 
--- each of these streams, the first of which has this number, carries a beginning of its units
+-- each of these streams, which have the numbers from `number` on, carries a beginning of its units
 unfoldable pub all_carried : Described → List (ℕ × AccessUnit) → List ℕ → ℕ → List DescribedStream → Bool
 all_carried d units bytes number [] = true
 all_carried d units bytes number (s ∷ streams) =
@@ -53,7 +53,7 @@ cause d units bytes =
     if length bytes % 188 == 0 then option_or (first_unreadable 0 (cut_packets bytes)) (unless_carried (are_carried d units bytes))
     else Some Length
 
--- a measurement is refused exactly where there is such a reason, and it is that one; memory may run out before
+-- a measurement is refused exactly if there is such a reason, and for this reason; memory may run out earlier
 abbrev pub Answers : {V : Type 0} → Result V MeasureError → Option MeasureError → Type 0
 Answers (Ok value) reason = reason ≡ None
 Answers (Err Memory) reason = ⊤

@@ -3,6 +3,6 @@ use Rattle.std.specs.Prelude.{ℕ, ◌==◌, ◌||◌, not, Bool, length}
 use Rattle.pes_packet.specs.AccessUnits.{AccessUnit}
 use Rattle.pes_packet.specs.StreamIds.{fits_packet}
 
--- a unit is of another stream, or can be a PES packet of this stream_id
+-- a unit belongs to another stream, or fits into a PES packet of this stream_id
 abbrev pub fits_of : ℕ → ℕ → ℕ × AccessUnit → Bool
 fits_of number id unit = not (unit.0 == number) || fits_packet id (length unit.1.bytes)

@@ -38,7 +38,7 @@ pub fn all_carried<B: Allocator>(
     true
 }
 
-// A late unit of a stream, where there was none before.
+// Returns the first late unit: `late`, or otherwise unit `number` of this stream, if any.
 fn first_of(late: Option<LateUnit>, stream: u8, number: Option<u64>) -> Option<LateUnit>
     ensures { result ≡ option_or late (late_or stream number None) }
 {

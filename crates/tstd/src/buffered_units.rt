@@ -11,7 +11,7 @@ pub struct BufferedUnit {
     pub bytes: u64,
 }
 
-// Whether the bytes are still in the buffer at a moment.
+// Returns whether the bytes are still in the buffer at a moment.
 fn is_buffered(unit: &BufferedUnit, moment: u128) -> bool
     ensures { result ≡ is_buffered moment unit.now }
 {

@@ -14,7 +14,7 @@ use arrayvec::ArrayVec;
 use pes_packet::{Unit, on_wire, write_header};
 use std::alloc::Allocator;
 
-// The header of a unit's PES packet.
+// Returns the header of a unit's PES packet.
 #[tactic(auto, using(crate::proofs::CarriedBytes::header_wire))]
 fn header_of<B: Allocator>(id: u8, base0: u64, unit: &Unit<B>) -> ArrayVec<u8, 45>
     requires { IsTrue (fits_packet id (length unit.now.bytes)) }
@@ -30,7 +30,7 @@ fn header_of<B: Allocator>(id: u8, base0: u64, unit: &Unit<B>) -> ArrayVec<u8, 4
     )
 }
 
-// Whether the bytes of a walk begin with a unit's PES packet, or end inside it and agree so far.
+// Returns whether the bytes of a walk begin with a unit's PES packet, or end inside it and agree so far.
 #[tactic(auto, unfolding(pes_packet::specs::Encoding::pes_packet_bytes))]
 fn unit_agrees<B: Allocator>(
     payloads: &mut Payloads<'_>,
@@ -50,7 +50,7 @@ fn unit_agrees<B: Allocator>(
     agrees(payloads, unit.bytes.as_slice())
 }
 
-// The same of an entry of a list of units.
+// Does the same for an entry of a list of units.
 fn entry_agrees<B: Allocator>(
     payloads: &mut Payloads<'_>,
     id: u8,

@@ -7,14 +7,14 @@ use description_parts::StreamDescription;
 use pes_packet::Unit;
 use std::alloc::Allocator;
 
-// The size of a unit in bytes.
+// Returns the size of a unit in bytes.
 fn size_of<B: Allocator>(entry: &(u8, Unit<B>)) -> usize
     ensures { result ≡ length entry.now.1.bytes }
 {
     entry.1.bytes.len()
 }
 
-// Whether a unit has from one byte to the greatest size of its stream.
+// Returns whether a unit has from one byte to the greatest size of its stream.
 fn is_declared<B: Allocator>(streams: &[StreamDescription], entry: &(u8, Unit<B>)) -> bool
     ensures { result ≡ is_within (length entry.now.1.bytes) (slice_get streams.now entry.now.0) }
 {

@@ -58,7 +58,7 @@ impl<'a> Departures<'a> {
         }
     }
 
-    // Goes into the next packet that is of the PID or not; false at the end.
+    // Moves to the next packet, whether it is on the PID or not; returns false at the end.
     fn enter_packet(&mut self) -> bool
         requires { self.old.left ≡ 0 }
         ensures ahead { left_ahead self.new ≡ left_ahead self.old }

@@ -42,7 +42,7 @@ pub struct LateUnit {
     pub number: u64,
 }
 
-/// How full each buffer becomes, and the first unit that comes late.
+/// The fullness of each buffer, and the first late unit.
 #[derive(Drop)]
 pub struct Fullness<A: Allocator = Global> {
     /// Of each stream of the description, in order.
@@ -53,7 +53,7 @@ pub struct Fullness<A: Allocator = Global> {
     pub late: Option<LateUnit>,
 }
 
-// A contract sees the numbers, and not where they are kept.
+// A contract refers to the numbers, not to the place where they are kept.
 impl<A: Allocator> Model for Fullness<A> {
     ghost use Rattle.tstd.specs.Measured.{Measured};
 

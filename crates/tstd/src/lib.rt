@@ -1,14 +1,14 @@
-//! The transport stream system target decoder (ISO/IEC 13818-1, 2.4.2), byte by byte: how full its buffers become, and
-//! which units come late, measured on the finished bytes of a transport stream.
+//! The transport stream system target decoder (ISO/IEC 13818-1, 2.4.2), byte by byte: the fullness of its buffers, and
+//! the late units, measured on the finished bytes of a transport stream.
 //!
 //! - [`measure`]: the whole. `specs/Measured` says what it finds, over the buffer model of docs/TIMING.md, and
 //!   `specs/Refusals` what it refuses.
-//! - [`measure_unit`]: one unit after another, from the transport buffer of its stream into the main buffer: whether it has
-//!   left the first in time, and how full the second becomes.
+//! - [`measure_unit`]: one unit after another, from the transport buffer of its stream into the main buffer: whether
+//!   it left the transport buffer in time, and how full the main buffer becomes.
 //! - [`Queue`]: a buffer that bytes pass one after another, as transport and system buffers.
 //! - [`Departures`]: a walk over the payload bytes of a PID (`pid_packets`) as they leave their transport buffer.
-//! - [`PayloadBytes`]: the same bytes as they enter the main buffer, or the elementary stream buffer after a multiplexing
-//!   buffer.
+//! - [`PayloadBytes`]: the same bytes as they enter the main buffer, or the elementary stream buffer after a
+//!   multiplexing buffer.
 //! - [`MainBuffer`]: the main buffer of a stream; the bytes of a unit stay in it until its decoding time.
 //!
 //! The modules of [`measure`], from the bottom up: `fullness` and `refusal` are its results; `packets` reads what a

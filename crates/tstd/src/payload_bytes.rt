@@ -27,7 +27,7 @@ pub struct PayloadBytes<'a> {
     pub ghost within: { IsWithin multiplexing (transport.byte * 2 ^ 58) },
 }
 
-// A byte enters the multiplexing buffer, if there is one: when it leaves it.
+// Passes a byte through the multiplexing buffer, if any; returns when it leaves.
 #[tactic(auto, unfolding(crate::specs::MultiplexingQueue::passed, crate::specs::MultiplexingQueue::residence_in, crate::specs::MultiplexingQueue::last_in), using(crate::proofs::PassedBytes::byte_resides))]
 fn pass(multiplexing: &mut Option<Queue>, entered: u128) -> u128
     requires entered { entered < 2 ^ 123 }

@@ -17,7 +17,7 @@ pub struct Payloads<'a> {
 }
 
 impl Payloads<'_> {
-    // Goes into the next packet, if there is one.
+    // Moves to the next packet; returns false at the end.
     #[tactic(auto, unfolding(crate::specs::PayloadWalk::bytes_ahead, crate::specs::PacketLists::payloads_from))]
     fn enter_packet(&mut self) -> bool
         requires { self.old.rest.now ≡ [] }
@@ -51,7 +51,7 @@ impl Payloads<'_> {
     }
 }
 
-/// Returns whether the bytes of a walk begin with the expected ones, or end inside them and agree so far.
+/// Returns whether the bytes of a walk begin with the expected bytes, or end inside them and agree so far.
 pub fn agrees(payloads: &mut Payloads<'_>, expected: &[u8]) -> bool
     ensures { (more : List ℕ) → starts_with nat_eq (expected.now ++ more) (bytes_ahead payloads.old)
         ≡ (result && starts_with nat_eq more (bytes_ahead payloads.new)) }

@@ -7,9 +7,9 @@ ghost use Rattle.tstd.specs.Queues.{arrived, all_arrived, bytes_within};
 #[derive(Clone, Copy)]
 pub struct Queue {
     pub step: u64,
-    /// When the last byte left, 0 where none has arrived.
+    /// When the last byte left, 0 if no byte has arrived.
     pub last: u128,
-    /// The longest time from a byte's arrival to its departure, 0 where none has arrived.
+    /// The longest time from a byte's arrival to its departure, 0 if no byte has arrived.
     pub longest_residence: u128,
 }
 
@@ -48,7 +48,7 @@ impl Queue {
     }
 }
 
-/// Takes `count` bytes, from byte `from` of the output on, each `drain` after the one before.
+/// Takes `count` bytes, from byte `from` of the output on, each `drain` after the byte before.
 pub fn arrive_row(queue: &mut Queue, drain: u64, from: u64, count: u64)
     requires drain { drain ≤ 2 ^ 56 }
     requires step { queue.old.step ≤ 2 ^ 56 }

@@ -15,8 +15,8 @@ use pes_packet::Unit;
 use std::alloc::{AllocError, Allocator};
 use unit_timing::multiplexing_buffer::MultiplexingBuffer;
 
-// The greatest numbers of bytes in the transport buffer and in the main buffer of a stream, and the number of its first
-// unit that has not left the transport buffer in time.
+// Returns the greatest numbers of bytes in the transport buffer and in the main buffer of a stream, and the number of
+// its first unit that has not left the transport buffer in time.
 fn measure_main<A: Allocator, B: Allocator>(
     alloc: A,
     rate: u64,
@@ -46,9 +46,9 @@ fn measure_main<A: Allocator, B: Allocator>(
     Ok(((transport, buffer.peak), late))
 }
 
-// The greatest numbers of bytes in the multiplexing buffer and in the elementary stream buffer of a stream, and the
-// number of its first unit that is not whole in the second in time. The walk is that of `measure_main`, through one
-// buffer more.
+// Returns the greatest numbers of bytes in the multiplexing buffer and in the elementary stream buffer of a stream,
+// and the number of its first unit that is not whole in the latter in time. Walks like `measure_main`, with one more
+// buffer.
 fn measure_video<A: Allocator, B: Allocator>(
     alloc: A,
     rate: u64,

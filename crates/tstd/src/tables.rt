@@ -10,7 +10,7 @@ use crate::fullness::SystemFullness;
 use crate::packets::is_of_tables;
 use crate::queue::Queue;
 
-// The bytes of a packet, from byte `from` of the output on, arrive and go from one buffer into the other.
+// Passes the bytes of a packet, from byte `from` of the output on, through both buffers.
 fn pass_packet(transport: &mut Queue, system: &mut Queue, from: u64)
     requires transport { transport.old.step ≤ 2 ^ 33 }
     requires system { system.old.step ≤ 2 ^ 33 }

@@ -23,14 +23,14 @@ pub fn is_of<B: Allocator>(entry: &(u8, Unit<B>), stream: u8) -> bool
     entry.0 == stream
 }
 
-// The decoding time of a unit.
+// Returns the decoding time of a unit.
 fn due_of<B: Allocator>(entry: &(u8, Unit<B>)) -> u64
     ensures { result ≡ entry.now.1.dts }
 {
     entry.1.dts
 }
 
-// The size in bytes of its PES packet, whatever the stream_id.
+// Returns the size in bytes of the PES packet of a unit, whatever the stream_id.
 fn size_of<B: Allocator>(entry: &(u8, Unit<B>), base0: u64) -> u64
     ensures size { (id : ℕ) → result ≡ length (pes_packet_bytes id base0 entry.now.1) }
     ensures positive { 0 < result }
@@ -38,7 +38,7 @@ fn size_of<B: Allocator>(entry: &(u8, Unit<B>), base0: u64) -> u64
     packet_size(base0, &entry.1)
 }
 
-// A late unit, where there was none before.
+// Returns the first late unit: `late`, or otherwise this unit if it is late.
 fn first_of(late: Option<u64>, is_late: bool, number: u64) -> Option<u64>
     ensures { result ≡ option_or late (if is_late then Some number else None) }
 {

@@ -17,7 +17,7 @@ use crate::payload_bytes::PayloadBytes;
 use clock27::{BYTE_UNITS_AT_1BPS, SLOT_UNITS_AT_1BPS};
 use std::alloc::{AllocError, Allocator};
 
-// A unit of this size goes from one buffer into the other; whether all its bytes come.
+// Enters a unit of `size` bytes into the buffer; returns whether all its bytes arrive.
 fn enter_unit<A: Allocator>(
     walk: &mut PayloadBytes<'_>,
     buffer: &mut MainBuffer<A>,
@@ -50,8 +50,8 @@ fn enter_unit<A: Allocator>(
     true
 }
 
-// The stamp of a unit that is due at `due` units of 90 kHz, on the scale of a walk: the last moment that is not after
-// it, and the first that is not before it.
+// Returns the stamp of a unit that is due at `due` units of 90 kHz, on the scale of a walk, rounded down and rounded
+// up to whole moments.
 fn moments_of(walk: &PayloadBytes<'_>, due: u64) -> (u128, u128)
     ensures last { result.0 ≡ due_moment walk.now.rate (drain_of walk.now) due }
     ensures first { result.1 ≡ removal_time walk.now.rate (drain_of walk.now) due }

@@ -1,4 +1,4 @@
--- Bytes that arrive at a transport buffer, and the excess of it that they end, begin or grow.
+-- Bytes that arrive at a transport buffer, and the excess that they end, begin or increase.
 use Rattle.std.specs.Prelude.{◌≡◌, ℕ, ◌+◌, ◌<◌, ◌≤◌, ◌^◌, List, Option}
 use Rattle.std.specs.Option.{option_to_list}
 use Rattle.arrival.specs.declared.row.Row.{Row}
@@ -19,7 +19,7 @@ pub record CanArrive (buffer : TransportBuffer) (watch : ExcessWatch) (row : Row
   pub size : 0 < watch.size
   pub bound : watch.size ≤ 2 ^ 40
 
--- bytes have arrived at these times at a buffer as it was before them: the excess that has ended, and the one that is under way
+-- the change when bytes arrive at these times at the buffer: `excess` is the excess that has ended, `new` holds the current excess
 pub record HaveArrived (buffer : TransportBuffer) (times : List ℕ) (old new : ExcessWatch) (excess : Option Excess) : Type 0 where
   pub ended : option_to_list excess ≡ excesses_ended buffer.step old.size buffer.last old.under_way times
   pub under_way : new.under_way ≡ excess_after buffer.step old.size buffer.last old.under_way times

@@ -1,8 +1,8 @@
 -- How long a buffer is not empty. A transport buffer, and by the leak method a multiplexing buffer, is empty at least once a second (ISO/IEC
 -- 13818-1, 2.4.2.6).
 --
--- A buffer is looked at when bytes arrive, all those of a row together: it is empty before them if the last byte before them has left by
--- then. So it counts as not empty from the first byte of a row on, until the last byte of the last row has left before the next one.
+-- A buffer is tested once a row, when the first byte of the row arrives: it is empty then if the byte before the row has left. So a buffer is taken as not
+-- empty from the first byte of a row until the last byte of the last row has left before the next row.
 use Rattle.std.specs.Prelude.{ℕ, ◌+◌, ◌-◌, ◌*◌, ◌/◌, ◌^◌, min, nat_lt, Bool, if◌then◌else◌, List, [], ◌∷◌, Option, Some, None}
 use Rattle.tstd_rows.specs.History.{Part, last_of, left_after}
 use Rattle.tstd_rows.specs.History.Part.{Passes, Carries, Begins}
@@ -14,15 +14,15 @@ use Rattle.tstd_rows.specs.declared.busy_watch.Stay.{Stay}
 abbrev pub second_of : ℕ → ℕ → ℕ
 second_of step rx = step * rx / 8
 
--- a buffer before its first byte, which may be not empty for so long
+-- a buffer before its first byte; it may be not empty for at most `limit`
 abbrev pub never_busy : ℕ → BusyWatch
 never_busy limit = record { limit = limit; since = 0; count = 0; last = record { begin = 0; end = 0 } }
 
--- it was not empty for longer until `prev`
+-- the buffer was not empty for longer than `limit`, until `prev`
 abbrev pub is_overlong : BusyWatch → ℕ → Bool
 is_overlong w prev = nat_lt w.limit (prev - w.since)
 
--- bytes arrive from t on, the last byte before them leaves at `prev`: it is empty before them, or goes on
+-- bytes arrive from t on, and the last byte before them leaves at `prev`: either the buffer is empty before them, or its current stay continues
 abbrev pub busy_again : BusyWatch → ℕ → ℕ → BusyWatch
 busy_again w prev t = record {
   limit = w.limit;
@@ -34,25 +34,25 @@ busy_again w prev t = record {
 abbrev pub busy_at : BusyWatch → ℕ → ℕ → BusyWatch
 busy_at w prev t = if nat_lt prev t then busy_again w prev t else w
 
--- a row of them
+-- the same for the bytes of a row
 unfoldable pub busy_with : BusyWatch → ℕ → List ℕ → BusyWatch
 busy_with w prev [] = w
 busy_with w prev (t ∷ ts) = busy_at w prev t
 
--- the transport buffer once these parts have come: it is looked at when bytes come that go no further, as the header of each packet
+-- the transport buffer after these parts: it is tested when bytes arrive that stop there, such as the header of each packet
 unfoldable pub busy_of : ℕ → ℕ → List Part → BusyWatch
 busy_of step limit [] = never_busy limit
 busy_of step limit (Passes times ∷ before) = busy_with (busy_of step limit before) (last_of step before) times
 busy_of step limit (Carries times ∷ before) = busy_of step limit before
 busy_of step limit (Begins due ∷ before) = busy_of step limit before
 
--- and the multiplexing buffer: when payload bytes come from the transport buffer
+-- the multiplexing buffer after these parts: it is tested when payload bytes leave the transport buffer
 unfoldable pub leak_busy : ℕ → ℕ → ℕ → List Part → BusyWatch
 leak_busy rate leak limit [] = never_busy limit
 leak_busy rate leak limit (Passes times ∷ before) = leak_busy rate leak limit before
 leak_busy rate leak limit (Carries times ∷ before) = busy_with (leak_busy rate leak limit before) (last_leaked rate leak before) (left_after rate before times)
 leak_busy rate leak limit (Begins due ∷ before) = leak_busy rate leak limit before
 
--- the stay under way, if it is longer once the last byte has left at `last`
+-- the current stay, if it is longer than the limit when the last byte has left at `last`
 abbrev pub busy_under_way : BusyWatch → ℕ → Option Stay
 busy_under_way w last = if is_overlong w last then Some (record { begin = w.since; end = last }) else None

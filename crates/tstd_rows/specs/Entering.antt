@@ -1,5 +1,4 @@
--- A packet enters the buffers of its stream: its header and adaptation field first, and then its payload, with which a unit may
--- begin (ISO/IEC 13818-1, 2.4.2.3).
+-- A packet enters the buffers of its stream: first its header and adaptation field, then its payload, where a unit may begin (ISO/IEC 13818-1, 2.4.2.3).
 use Rattle.std.specs.Prelude.{ℕ, ◌+◌, ◌-◌, ◌*◌, ◌==◌, ◌&&◌, min, max, nat_le, nat_lt, Bool, true, false, if◌then◌else◌, List, [], ◌++◌, Option, Some, None}
 use Rattle.std.specs.Option.{option_to_list}
 use Rattle.arrival.specs.declared.arrival.Arrival.{Arrival}
@@ -15,8 +14,8 @@ use Rattle.tstd_rows.specs.declared.arriving.Arriving.{Arriving}
 use Rattle.tstd_rows.specs.declared.arriving.UnitPart.{UnitPart}
 use Rattle.tstd_rows.specs.declared.entered.Entered.{Entered}
 
--- what has ended with a packet: excesses of the transport buffer, of the main buffer, and the unit before one that begins; the most
--- that was in each buffer when a byte of it entered, and the least that one found in the main buffer
+-- the results of a packet: the excesses of the transport buffer and of the main buffer that have ended, and the unit before a unit that begins; the most
+-- bytes in each buffer when a byte entered it, and the fewest bytes that a byte found in the main buffer
 pub record EnteredView : Type 0 where
   pub transport : List Excess
   pub main : List Excess
@@ -53,14 +52,14 @@ nothing_entered =
 abbrev pub nothing : EnteredView
 nothing = record { transport = []; main = []; unit = None; transport_most = 0; main_most = 0; main_least = None }
 
--- the bytes of its payload; and how many of those before them lie on the first of two lines, where the second begins within the packet
+-- the size of its payload; and how many of the bytes before the payload lie on the first line, if a second line begins within the packet
 abbrev pub size_of : Arriving → ℕ
 size_of p = min p.size 184
 
 abbrev pub lead_in : Arrival → Arriving → ℕ
 lead_in arrival p = min (lead_of arrival (188 * p.index)) (188 - size_of p)
 
--- a unit that begins ends the one before it
+-- a unit that begins ends the unit before it
 unfoldable pub after_begin : Held → Option DueTime → Held
 after_begin h None = h
 after_begin h (Some due) = begun h due
@@ -69,7 +68,7 @@ unfoldable pub unit_ended : Held → Option DueTime → Option UnitSeen
 unit_ended h None = None
 unit_ended h (Some due) = unit_before h
 
--- a payload of so many bytes, that goes on or not
+-- a payload of `count` bytes, which enters the main buffer or not
 unfoldable pub after_payload : Held → Bool → ℕ → List ℕ → Held
 after_payload h enters count times = if count == 0 then h else if enters then carried h times else passed h times
 
@@ -88,8 +87,8 @@ payload_main_most h enters count times = if count == 0 then 0 else if enters the
 unfoldable pub payload_main_least : Held → Bool → ℕ → List ℕ → Option ℕ
 payload_main_least h enters count times = if count == 0 then None else if enters then main_least_found h times else None
 
--- n bytes of the stream from byte i on, none where there are none: what is held then, the excesses that have ended,
--- the most that was in each buffer, and the least that one found in the main buffer
+-- n bytes of the stream from byte i on, where n may be 0: the state after them, the excesses that have ended, the most bytes in each buffer, and the fewest
+-- bytes that a byte found in the main buffer
 abbrev pub after_bytes : Held → Arrival → Bool → ℕ → ℕ → Held
 after_bytes h arrival enters i n = after_payload h enters n (times_at arrival h.rx i n)
 
@@ -108,11 +107,12 @@ bytes_main_most h arrival enters i n = payload_main_most h enters n (times_at ar
 abbrev pub bytes_main_least : Held → Arrival → Bool → ℕ → ℕ → Option ℕ
 bytes_main_least h arrival enters i n = payload_main_least h enters n (times_at arrival h.rx i n)
 
--- a packet enters as long as its bytes have times and no more than 2^40 bytes come
+-- a packet enters as long as its bytes have times and no more than 2^40 bytes arrive
 abbrev pub takes_in : Held → Arrival → Arriving → Bool
 takes_in h arrival p = nat_lt p.index last_index && nat_le (transport_of h.rate h.parts).bytes last_bytes && has_times arrival (188 * p.index) 188
 
--- its first bytes up to where another line begins, the rest of what stands before its payload, the unit that begins, and its payload
+-- the parts of a packet in order: its first bytes up to where a second line begins, the rest of the bytes before its payload, the unit that begins, and its
+-- payload
 abbrev pub after_lead : Held → Arrival → Arriving → ℕ → Held
 after_lead h arrival p lead = after_bytes h arrival false (188 * p.index) lead
 
@@ -122,7 +122,7 @@ after_header h arrival p size lead = after_bytes (after_lead h arrival p lead) a
 abbrev pub after_unit : Held → Arrival → Arriving → ℕ → ℕ → Held
 after_unit h arrival p size lead = after_begin (after_header h arrival p size lead) p.begins
 
--- or the first bytes of its payload alone
+-- the same with only the first `count` bytes of its payload
 abbrev pub with_first : Held → Arrival → Arriving → ℕ → ℕ → ℕ → Held
 with_first h arrival p size lead count = after_bytes (after_unit h arrival p size lead) arrival p.enters (188 * p.index + (188 - size)) count
 
@@ -135,7 +135,7 @@ after h arrival p = if takes_in h arrival p then with_packet h arrival p (size_o
 unfoldable pub after_first : Held → Arrival → Arriving → ℕ → Held
 after_first h arrival p count = if takes_in h arrival p then with_first h arrival p (size_of p) (lead_in arrival p) count else h
 
--- and what has ended, and was found
+-- the results of the packet with the first `count` bytes of its payload
 abbrev pub ended_first : Held → Arrival → Arriving → ℕ → ℕ → ℕ → EnteredView
 ended_first h arrival p size lead count = record {
   transport = bytes_transport h arrival (188 * p.index) lead
@@ -160,8 +160,7 @@ entered h arrival p = if takes_in h arrival p then ended_with h arrival p (size_
 unfoldable pub entered_first : Held → Arrival → Arriving → ℕ → EnteredView
 entered_first h arrival p count = if takes_in h arrival p then ended_first h arrival p (size_of p) (lead_in arrival p) count else nothing
 
--- An access unit that begins within a payload: its bytes enter as those of a unit of its own (2.4.2.3), as long as they have times and no more
--- than 2^40 bytes come
+-- An access unit that begins within a payload: its bytes enter as a unit of its own (2.4.2.3), as long as they have times and no more than 2^40 bytes enter
 
 abbrev pub takes_part : Held → Arrival → UnitPart → Bool
 takes_part h arrival p =

@@ -1,5 +1,5 @@
--- A packet enters the buffers of its stream: what has ended with it of the two buffers of video after its transport buffer, if they are viewed
--- (ISO/IEC 13818-1, 2.4.2.3).
+-- A packet enters the buffers of its stream: its results in the two buffers of video after the transport buffer, if they are viewed (ISO/IEC 13818-1,
+-- 2.4.2.3).
 use Rattle.std.specs.Prelude.{ℕ, ◌+◌, ◌-◌, ◌*◌, ◌==◌, Bool, if◌then◌else◌, List, Option, Some, None}
 use Rattle.arrival.specs.declared.arrival.Arrival.{Arrival}
 use Rattle.arrival.specs.Arrivals.{times_at}
@@ -10,14 +10,14 @@ use Rattle.tstd_rows.specs.HeldVideo.{VideoEnteredView, VideoSizes, nothing_foun
 use Rattle.tstd_rows.specs.Entering.{after_header, after_unit, lead_in, size_of, takes_in}
 use Rattle.tstd_rows.specs.declared.arriving.Arriving.{Arriving}
 
--- a payload of so many bytes: if it goes on, its bytes enter the multiplexing buffer as they leave the transport buffer
+-- a payload of `count` bytes: if it enters the multiplexing buffer, its bytes do so as they leave the transport buffer
 unfoldable pub payload_video : Option VideoSizes → Held → Bool → ℕ → List ℕ → VideoEnteredView
 payload_video sizes h enters count times = if count == 0 then nothing_found else if enters then video_found sizes h.rate h.parts times else nothing_found
 
 abbrev pub bytes_video : Option VideoSizes → Held → Arrival → Bool → ℕ → ℕ → VideoEnteredView
 bytes_video sizes h arrival enters i n = payload_video sizes h enters n (times_at arrival h.rx i n)
 
--- a unit that begins ends the one before it
+-- a unit that begins ends the unit before it
 unfoldable pub video_unit_ended : Option VideoSizes → Held → Option DueTime → Option VideoUnit
 video_unit_ended sizes h None = None
 video_unit_ended sizes h (Some due) = video_unit sizes h.rate h.parts

@@ -7,29 +7,29 @@ use Rattle.std.specs.Option.{option_to_list}
 use Rattle.clock27.specs.Peak.{found}
 use Rattle.tstd_rows.specs.declared.excess.Excess.{Excess}
 
--- a byte finds no room that arrives at t, where the one before it leaves at `prev`: with it there are more than `size`
+-- a byte that arrives at t finds no room, if the byte before it leaves at `prev`: with this byte there are more than `size`
 abbrev pub is_over : ℕ → ℕ → ℕ → ℕ → Bool
 is_over step size prev t = nat_lt size (found step prev t)
 
--- when the buffer has room for a byte again, where the last one in it leaves at `last`
+-- when the buffer has room for a byte again, if the last byte in it leaves at `last`
 abbrev pub room_again : ℕ → ℕ → ℕ → ℕ
 room_again step size last = last - (size - 1) * step
 
--- an excess with a byte more that finds no room, or one that begins with it
+-- an excess increased by a byte that finds no room, or a new excess that begins with this byte
 unfoldable pub grown : ℕ → ℕ → ℕ → Option Excess → ℕ → Excess
 grown step size prev None t = record { begin = t; end = room_again step size (max t prev + step); peak = found step prev t }
 grown step size prev (Some e) t = record { begin = e.begin; end = room_again step size (max t prev + step); peak = max e.peak (found step prev t) }
 
--- the excess under way once a byte has arrived
+-- the current excess after a byte
 abbrev pub after_byte : ℕ → ℕ → ℕ → Option Excess → ℕ → Option Excess
 after_byte step size prev under_way t = if is_over step size prev t then Some (grown step size prev under_way t) else None
 
--- once these have
+-- the current excess after these bytes
 unfoldable pub excess_after : ℕ → ℕ → ℕ → Option Excess → List ℕ → Option Excess
 excess_after step size prev under_way [] = under_way
 excess_after step size prev under_way (t ∷ ts) = excess_after step size (max t prev + step) (after_byte step size prev under_way t) ts
 
--- and those that have ended by then, each before a byte that finds room
+-- the excesses that have ended by then, each before a byte that finds room
 unfoldable pub excesses_ended : ℕ → ℕ → ℕ → Option Excess → List ℕ → List Excess
 excesses_ended step size prev under_way [] = []
 excesses_ended step size prev under_way (t ∷ ts) =

@@ -1,5 +1,5 @@
--- What the buffers of a stream hold, by all that came of it: its rate and that out of its transport buffer in bits a second, the
--- parts of it (the last one first), and the excess of the main buffer that is under way.
+-- What the buffers of a stream hold after all its parts so far: the rate of the stream and the rate out of its transport buffer, both in bits a second, the
+-- parts (the last part first), and the current excess of the main buffer.
 use Rattle.std.specs.Prelude.{◌≡◌, ℕ, List, [], ◌∷◌, Option, None}
 use Rattle.std.specs.Option.{option_to_list}
 use Rattle.clock27.specs.Peak.{greatest_at, most_found}
@@ -24,11 +24,11 @@ pub record Held : Type 0 where
   pub parts : List Part
   pub main : MainWatch
 
--- nothing has come
+-- the state before the first part
 abbrev pub empty : ℕ → ℕ → ℕ → Held
 empty rate rx size = record { rate = rate; rx = rx; parts = []; main = record { size = size; under_way = None } }
 
--- buffers hold what came: a byte takes as many units of time to leave as the rate
+-- the buffers hold these parts; the step of the transport buffer is the rate
 pub record IsHeld (buffers : StreamBuffers) (h : Held) : Type 0 where
   pub rx : buffers.rx ≡ h.rx
   pub step : buffers.view.transport.step ≡ h.rate
@@ -37,53 +37,53 @@ pub record IsHeld (buffers : StreamBuffers) (h : Held) : Type 0 where
   pub main : buffers.main ≡ h.main
   pub busy : buffers.busy ≡ busy_of h.rate (second_of h.rate h.rx) h.parts
 
--- 1. What is in them
+-- 1. The state of the buffers
 
--- the most bytes that were in each
+-- the most bytes that each buffer has held
 abbrev pub transport_most : Held → ℕ
 transport_most h = (transport_of h.rate h.parts).most
 
 abbrev pub main_most : Held → ℕ
 main_most h = main_peak h.rate h.parts
 
--- the excess of the transport buffer that is under way
+-- the current excess of the transport buffer
 abbrev pub transport_under_way : Held → Option Excess
 transport_under_way h = excess_after h.rate tb_size 0 None (arrivals_of h.parts)
 
--- how long the transport buffer was not empty, and is not
+-- how long the transport buffer was not empty, and how long it has been not empty now
 abbrev pub transport_busy : Held → BusyWatch
 transport_busy h = busy_of h.rate (second_of h.rate h.rx) h.parts
 
 abbrev pub transport_busy_under_way : Held → Option Stay
 transport_busy_under_way h = busy_under_way (transport_busy h) (last_of h.rate h.parts)
 
--- the unit under way
+-- the current unit
 abbrev pub unit_before : Held → Option UnitSeen
 unit_before h = unit_of h.rate h.parts
 
 -- 2. Bytes that arrive at these times
 
--- the excesses of the transport buffer that end before one of them
+-- the excesses of the transport buffer that end before a byte that arrives at these times
 abbrev pub transport_ended : Held → List ℕ → List Excess
 transport_ended h times = excesses_ended h.rate tb_size (last_of h.rate h.parts) (transport_under_way h) times
 
--- the most that was in the transport buffer when one of them arrived, itself included
+-- the most bytes in the transport buffer when such a byte arrives, including this byte
 abbrev pub transport_found : Held → List ℕ → ℕ
 transport_found h times = most_found h.rate (last_of h.rate h.parts) times
 
--- they go no further than the transport buffer
+-- the state if these bytes stop at the transport buffer
 abbrev pub passed : Held → List ℕ → Held
 passed h times = record { rate = h.rate; rx = h.rx; parts = Passes times ∷ h.parts; main = h.main }
 
--- or they are of the unit under way: the most that is in the main buffer when one of them enters it
+-- if these bytes belong to the current unit: the most bytes in the main buffer when a byte of them enters it
 abbrev pub main_found : Held → List ℕ → ℕ
 main_found h times = greatest_at (main_fullness h.rate (Carries times ∷ h.parts)) (left_after h.rate h.parts times)
 
--- the least that one of them finds there, itself not counted
+-- the fewest bytes that such a byte finds there, not counting itself
 abbrev pub main_least_found : Held → List ℕ → Option ℕ
 main_least_found h times = row_least h.rate h.parts times
 
--- and when the last of them enters it
+-- when the last of these bytes enters the main buffer
 abbrev pub last_entry : Held → List ℕ → ℕ
 last_entry h times = last_of h.rate (Carries times ∷ h.parts)
 

@@ -1,6 +1,6 @@
--- What the two buffers of video after its transport buffer hold, by all that came of its stream: a multiplexing buffer and an elementary stream
--- buffer (ISO/IEC 13818-1, 2.4.2.3, the leak method). Lists of parts have the last one first; a byte takes `rate` to leave the transport
--- buffer, and `leak` to leave the multiplexing buffer.
+-- What the two buffers of video after its transport buffer hold after all parts of the stream so far: a multiplexing buffer and an elementary stream buffer
+-- (ISO/IEC 13818-1, 2.4.2.3, the leak method). Lists of parts begin with the last part; a byte takes `rate` to leave the transport buffer, and `leak` to
+-- leave the multiplexing buffer.
 use Rattle.std.specs.Prelude.{◌≡◌, ℕ, List, [], ◌∷◌, ◌++◌, Option, Some, None}
 use Rattle.std.specs.Option.{option_to_list}
 use Rattle.clock27.specs.Peak.{greatest_at, most_found}
@@ -19,7 +19,7 @@ use Rattle.tstd_rows.specs.declared.video_buffers.VideoRates.{VideoRates}
 use Rattle.tstd_rows.specs.declared.stream_buffers.StreamBuffers.{StreamBuffers}
 use Rattle.tstd_rows.specs.Held.{Held}
 
--- how long a byte takes to leave the multiplexing buffer, and the sizes of both in bytes
+-- how long a byte takes to leave the multiplexing buffer, and the sizes of both buffers in bytes
 pub record VideoSizes : Type 0 where
   pub leak : ℕ
   pub multiplexing : ℕ
@@ -27,16 +27,15 @@ pub record VideoSizes : Type 0 where
   -- how long the multiplexing buffer may be not empty
   pub second : ℕ
 
--- bytes of the unit under way that arrive at these times, after those parts: the most that is in the elementary stream buffer when one of them
--- enters it
+-- bytes of the current unit that arrive at these times after the parts `before`: the most bytes in the elementary stream buffer when such a byte enters it
 abbrev pub elementary_found : ℕ → ℕ → List Part → List ℕ → ℕ
 elementary_found rate leak before times = greatest_at (elementary_held rate leak (Carries times ∷ before)) (leaked_after rate leak before times)
 
--- and when the last of them does
+-- when the last of these bytes enters the elementary stream buffer
 abbrev pub last_entry : ℕ → ℕ → List Part → List ℕ → ℕ
 last_entry rate leak before times = last_leaked rate leak (Carries times ∷ before)
 
--- the excess of an elementary stream buffer of `size` bytes that is under way
+-- the current excess of an elementary stream buffer of `size` bytes
 unfoldable pub elementary_under_way : ℕ → ℕ → ℕ → List Part → Option Excess
 elementary_under_way rate leak size [] = None
 elementary_under_way rate leak size (Passes times ∷ before) = elementary_under_way rate leak size before
@@ -44,12 +43,12 @@ elementary_under_way rate leak size (Carries times ∷ before) =
     after_row size (elementary_under_way rate leak size before) (elementary_found rate leak before times) (last_entry rate leak before times)
 elementary_under_way rate leak size (Begins due ∷ before) = elementary_under_way rate leak size before
 
--- the excess of it that has ended once these bytes have come
+-- its excess that has ended after these bytes
 abbrev pub elementary_ended : ℕ → ℕ → ℕ → List Part → List ℕ → Option Excess
 elementary_ended rate leak size before times =
     ended_by size (elementary_under_way rate leak size before) (elementary_found rate leak before times) (last_entry rate leak before times)
 
--- buffers hold what came
+-- the buffers hold these parts
 pub record IsVideoHeld (video : VideoBuffers) (sizes : VideoSizes) (rate : ℕ) (parts : List Part) : Type 0 where
   pub leak : video.view.transport.step ≡ sizes.leak
   pub size : video.view.watch.size ≡ sizes.multiplexing
@@ -59,14 +58,14 @@ pub record IsVideoHeld (video : VideoBuffers) (sizes : VideoSizes) (rate : ℕ) 
   pub busy : video.busy ≡ leak_busy rate sizes.leak sizes.second parts
   pub rooms : AreRooms video.rooms rate sizes.leak sizes.elementary parts
 
--- those of a stream, if it has them: of sizes, or there are none
+-- the video buffers of a stream hold these parts and have these sizes, or the stream has neither buffers nor sizes
 abbrev pub HoldsVideo : Option VideoBuffers → Option VideoSizes → ℕ → List Part → Type 0
 HoldsVideo None None rate parts = Unit {0}
 HoldsVideo None (Some sizes) rate parts = ⊥
 HoldsVideo (Some v) None rate parts = ⊥
 HoldsVideo (Some v) (Some sizes) rate parts = IsVideoHeld v sizes rate parts
 
--- what has ended once these bytes have come: excesses of both, and the most that was in each when one of the bytes entered it
+-- the results of these bytes: the excesses of both buffers that have ended, and the most bytes in each buffer when a byte entered it
 pub record VideoEnteredView : Type 0 where
   pub multiplexing : List Excess
   pub elementary : Option Excess
@@ -89,7 +88,7 @@ video_entered sizes rate before times = record {
   elementary_most = elementary_found rate sizes.leak before times;
 }
 
--- the same of a stream that may have none, and the unit under way in them
+-- the same for a stream that may have no video buffers, and the current unit in them
 abbrev pub nothing_found : VideoEnteredView
 nothing_found = record { multiplexing = []; elementary = None; multiplexing_most = 0; elementary_most = 0 }
 
@@ -107,7 +106,7 @@ video_unit (Some sizes) rate parts = video_unit_in sizes rate parts
 abbrev pub nothing_of_video : VideoEntered
 nothing_of_video = record { waiting = None; free = None; elementary = None; unit = None; multiplexing_most = 0; elementary_most = 0 }
 
--- the sizes of those of a stream at that rate, drained at `rx` bits a second
+-- the sizes of the video buffers for a stream at `rate` bits a second, whose transport buffer is drained at `rx` bits a second
 abbrev pub sizes_of : ℕ → ℕ → VideoRates → VideoSizes
 sizes_of rate rx rates = record {
   leak = leak_step rate rx rates.rbx;
@@ -116,6 +115,6 @@ sizes_of rate rx rates = record {
   second = second_of rate rx;
 }
 
--- the buffers of a stream hold what came of it as video, if they view it so
+-- the video buffers of a stream, if it has any, hold its parts
 abbrev pub HoldsVideoOf : StreamBuffers → Option VideoSizes → Held → Type 0
 HoldsVideoOf buffers sizes h = HoldsVideo buffers.video sizes h.rate h.parts

@@ -1,4 +1,4 @@
--- The numbers by which a stream is viewed: the sizes of the buffers that have one size for all (ISO/IEC 13818-1, 2.4.2.3), and how much is viewed.
+-- The limits of a view: the buffer sizes that are the same for all streams (ISO/IEC 13818-1, 2.4.2.3), and how many bytes are viewed.
 use Rattle.std.specs.Prelude.{ℕ, ◌-◌, ◌^◌}
 pub use Rattle.unit_timing.specs.Buffers.{bsys_size, tb_size}
 
@@ -10,6 +10,6 @@ most_bytes = 2 ^ 40
 abbrev pub last_index : ℕ
 last_index = 5848000000
 
--- and a packet finds at most so many before it
+-- the most bytes before a packet that enters
 abbrev pub last_bytes : ℕ
 last_bytes = most_bytes - 188

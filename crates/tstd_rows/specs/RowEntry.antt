@@ -8,14 +8,14 @@ use Rattle.tstd.specs.BufferState.{fullness_at}
 abbrev pub has_entered : ℕ → ℕ → ℕ → Bool
 has_entered until x t = nat_le t x && nat_lt x until
 
--- the number of them that are
+-- the number of these bytes that are in the buffer at the moment x
 abbrev pub entered : ℕ → ℕ → List ℕ → ℕ
 entered until x times = count_by (has_entered until x) times
 
--- the bytes in a buffer at the moment x, with these
+-- the bytes in a buffer at the moment x, including these bytes
 abbrev pub fullness_with : {A : Type 0} → MainBuffer A → List ℕ → ℕ → ℕ
 fullness_with buffer times x = fullness_at buffer x + entered buffer.current.until x times
 
--- the most of them at the entry of one of these, and so far
+-- the greatest fullness so far, including the entries of these bytes
 abbrev pub peak_with : {A : Type 0} → MainBuffer A → List ℕ → ℕ
 peak_with buffer times = max buffer.peak (greatest_at (fullness_with buffer times) times)

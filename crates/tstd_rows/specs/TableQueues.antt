@@ -1,8 +1,8 @@
--- The two buffers of a program's tables, one after the other.
+-- The two buffers of the tables of a program, in series.
 use Rattle.std.specs.Prelude.{ℕ, ◌+◌, ◌*◌, ◌<◌, ◌≤◌, ◌^◌}
 use Rattle.tstd_rows.specs.declared.watched_queue.WatchedQueue.{WatchedQueue}
 
--- once so many bytes have arrived, it is bounded when the last of them leaves each buffer, and how long one has stayed there
+-- bounds after `bytes` bytes have arrived: when the last byte leaves each buffer, and the longest time that a byte has stayed there
 pub record AreInTime (transport system : WatchedQueue) (bytes : ℕ) : Type 0 where
   pub some : 0 < transport.queue.step
   pub slow : transport.queue.step ≤ 2 ^ 33

@@ -4,7 +4,7 @@ use Rattle.tstd_rows.specs.declared.system_buffers.EndedExcesses.{EndedExcesses}
 use Rattle.tstd_rows.specs.declared.watched_queue.WatchedQueue.{WatchedQueue}
 use Rattle.tstd_rows.specs.WatchedQueues.{all_entered, ended_by, left_at}
 
--- bytes that arrive at these times pass the first buffer and what leaves it the second, and the excesses that end are appended
+-- bytes that arrive at these times pass the first buffer and then the second, and the excesses that end are appended
 pub record HavePassed (times : List ℕ) (first second first' second' : WatchedQueue) (before after : EndedExcesses) : Type 0 where
   pub transport : first' ≡ all_entered first times
   pub system : second' ≡ all_entered second (left_at first times)

@@ -18,7 +18,7 @@ empty step = record { step = step; bytes = 0; last = 0; most = 0 }
 abbrev pub EnteredLaw : Type 0
 EnteredLaw = (buffer : TransportBuffer) (times more : List ℕ) → entered (entered buffer times) more ≡ entered buffer (times ++ more)
 
--- the times rise: none is before `from`, nor before the one before it
+-- the times rise: no time is before `from`, nor before the time in front of it
 unfoldable pub Rises : ℕ → List ℕ → Type 0
 Rises from [] = Unit {0}
 Rises from (t ∷ ts) = (from ≤ t) × Rises t ts
@@ -27,36 +27,36 @@ Rises from (t ∷ ts) = (from ≤ t) × Rises t ts
 abbrev pub RowRises : Type 0
 RowRises = (from pace parts n : ℕ) → 0 < parts → Rises (from / parts) (times_in_row from pace parts n)
 
--- and so do those of bytes before bytes that arrive later
+-- rising times followed by later rising times rise
 abbrev pub RisesAppended : Type 0
 RisesAppended = (from middle : ℕ) (times more : List ℕ) → Rises from times → from ≤ middle → All (λ t. t ≤ middle) times → Rises middle more →
     Rises from (times ++ more)
 
--- at a moment at or after the last arrival the state's level is the fullness
+-- at a moment at or after the last arrival the level of the state is the fullness
 abbrev pub LevelLaw : Type 0
 LevelLaw = (step moment : ℕ) (times : List ℕ) → 0 < step → All (λ t. t ≤ moment) times →
     fullness moment times (departures step 0 times) ≡ level_at (entered (empty step) times) moment
 
--- and its most is the greatest fullness over all moments
+-- the `most` of the state is the greatest fullness over all moments
 abbrev pub MostLaw : Type 0
 MostLaw = (step : ℕ) (times : List ℕ) → 0 < step → Rises 0 times →
     IsPeak (λ x. fullness x times (departures step 0 times)) (entered (empty step) times).most
 
--- all excesses of bytes that arrive at an empty buffer, the one under way at the end too
+-- all excesses of bytes that arrive at an empty buffer, including the current excess at the end
 abbrev pub excesses : ℕ → ℕ → List ℕ → List Excess
 excesses step size times = excesses_ended step size 0 None times ++ option_to_list (excess_after step size 0 None times)
 
--- one of these excesses lasts at the moment x
+-- an excess of the list lasts at the moment x
 unfoldable pub OneLasts : ℕ → List Excess → Type 0
 OneLasts x [] = ⊥
 OneLasts x (e ∷ es) = ((e.begin ≤ x) × (x < e.end)) ⊎ OneLasts x es
 
--- one lasts at each moment at which more than `size` bytes are in the buffer
+-- an excess lasts at each moment at which there are more than `size` bytes in the buffer
 abbrev pub OverLaw : Type 0
 OverLaw = (step size : ℕ) (times : List ℕ) (x : ℕ) → 0 < step → 0 < size → Rises 0 times →
     size < fullness x times (departures step 0 times) → OneLasts x (excesses step size times)
 
--- and while one lasts there is no room for a byte
+-- while an excess lasts there is no room for a byte
 abbrev pub FullLaw : Type 0
 FullLaw = (step size : ℕ) (times : List ℕ) (x : ℕ) → 0 < step → 0 < size → Rises 0 times →
     OneLasts x (excesses step size times) → size ≤ fullness x times (departures step 0 times)

@@ -1,4 +1,4 @@
--- How many bytes have come to the buffers of video.
+-- The number of bytes that have arrived at the video buffers.
 use Rattle.std.specs.Prelude.{ℕ, Option, Some, None}
 use Rattle.tstd_rows.specs.declared.video_buffers.VideoBuffers.{VideoBuffers}
 

@@ -9,14 +9,13 @@ use Rattle.tstd_rows.specs.History.{Part, arrivals_of, transport_of, main_fullne
 use Rattle.tstd_rows.specs.SystemViewed.{IsSystemViewOf}
 use Rattle.tstd_rows.specs.declared.system_buffers.SystemView.{SystemView}
 
--- where no byte arrives before an earlier one, the figures are the greatest fullness over all moments: of the transport
--- buffer, and of the main buffer
+-- if the times of arrival rise, the figures are the greatest fullness over all moments: of the transport buffer, and of the main buffer
 abbrev pub FiguresLaw : Type 0
 FiguresLaw = (step : ℕ) (parts : List Part) → 0 < step → Rises 0 (arrivals_of parts) →
     IsPeak (λ x. fullness x (arrivals_of parts) (departures step 0 (arrivals_of parts))) (transport_of step parts).most
     × IsPeak (main_fullness step parts) (main_peak step parts)
 
--- and so are those of a program's tables, which pass one buffer after the other
+-- the same for the tables of a program, which pass two buffers in series
 abbrev pub TablesLaw : Type 0
 TablesLaw = (view : SystemView) (step system_step : ℕ) (times : List ℕ) → 0 < step → 0 < system_step → Rises 0 times →
     IsSystemViewOf view step system_step times →

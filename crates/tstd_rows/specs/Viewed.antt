@@ -5,9 +5,8 @@ use Rattle.tstd.specs.BufferState.{fullness_at}
 use Rattle.tstd_rows.specs.History.{Part, arrivals_of, transport_of, main_fullness, main_peak, until_of, unit_of}
 use Rattle.tstd_rows.specs.declared.viewed_buffers.StreamView.{StreamView}
 
--- its transport buffer is one that these bytes have entered, its excess under way is theirs, its main buffer holds at each
--- moment from the last departure on what they leave there, and the most that it held is the most at an entry; and the unit
--- under way is theirs
+-- the view has received these parts: its transport buffer and current excess follow from their bytes, its main buffer holds their payload at each moment from
+-- the last departure on, its peak is the most bytes at an entry, and its current unit is the last unit of these parts
 pub record IsViewOf {A : Type 0} (view : StreamView A) (parts : List Part) : Type 0 where
   pub arrived : view.transport ≡ transport_of view.transport.step parts
   pub watched : view.watch.under_way ≡ excess_after view.transport.step view.watch.size 0 None (arrivals_of parts)

@@ -7,9 +7,9 @@ use crate::unit_seen::DueTime;
 pub struct Arriving {
     /// Its place among all packets.
     pub index: u64,
-    /// The number of bytes of its payload: 184 at most count.
+    /// The size of its payload in bytes; at most 184 are used.
     pub size: u64,
-    /// When the unit is due that begins with its payload, if one does.
+    /// When the unit is due that begins with its payload, if any.
     pub begins: Option<DueTime>,
     /// Whether its payload continues to the main buffer.
     pub enters: bool,
@@ -18,9 +18,9 @@ pub struct Arriving {
 /// The bytes of an access unit that begins within the payload of a packet, as far as they are in that payload.
 #[derive(Clone, Copy)]
 pub struct UnitPart {
-    /// The first of them among all bytes of the transport stream.
+    /// The index of the first of these bytes in the transport stream.
     pub byte: u64,
-    /// The number of them: 188 at most count.
+    /// The number of these bytes; at most 188 are used.
     pub size: u64,
     /// When the access unit is due.
     pub due: DueTime,

@@ -14,8 +14,8 @@ pub struct Stay {
     pub end: u128,
 }
 
-/// How long a buffer may be not empty, since when it is not, how many times it was not empty for longer, and the last
-/// of these.
+/// How long a buffer may be not empty, since when it is not empty, how many times it was not empty for longer, and the
+/// last such time.
 #[derive(Clone, Copy)]
 pub struct BusyWatch {
     pub limit: u128,
@@ -37,8 +37,7 @@ impl BusyWatch {
         }
     }
 
-    // The buffer was empty before bytes that arrive from `first` on. A call of its own: few times are longer than they
-    // may be.
+    // Notes a stay longer than the limit, which ended at `prev`. A call of its own: few stays are too long.
     #[inline(never)]
     fn note(&mut self, prev: u128)
         ensures { self.new ≡ record self.old {
@@ -53,7 +52,7 @@ impl BusyWatch {
         };
     }
 
-    // Bytes arrive from `first` on, and the last byte before them leaves at `prev`.
+    // Notes bytes that arrive from `first` on, if the last byte before them leaves at `prev`.
     #[inline(always)]
     fn see_at(&mut self, prev: u128, first: u128)
         ensures { self.new ≡ spec.busy_at self.old prev first }
@@ -93,8 +92,7 @@ impl BusyWatch {
         }
     }
 
-    /// Returns the time since when the buffer is not empty, if it is longer than it may be once the last byte has left
-    /// at `last`.
+    /// Returns the current stay, if it is longer than the limit when the last byte has left at `last`.
     pub fn under_way(&self, last: u128) -> Option<Stay>
         ensures { result ≡ spec.busy_under_way self.now last }
     {

@@ -7,7 +7,7 @@ ghost use Rattle.tstd_rows.specs.Excesses.{after_byte, excesses_ended};
 use crate::excess::{Excess, ExcessWatch};
 use crate::most_found::found;
 
-// An excess with a byte more that finds no room, or one that begins with it.
+// Returns the excess increased by a byte that finds no room, or a new excess that begins with this byte.
 #[tactic(auto, unfolding(crate::specs::Excesses::grown))]
 fn grown(under_way: &Option<Excess>, size: u64, step: u64, prev: u128, time: u128) -> Excess
     requires some { 0 < step }
@@ -33,8 +33,8 @@ fn grown(under_way: &Option<Excess>, size: u64, step: u64, prev: u128, time: u12
 }
 
 impl ExcessWatch {
-    /// Takes a byte that arrives at a buffer, which a byte takes `step` to leave and the last one in it leaves at
-    /// `prev`; returns the excess that has ended before it.
+    /// Takes a byte that arrives at a buffer, where a byte takes `step` to leave and the last byte leaves at `prev`;
+    /// returns the excess that has ended before it.
     #[tactic(auto, unfolding(crate::specs::Excesses::excesses_ended))]
     pub fn enter_byte(&mut self, step: u64, prev: u128, time: u128) -> Option<Excess>
         requires some { 0 < step }

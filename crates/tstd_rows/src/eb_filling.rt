@@ -1,4 +1,4 @@
-//! Bytes that go to the elementary stream buffer of video, and the room for those that come next.
+//! Bytes that enter the elementary stream buffer of video, and the room for the next bytes.
 ghost use Rattle.std.specs.Prelude.{◌≡◌, ℕ, ◌-◌, ◌≤◌, ◌++◌, length, replicate, take, drop, OnOk};
 ghost use Rattle.clock27.specs.Departure.{last_left};
 ghost use Rattle.tstd_rows.specs.RoomTimes.{capped, raised, rooms_waiting};
@@ -9,7 +9,7 @@ use std::alloc::{AllocError, Global};
 use std::collections::VecDeque;
 use tstd::BufferedUnit;
 
-// So many bytes go, for which there is room from `until` on: when the last of them does.
+// Returns when the last of `count` bytes goes, if there is room for them from `until` on.
 #[tactic(auto, using(crate::proofs::RoomRows::gone_none, crate::proofs::RoomRows::gone_some))]
 fn gone(last: u128, until: u128, leak: u64, count: u64) -> u128
     ensures { result ≡ capped (last_left leak last (replicate count until)) }
@@ -23,7 +23,7 @@ fn gone(last: u128, until: u128, leak: u64, count: u64) -> u128
 }
 
 impl EbRooms {
-    /// Returns those of an empty buffer of `size` bytes.
+    /// Returns the room of an empty buffer of `size` bytes.
     pub fn new(alloc: Global, size: u64) -> EbRooms
         ensures rooms { rooms_now result ≡ replicate size 0 }
         ensures last { result.last ≡ 0 }
@@ -37,7 +37,7 @@ impl EbRooms {
         }
     }
 
-    /// Bytes that come next go no earlier than `now`: there is room for those whose time has come.
+    /// Frees the room whose time has come by `now`; no later byte goes before `now`.
     pub fn settle(&mut self, now: u128)
         ensures rooms { (from : ℕ) → now ≤ from → raised from (rooms_now self.new) ≡ raised from (rooms_now self.old) }
         ensures many { length (rooms_now self.new) ≡ length (rooms_now self.old) }
@@ -53,7 +53,7 @@ impl EbRooms {
         }
     }
 
-    // So many bytes go, of those for which there is room at once: how many are left to go.
+    // Lets up to `count` bytes go into the room that is free at once; returns how many bytes remain.
     fn take_free(&mut self, leak: u64, count: u64) -> u64
         ensures rest { result ≡ count - self.old.free }
         ensures free { self.new.free ≡ self.old.free - count }
@@ -67,7 +67,7 @@ impl EbRooms {
         count - free
     }
 
-    // And of units that wait.
+    // Does the same for the room of units that wait.
     fn take_waiting(&mut self, leak: u64, count: u64) -> u64
         ensures rest { result ≡ count - length (rooms_waiting self.old.waiting.items) }
         ensures rooms { rooms_waiting self.new.waiting.items ≡ drop count (rooms_waiting self.old.waiting.items) }
@@ -89,7 +89,7 @@ impl EbRooms {
         rest
     }
 
-    /// Takes bytes of the current unit: as many go.
+    /// Takes `count` bytes of the current unit, which go when there is room.
     pub fn take(&mut self, leak: u64, count: u64)
         ensures rooms { rooms_now self.new ≡ drop count (rooms_now self.old ++ replicate count self.old.current.until) }
         ensures last { self.new.last
@@ -102,7 +102,8 @@ impl EbRooms {
         self.current.bytes += count - rest;
     }
 
-    // The current unit waits: with the unit in front of it, if that is gone no earlier.
+    // Puts the current unit among the units that wait, or merges it with the unit in front of it if that is removed no
+    // earlier.
     fn put_by(&mut self) -> Result<(), AllocError>
         ensures rooms { OnOk result ((from : ℕ) → raised from (rooms_now self.new) ≡ raised from (rooms_now self.old)) }
         ensures many { OnOk result (length (rooms_now self.new) ≡ length (rooms_now self.old)) }

@@ -23,7 +23,7 @@ use std::alloc::{AllocError, Global};
 /// The size of a transport buffer in bytes (ISO/IEC 13818-1, 2.4.2.3).
 pub const TRANSPORT_BYTES: u64 = 512;
 
-// What no bytes find.
+// The result for no bytes.
 const NO_ROW: RowFound = RowFound {
     transport: 0,
     main: 0,
@@ -31,7 +31,7 @@ const NO_ROW: RowFound = RowFound {
 };
 
 impl StreamBuffers {
-    /// Returns empty ones, the main buffer of `size` bytes, for packets that arrive so.
+    /// Returns empty buffers, the main buffer of `size` bytes, for packets with this arrival.
     #[tactic(auto, unfolding(crate::specs::Busy::busy_of))]
     pub fn new(alloc: Global, arrival: &Arrival, rx: u32, size: u64) -> StreamBuffers
         requires { rx ≤ 200000000 }
@@ -47,7 +47,7 @@ impl StreamBuffers {
         }
     }
 
-    /// Views the two buffers of video too, from now on: before anything has arrived.
+    /// Adds the two buffers of video to the view; call it before anything has arrived.
     pub fn view_video(&mut self, alloc: Global, rates: &VideoRates)
         requires drained { 0 < self.old.rx }
         requires rbx { 64000 ≤ rates.now.rbx }
@@ -102,22 +102,22 @@ impl StreamBuffers {
         self.view.unit
     }
 
-    /// Returns how often the transport buffer was not empty for longer than a second, and the last time when it was.
+    /// Returns how often the transport buffer was not empty for longer than a second, and the last such time.
     pub fn busy(&self) -> BusyWatch
         ensures { (h : Held) → IsHeld self.now h → result ≡ transport_busy h }
     {
         self.busy
     }
 
-    /// Returns the time since when it is not empty, if it is longer than a second.
+    /// Returns the current [`Stay`] of the transport buffer, if it is longer than a second.
     pub fn busy_under_way(&self) -> Option<Stay>
         ensures { (h : Held) → IsHeld self.now h → result ≡ transport_busy_under_way h }
     {
         self.busy.under_way(self.view.transport.last)
     }
 
-    // Bytes of the stream that go no further than the transport buffer, from byte `byte` on: the most that one of them
-    // found. The excess that has ended is written where none is yet.
+    // Takes bytes of the stream from byte `byte` on that stop at the transport buffer; returns the most bytes that a
+    // byte found. Writes the excess that has ended into `ended`, which must be empty.
     #[inline(always)]
     fn pass(&mut self, arrival: &Arrival, byte: u64, count: u64, ended: &mut Option<Excess>) -> u128
         requires some { 0 < count }
@@ -139,7 +139,7 @@ impl StreamBuffers {
         self.view.pass(&row, ended)
     }
 
-    // Bytes before a payload, none where there are none.
+    // Takes `count` bytes before a payload; `count` may be 0.
     #[inline(always)]
     #[tactic(auto, unfolding(crate::specs::Entering::after_payload, crate::specs::Entering::payload_transport, crate::specs::Entering::payload_transport_most))]
     pub(crate) fn pass_if(
@@ -167,7 +167,8 @@ impl StreamBuffers {
         }
     }
 
-    // Bytes of the unit under way: what they found. The excesses that have ended are written where none are yet.
+    // Takes bytes of the current unit; returns what they found. Writes the excesses that have ended where none are
+    // yet.
     #[inline(always)]
     fn carry(
         &mut self,
@@ -219,7 +220,7 @@ impl StreamBuffers {
         carried.found
     }
 
-    // A unit begins: the one before it. A call of its own: few packets begin one.
+    // Begins a unit, and writes the unit before it. A call of its own: few packets begin a unit.
     #[inline(never)]
     #[tactic(auto, unfolding(crate::specs::Busy::busy_of))]
     pub(crate) fn begin_unit(
@@ -241,7 +242,7 @@ impl StreamBuffers {
         begin_video(&mut self.video, due, video)
     }
 
-    // A unit begins, if one does: the one before it is written where none is yet.
+    // Begins a unit, if any, and writes the unit before it into `unit`, which must be empty.
     #[inline(always)]
     #[tactic(auto, unfolding(crate::specs::Entering::after_begin, crate::specs::Entering::unit_ended, crate::specs::EnteringVideo::video_unit_ended))]
     pub(crate) fn begin(
@@ -266,8 +267,8 @@ impl StreamBuffers {
         }
     }
 
-    // Bytes of a payload from byte `byte` on, none where there are none: what they found. The excesses that have ended
-    // are written where none are yet.
+    // Takes `count` bytes of a payload from byte `byte` on; `count` may be 0. Returns what they found, and writes the
+    // excesses that have ended where none are yet.
     #[inline(always)]
     #[tactic(auto, unfolding(crate::specs::Entering::after_payload, crate::specs::Entering::payload_transport, crate::specs::Entering::payload_main, crate::specs::Entering::payload_transport_most, crate::specs::Entering::payload_main_most, crate::specs::Entering::payload_main_least, crate::specs::EnteringVideo::payload_video))]
     pub(crate) fn take(

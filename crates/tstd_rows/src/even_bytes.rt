@@ -11,8 +11,8 @@ use crate::excess::Excess;
 use crate::watched_queue::WatchedQueue;
 use arrival::Row;
 
-/// Bytes one after another, one at least: when the first arrives and when the last does, and that each comes `pace` of
-/// `parts` after the one before it.
+/// One or more bytes one after another: when the first and the last arrive, and that each arrives `pace` / `parts`
+/// after the byte before it.
 #[derive(Clone, Copy)]
 pub(crate) struct EvenBytes {
     pub first: u128,
@@ -22,7 +22,7 @@ pub(crate) struct EvenBytes {
     pub bytes: u64,
 }
 
-/// Returns the bytes of a row, if it has one.
+/// Returns the bytes of a row, if it has any.
 pub(crate) fn even_bytes(row: &Row) -> Option<EvenBytes>
     requires timed { IsTimed row.now }
     ensures even { IfSome result (λ even. AreEven even (times_of row.now)) }
@@ -42,9 +42,9 @@ pub(crate) fn even_bytes(row: &Row) -> Option<EvenBytes>
     })
 }
 
-// How bytes leave a buffer which a byte takes `step` to leave, and the last one before them leaves at `prev`, if they
-// leave at an even pace: where they come no slower than they leave, all wait for the first; where they come no faster
-// and the first does not wait, none does.
+// Returns how bytes leave a buffer, where a byte takes `step` to leave and the last byte before them leaves at `prev`,
+// if they leave at an even pace: if they arrive no slower than they leave, all wait for the first; if they arrive no
+// faster and the first does not wait, none waits.
 fn leave_evenly(step: u64, prev: u128, even: &EvenBytes) -> Option<EvenBytes>
     requires step { step ≤ 2 ^ 33 }
     requires prev { prev < 2 ^ 100 }
@@ -107,7 +107,7 @@ impl WatchedQueue {
         Some(left)
     }
 
-    /// They arrive, and leave so: the excess that has ended before them.
+    /// Takes bytes that arrive and leave at these times; returns the excess that has ended before them.
     pub(crate) fn pass(&mut self, even: &EvenBytes, left: &EvenBytes) -> Option<Excess>
         requires some { 0 < self.old.queue.step }
         requires pass { PassEvenly self.old even.now left.now }

@@ -30,7 +30,7 @@ pub struct ExcessWatch {
 }
 
 impl ExcessWatch {
-    /// Returns the watch of an empty buffer of that size.
+    /// Returns the watch of an empty buffer of `size` bytes.
     pub fn new(size: u64) -> ExcessWatch
         ensures { result ≡ record { size = size; under_way = None } }
     {
@@ -40,7 +40,7 @@ impl ExcessWatch {
         }
     }
 
-    // Bytes that find room: the excess that has ended before them.
+    // Takes bytes that find room; returns the excess that has ended before them.
     fn pass(&mut self, step: u64, prev: u128, row: &Row) -> Option<Excess>
         requires room { AreOver false step self.old.size prev (times_of row.now) }
         ensures ended { option_to_list result ≡ excesses_ended step self.old.size prev self.old.under_way (times_of row.now) }
@@ -53,7 +53,7 @@ impl ExcessWatch {
         self.under_way.take()
     }
 
-    // Bytes that find none.
+    // Takes bytes that find no room.
     fn grow(&mut self, step: u64, prev: u128, row: &Row)
         requires some { 0 < step }
         requires slow { step ≤ 2 ^ 40 }
@@ -87,7 +87,7 @@ impl ExcessWatch {
         });
     }
 
-    /// Takes the bytes of a row that arrive at a buffer, given as it is before them; returns the excess that has ended.
+    /// Takes the bytes of a row that arrive at a buffer (its state before them); returns the excess that has ended.
     pub fn enter(&mut self, buffer: &TransportBuffer, row: &Row) -> Option<Excess>
         requires paced { IsPaced buffer.now }
         requires timed { IsTimed row.now }

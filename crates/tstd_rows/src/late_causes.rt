@@ -15,8 +15,8 @@ pub enum LateCause {
     FullBuffer,
 }
 
-/// Returns why a unit is late: its last byte leaves the multiplexing buffer alone at `alone`, and would enter the
-/// elementary stream buffer at `room` if it always was in the multiplexing buffer in time.
+/// Returns why a unit is late: its last byte leaves the multiplexing buffer at `alone` if the elementary stream buffer
+/// is never full, and would enter that buffer at `room` if it were always in the multiplexing buffer in time.
 #[tactic(auto, unfolding(crate::specs::VideoViewed::cause_of))]
 pub fn late_cause(deadline: u128, alone: u128, room: u128) -> Option<LateCause>
     ensures { result ≡ cause_of deadline alone room }
@@ -30,12 +30,13 @@ pub fn late_cause(deadline: u128, alone: u128, room: u128) -> Option<LateCause>
     }
 }
 
-/// A unit of video, as far as it has come. Its last byte leaves the multiplexing buffer alone at `seen.left`.
+/// A unit of video, as far as it has arrived. Its last byte leaves the multiplexing buffer at `seen.left` if the
+/// elementary stream buffer is never full.
 #[derive(Clone, Copy, Debug, PartialEq, Eq)]
 pub struct VideoUnit {
     pub seen: UnitSeen,
-    /// When its last byte goes to the elementary stream buffer, where none goes while that is full; 0 where none has
-    /// come.
+    /// When its last byte goes to the elementary stream buffer (no byte goes while that is full); 0 if no byte has
+    /// arrived.
     pub entered: u128,
 }
 
@@ -47,7 +48,7 @@ impl VideoUnit {
         late_cause(self.seen.due.deadline, self.seen.left, self.entered)
     }
 
-    /// Returns how long after its deadline its last byte goes to the elementary stream buffer, 0 where it is in time.
+    /// Returns how long after its deadline its last byte goes to the elementary stream buffer, 0 if it is in time.
     pub fn lateness(&self) -> u128
         ensures { result ≡ self.now.entered - self.now.seen.due.deadline }
     {

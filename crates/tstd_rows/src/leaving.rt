@@ -12,11 +12,11 @@ use arrival::{Row, multiples_below};
 pub struct Leaving {
     pub waiting: Row,
     pub free: Row,
-    /// When the last of them leaves; if the row has none, when the last byte before them leaves.
+    /// When the last byte of the row leaves; if the row has no bytes, when the last byte before it leaves.
     pub last: u128,
 }
 
-// The bytes of a row, of which the first `count` wait for one that leaves at `prev`.
+// Returns the bytes of a row as they leave: the first `count` bytes wait until the byte before leaves at `prev`.
 #[inline(always)]
 fn leaving_rows(step: u64, prev: u128, row: &Row, count: u64, last: u128) -> Leaving
     requires step { step ≤ 2 ^ 40 }
@@ -48,7 +48,7 @@ fn leaving_rows(step: u64, prev: u128, row: &Row, count: u64, last: u128) -> Lea
     }
 }
 
-// Bytes that come no slower than they leave: all wait for the first.
+// Returns how bytes leave that arrive no slower than they leave: all wait for the first.
 #[inline(always)]
 fn leave_fast(step: u64, prev: u128, row: &Row) -> Leaving
     requires some { 0 < step }
@@ -70,7 +70,8 @@ fn leave_fast(step: u64, prev: u128, row: &Row) -> Leaving
     leaving_rows(step, first, row, row.bytes, last)
 }
 
-// Bytes that come no faster than they leave: those that wait do so for the ones before them.
+// Returns how bytes leave that arrive no faster than they leave: a byte that waits does so because of bytes before the
+// row.
 #[inline(always)]
 fn leave_slow(step: u64, prev: u128, row: &Row) -> Leaving
     requires some { 0 < step }
@@ -99,7 +100,7 @@ fn leave_slow(step: u64, prev: u128, row: &Row) -> Leaving
 }
 
 /// Returns when the bytes of a row leave, each `step` after it arrived or after the byte before it left, whichever is
-/// later; that before the first leaves at `prev`.
+/// later; the byte before the row leaves at `prev`.
 #[inline(always)]
 pub(crate) fn leave(step: u64, prev: u128, row: &Row) -> Leaving
     requires some { 0 < step }

@@ -15,9 +15,9 @@ use tstd::MainBuffer;
 /// What bytes found in the main buffer as they entered it.
 #[derive(Clone, Copy)]
 pub struct MainFound {
-    /// The most bytes that were there when any of them entered, itself counted.
+    /// The most bytes in the buffer when a byte entered, including this byte.
     pub most: u64,
-    /// The least that any of them found, itself not counted; `None` if none entered.
+    /// The fewest bytes that a byte found, not counting itself; `None` if no byte entered.
     pub least: Option<u64>,
 }
 

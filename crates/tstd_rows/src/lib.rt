@@ -3,26 +3,27 @@
 //! length.
 //!
 //! - [`Leaving`]: the bytes of a row as they leave, one row or two.
-//! - [`TransportBuffer`]: the transport buffer of a stream. Its state is when the last byte leaves, which determines its
-//!   fullness at any later moment.
+//! - [`TransportBuffer`]: the transport buffer of a stream. Its state is when the last byte leaves, which determines
+//!   its fullness at any later moment.
 //! - [`ExcessWatch`]: when it holds more than its size, from when to when and by how much; row by row, or byte by byte.
-//! - [`enter_row`]: the bytes of a row enter the main buffer, or come too late; the least that they find.
+//! - [`enter_row`]: enters the bytes of a row into the main buffer, unless they are too late; returns the fewest bytes
+//!   that they find.
 //! - [`enter_leaving`]: the bytes of a row enter as they leave the transport buffer; [`MainFound`] is what they found.
 //! - [`MainWatch`]: excesses of the main buffer.
-//! - [`StreamView`]: both buffers of one elementary stream; the most that each holds, each excess, and each unit with the time
-//!   at which it has left the transport buffer. Of video a second one holds the multiplexing buffer and the elementary stream
-//!   buffer, filled as bytes leave the first.
+//! - [`StreamView`]: both buffers of one elementary stream; the most that each holds, each excess, and each unit with
+//!   the time at which it has left the transport buffer. For video a second view holds the multiplexing buffer and the
+//!   elementary stream buffer, filled as bytes leave the first view.
 //! - [`RowFound`], [`Carried`], [`VideoFound`]: what the bytes of one row found, and how they leave.
-//! - [`DueTime`], [`UnitSeen`]: when a unit is due, and when it came. [`late_cause`]: why a unit of video is late, by its
-//!   multiplexing buffer alone or by a full elementary stream buffer.
-//! - [`SystemView`]: the two buffers of a program's tables, with each excess of both; [`WatchedQueue`] is one of them.
-//! - [`StreamBuffers`]: the buffers of one PID packet by packet, and its current unit; [`Arriving`] is a packet of it, [`UnitPart`] an
-//!   access unit that begins within a payload, [`Entered`] what has ended with it.
+//! - [`DueTime`], [`UnitSeen`]: when a unit is due, and when it arrived. [`late_cause`]: why a unit of video is late,
+//!   by its multiplexing buffer alone or by a full elementary stream buffer.
+//! - [`SystemView`]: the two buffers of a program's tables, each a [`WatchedQueue`], with each excess of both.
+//! - [`StreamBuffers`]: the buffers of one PID packet by packet, and its current unit; [`Arriving`] is a packet of the
+//!   PID, [`UnitPart`] an access unit that begins within a payload, [`Entered`] the results of a packet.
 //! - [`BusyWatch`]: how long a buffer is not empty.
-//! - [`VideoBuffers`], [`VideoRates`], [`VideoEntered`]: the multiplexing buffer and the elementary stream buffer of video. [`VideoUnit`] is a
-//!   unit in them, [`EbRooms`] when the second has room for the bytes that come next.
-//! - [`transport_laws`]: what the state of a transport buffer says of its fullness over all moments. [`view_laws`]: what the
-//!   figures are over all moments, and that at a constant rate they are the figures of `tstd`.
+//! - [`VideoBuffers`], [`VideoRates`], [`VideoEntered`]: the multiplexing buffer and the elementary stream buffer of
+//!   video. [`VideoUnit`] is a unit in them, [`EbRooms`] when the second buffer has room for the next bytes.
+//! - [`transport_laws`]: what the state of a transport buffer says about its fullness over all moments. [`view_laws`]:
+//!   what the figures are over all moments, and that at a constant rate they are the figures of `tstd`.
 //!
 //! All bytes of a PID's packets enter the transport buffer as they arrive (the rows of the crate `arrival`), and each
 //! takes one `step` to leave it, on any scale of times; the bytes of their payloads then enter the main buffer, PES

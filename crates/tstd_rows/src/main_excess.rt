@@ -5,8 +5,9 @@ ghost use Rattle.tstd_rows.specs.MainExcess.{after_row, ended_by};
 use crate::excess::Excess;
 use crate::main_watch::MainWatch;
 
-/// The excess of a main buffer that has ended with a row is written where none is yet: the row's last byte enters it at
-/// `last`, and one of its bytes found `most` there. Where it finds room and no excess is under way, nothing is written.
+/// Writes the excess of a main buffer that has ended with a row into `ended`, which must be empty. The last byte of
+/// the row enters at `last`, and a byte of it found `most` bytes there. If the row finds room and there is no current
+/// excess, nothing is written.
 #[inline(always)]
 #[tactic(auto, unfolding(crate::specs::MainExcess::ended_at))]
 pub(crate) fn see(watch: &mut MainWatch, most: u64, last: u128, ended: &mut Option<Excess>)

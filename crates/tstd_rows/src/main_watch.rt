@@ -13,7 +13,7 @@ pub struct MainWatch {
 }
 
 impl MainWatch {
-    /// Returns the watch of an empty buffer of that size.
+    /// Returns the watch of an empty buffer of `size` bytes.
     pub fn new(size: u64) -> MainWatch
         ensures { result ≡ record { size = size; under_way = None } }
     {

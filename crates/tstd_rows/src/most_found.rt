@@ -5,7 +5,8 @@ ghost use Rattle.arrival.specs.Rows.{IsTimed, times_of};
 
 use arrival::Row;
 
-/// Returns the bytes in a buffer when one arrives at `time`, itself included, where the one before it leaves at `prev`.
+/// Returns the number of bytes in a buffer when a byte arrives at `time`, including this byte, if the byte before it
+/// leaves at `prev`.
 pub(crate) fn found(step: u64, prev: u128, time: u128) -> u128
     requires some { 0 < step }
     requires prev { prev < 2 ^ 100 }
@@ -17,7 +18,8 @@ pub(crate) fn found(step: u64, prev: u128, time: u128) -> u128
     (prev - time + (u128::from(step) - 1)) / u128::from(step) + 1
 }
 
-/// Returns the most that one of them finds: the last where they come no slower than they leave, else the first.
+/// Returns the most bytes that a byte of the row finds: the last byte if they arrive no slower than they leave,
+/// otherwise the first.
 #[inline(always)]
 pub(crate) fn most_found(step: u64, prev: u128, row: &Row) -> u128
     requires some { 0 < step }

@@ -9,7 +9,7 @@ ghost use Rattle.tstd_rows.specs.Excesses.{AreOver};
 use crate::leaving::leave;
 use arrival::{Row, multiples_below};
 
-/// A row in two, and when the last byte before the second leaves.
+/// A row split in two, and when the last byte before the second part leaves.
 #[derive(Clone, Copy)]
 pub(crate) struct SplitRow {
     pub first: Row,
@@ -17,7 +17,7 @@ pub(crate) struct SplitRow {
     pub prev: u128,
 }
 
-// A row in two.
+// Splits a row after its first `count` bytes.
 fn split(step: u64, prev: u128, row: &Row, count: u64) -> SplitRow
     requires some { 0 < step }
     requires step { step ≤ 2 ^ 40 }
@@ -47,7 +47,7 @@ fn split(step: u64, prev: u128, row: &Row, count: u64) -> SplitRow
     }
 }
 
-/// Returns bytes that come no slower than they leave: the first ones find room, and the others none.
+/// Splits bytes that arrive no slower than they leave: the first bytes find room, and the rest do not.
 pub(crate) fn split_fast(step: u64, size: u64, prev: u128, row: &Row) -> SplitRow
     requires some { 0 < step }
     requires step { step ≤ 2 ^ 40 }
@@ -77,7 +77,7 @@ pub(crate) fn split_fast(step: u64, size: u64, prev: u128, row: &Row) -> SplitRo
     split(step, prev, row, multiples_below(room, gain, row.bytes))
 }
 
-/// Returns bytes that come no faster than they leave: the first ones find no room, and the others some.
+/// Splits bytes that arrive no faster than they leave: the first bytes find no room, and the rest do.
 pub(crate) fn split_slow(step: u64, size: u64, prev: u128, row: &Row) -> SplitRow
     requires some { 0 < step }
     requires step { step ≤ 2 ^ 40 }

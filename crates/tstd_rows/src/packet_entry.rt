@@ -18,7 +18,7 @@ const LAST_INDEX: u64 = 5_848_000_000;
 const LAST_BYTES: u64 = (1 << 40) - 188;
 
 impl StreamBuffers {
-    // A packet of the stream with the first `count` bytes of its payload.
+    // Takes a packet of the stream with the first `count` bytes of its payload.
     #[inline(always)]
     #[tactic(auto, unfolding(crate::specs::Entering::after_first, crate::specs::Entering::entered_first, crate::specs::EnteringVideo::video_first_of, crate::specs::EnteringVideo::video_unit_of), using(crate::proofs::Packets::within))]
     fn enter_first(
@@ -90,8 +90,8 @@ impl StreamBuffers {
         self.enter_first(arrival, packet, packet.size.min(184), into)
     }
 
-    /// Takes a packet of the stream with at most the first `count` bytes of its payload: those before an access unit
-    /// that begins within it. Take the rest of its payload by `enter_part`.
+    /// Takes a packet of the stream with at most the first `count` bytes of its payload: the bytes before an access
+    /// unit that begins within it. Take the rest of its payload by `enter_part`.
     pub fn enter_front(
         &mut self,
         arrival: &Arrival,

@@ -11,14 +11,14 @@ use crate::leaving::Leaving;
 use crate::transport_buffer::TransportBuffer;
 use arrival::Row;
 
-/// What bytes find that arrive, and how they leave.
+/// What arriving bytes find, and how they leave.
 #[derive(Clone, Copy)]
 pub(crate) struct Arrived {
     pub most: u128,
     pub leaving: Leaving,
 }
 
-// The excess under way ends, if there is one. A call of its own: few rows end one.
+// Ends the current excess, if any. A call of its own: few rows end an excess.
 #[inline(never)]
 fn end_excess(watch: &mut ExcessWatch, ended: &mut Option<Excess>)
     ensures ended { ended.new ≡ watch.old.under_way }
@@ -28,7 +28,7 @@ fn end_excess(watch: &mut ExcessWatch, ended: &mut Option<Excess>)
     *ended = watch.under_way.take();
 }
 
-// The excess that has ended, where a byte may find too many. A call of its own: few rows have such a byte.
+// Writes the excess that has ended, if a byte may find too many. A call of its own: few rows have such a byte.
 #[inline(never)]
 fn see_over(
     watch: &mut ExcessWatch,
@@ -42,8 +42,8 @@ fn see_over(
     *ended = watch.enter(buffer, row);
 }
 
-// The excess that has ended is written where none is yet; `most` is the most that one of the bytes finds. Where no byte
-// finds too many and none is under way, nothing is written.
+// Writes the excess that has ended into `ended`, which must be empty; `most` is the most bytes that a byte finds. If
+// no byte finds too many and there is no current excess, nothing is written.
 #[inline(always)]
 fn see(
     watch: &mut ExcessWatch,
@@ -66,7 +66,7 @@ fn see(
     see_over(watch, buffer, row, ended);
 }
 
-/// The bytes of a row arrive. The excess that has ended is written where none is yet.
+/// Takes the bytes of a row that arrive. Writes the excess that has ended into `ended`, which must be empty.
 #[inline(always)]
 pub(crate) fn arrive(
     transport: &mut TransportBuffer,

@@ -13,7 +13,7 @@ use tstd::MainBuffer;
 // No byte of a row comes after this.
 const LAST_TIME: u128 = 1 << 87;
 
-// So many bytes more of the unit under way are in the buffer.
+// Adds `count` bytes of the current unit to the buffer.
 fn add<A: Allocator>(buffer: &mut MainBuffer<A>, count: u64)
     requires sound { IsSound buffer.old }
     requires room { buffer.old.fullness + count < 2 ^ 64 }
@@ -29,7 +29,7 @@ fn add<A: Allocator>(buffer: &mut MainBuffer<A>, count: u64)
     buffer.peak = buffer.peak.max(buffer.fullness);
 }
 
-/// Returns the least of the numbers so far, where there are some, and of one more.
+/// Returns the least of a number and of the numbers so far, if any.
 #[tactic(auto, unfolding(crate::specs::Least::lesser))]
 pub fn lesser(least: Option<u64>, number: u64) -> Option<u64>
     ensures { result ≡ lesser least number }
@@ -40,7 +40,7 @@ pub fn lesser(least: Option<u64>, number: u64) -> Option<u64>
     }
 }
 
-// A byte of the unit under way enters the buffer, or comes too late for it: how many it finds there.
+// Enters a byte of the current unit, or drops it if it is too late; returns how many bytes it finds there.
 fn enter_byte<A: Allocator>(buffer: &mut MainBuffer<A>, moment: u128) -> u64
     requires sound { IsSound buffer.old }
     requires room { buffer.old.fullness + 1 < 2 ^ 64 }
@@ -68,8 +68,8 @@ struct FirstFound {
     others: Row,
 }
 
-// The first bytes of a row of the unit under way enter the buffer, up to the next moment at which bytes leave it; or
-// they come too late, all but the last one at once.
+// Enters the first bytes of a row of the current unit, up to the next moment at which bytes leave the buffer; if they
+// are too late, all bytes but the last at once.
 fn enter_first<A: Allocator>(buffer: &mut MainBuffer<A>, row: &Row) -> FirstFound
     requires sound { IsSound buffer.old }
     requires timed { IsTimed row.now }

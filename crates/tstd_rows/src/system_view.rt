@@ -17,8 +17,8 @@ use crate::watched_queue::WatchedQueue;
 use arrival::Row;
 use std::alloc::AllocError;
 
-// The bytes of a row arrive one by one and go from one buffer into the other; `before` have arrived before them. The
-// excesses that have ended are appended.
+// Passes the bytes of a row one by one through both buffers, after `before` earlier bytes. Appends the excesses that
+// have ended.
 fn pass_bytes(
     transport: &mut WatchedQueue,
     system: &mut WatchedQueue,
@@ -40,8 +40,8 @@ fn pass_bytes(
     Ok(())
 }
 
-// The bytes of a row as they come, as they go from one buffer into the other, and as they leave, if they do so at an
-// even pace and each finds room in both.
+// Returns the bytes of a row as they arrive, as they pass from the first buffer to the second, and as they leave, if
+// they do so at an even pace and each byte finds room in both buffers.
 fn ways_of(
     transport: &WatchedQueue,
     system: &WatchedQueue,
@@ -79,8 +79,7 @@ fn append(ended: &mut Vec<Excess>, excess: Option<Excess>) -> Result<(), AllocEr
     Ok(())
 }
 
-// The bytes of a row arrive and go from one buffer into the other; `before` have arrived before them. The excesses that
-// have ended are appended.
+// Passes the bytes of a row through both buffers, after `before` earlier bytes. Appends the excesses that have ended.
 fn pass_row(
     transport: &mut WatchedQueue,
     system: &mut WatchedQueue,

@@ -15,14 +15,14 @@ pub struct TransportBuffer {
     pub step: u64,
     /// The number of bytes that have arrived.
     pub bytes: u64,
-    /// When the last of them leaves, 0 where none has arrived.
+    /// When the last byte leaves, 0 if no byte has arrived.
     pub last: u128,
     /// The most bytes that were in it together.
     pub most: u128,
 }
 
 impl TransportBuffer {
-    /// Returns an empty one, which a byte takes `step` to leave.
+    /// Returns an empty buffer, where a byte takes `step` to leave.
     pub fn new(step: u64) -> TransportBuffer
         requires some { 0 < step }
         requires slow { step ≤ 2 ^ 40 }

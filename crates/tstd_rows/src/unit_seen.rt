@@ -1,4 +1,4 @@
-//! Units as they come.
+//! Units as they arrive.
 ghost use Rattle.std.specs.Prelude.{◌≡◌, ◌-◌, ◌<◌, ◌^◌};
 ghost use Rattle.tstd_rows.specs.DueTimes.{due_on};
 
@@ -29,26 +29,26 @@ impl DueTime {
     }
 }
 
-/// A unit, as far as it has come.
+/// A unit, as far as it has arrived.
 #[derive(Clone, Copy, Debug, PartialEq, Eq)]
 pub struct UnitSeen {
     pub due: DueTime,
     /// The number of its bytes.
     pub bytes: u64,
-    /// When the last of them leaves the transport buffer, 0 where none has come.
+    /// When the last of these bytes leaves the transport buffer, 0 if no byte has arrived.
     pub left: u128,
 }
 
 impl UnitSeen {
-    /// Returns how long before its deadline its last byte has left the transport buffer, 0 where it has not.
+    /// Returns how long before its deadline its last byte has left the transport buffer, 0 if it has not.
     pub fn slack(&self) -> u128
         ensures { result ≡ self.now.due.deadline - self.now.left }
     {
         self.due.deadline.saturating_sub(self.left)
     }
 
-    /// Returns how long after its deadline its last byte leaves the transport buffer, 0 where it is in time. A late
-    /// unit is not whole in the main buffer when it is decoded.
+    /// Returns how long after its deadline its last byte leaves the transport buffer, 0 if it is in time. A late unit
+    /// is not whole in the main buffer when it is decoded.
     pub fn lateness(&self) -> u128
         ensures { result ≡ self.now.left - self.now.due.deadline }
     {

@@ -42,14 +42,14 @@ pub struct VideoBuffers {
     pub elementary: MainWatch,
     /// How long the multiplexing buffer is not empty.
     pub busy: BusyWatch,
-    /// When the elementary stream buffer has room for the bytes that come next.
+    /// When the elementary stream buffer has room for the next bytes.
     pub rooms: EbRooms,
 }
 
-/// What has ended with a packet of video: an excess of the multiplexing buffer before a byte that waited in the
-/// transport buffer, or before another byte; an excess of the elementary stream buffer; and the unit before a unit that
-/// begins. And the most bytes that were in each buffer when any byte of the packet entered it, itself included; 0 if
-/// none did.
+/// The results of a packet of video: an excess of the multiplexing buffer that ended before a byte that waited in the
+/// transport buffer, or before another byte; an excess of the elementary stream buffer that ended; and the unit before
+/// a unit that begins. Also the most bytes in each buffer when a byte of the packet entered it, including this byte; 0
+/// if none did.
 #[derive(Clone, Copy)]
 pub struct VideoEntered {
     pub waiting: Option<Excess>,
@@ -61,7 +61,7 @@ pub struct VideoEntered {
 }
 
 impl VideoEntered {
-    /// Returns the value for which nothing has ended, and nothing was in the buffers.
+    /// Returns the empty result: nothing has ended, and nothing was in the buffers.
     #[inline(always)]
     pub fn new() -> VideoEntered
         ensures { result ≡ nothing_of_video }
@@ -78,8 +78,8 @@ impl VideoEntered {
 }
 
 impl VideoBuffers {
-    /// Returns empty ones, behind a transport buffer that a byte takes `step` to leave and that is drained at `rx` bits
-    /// a second.
+    /// Returns empty buffers behind a transport buffer that is drained at `rx` bits a second, where a byte takes
+    /// `step` to leave.
     pub fn new(alloc: Global, step: u64, rx: u32, rates: &VideoRates) -> VideoBuffers
         requires some { 0 < step }
         requires slow { step ≤ 2 ^ 28 }
@@ -100,8 +100,7 @@ impl VideoBuffers {
         }
     }
 
-    /// Takes payload bytes that leave the transport buffer; what has ended, and what was in the buffers, is written
-    /// into an empty place.
+    /// Takes payload bytes that leave the transport buffer; writes the results into `into`, which must be empty.
     pub fn take(&mut self, leaving: &Leaving, into: &mut VideoEntered)
         requires timed { IsTimed leaving.now.waiting × IsTimed leaving.now.free }
         requires soon { IsSoon leaving.now.waiting × IsSoon leaving.now.free }
@@ -133,8 +132,7 @@ impl VideoBuffers {
         into.elementary_most = found.elementary;
     }
 
-    /// Begins a unit with the next payload byte, and returns the unit before it. If no memory is left, drop the
-    /// buffers.
+    /// Begins a unit with the next payload byte, and returns the unit before it. If memory runs out, drop the buffers.
     pub fn begin(&mut self, due: DueTime) -> Result<Option<VideoUnit>, AllocError>
         ensures held { (sizes : VideoSizes) (rate : ℕ) (parts : List Part) → IsVideoHeld self.old sizes rate parts →
             OnOk result (IsVideoHeld self.new sizes rate (Begins due ∷ parts)) }
@@ -164,7 +162,7 @@ impl VideoBuffers {
         self.view.main.peak
     }
 
-    /// Returns the excess of the multiplexing buffer that is under way.
+    /// Returns the current excess of the multiplexing buffer.
     pub fn multiplexing_excess(&self) -> Option<Excess>
         ensures { (sizes : VideoSizes) (rate : ℕ) (parts : List Part) → IsVideoHeld self.now sizes rate parts →
             result ≡ multiplexing_under_way rate sizes.leak sizes.multiplexing parts }
@@ -172,7 +170,7 @@ impl VideoBuffers {
         self.view.watch.under_way
     }
 
-    /// Returns the excess of the elementary stream buffer that is under way.
+    /// Returns the current excess of the elementary stream buffer.
     pub fn elementary_excess(&self) -> Option<Excess>
         ensures { (sizes : VideoSizes) (rate : ℕ) (parts : List Part) → IsVideoHeld self.now sizes rate parts →
             result ≡ elementary_under_way rate sizes.leak sizes.elementary parts }
@@ -180,7 +178,7 @@ impl VideoBuffers {
         self.elementary.under_way
     }
 
-    /// Returns the time since when the multiplexing buffer is not empty, if it is longer than a second.
+    /// Returns the current [`Stay`] of the multiplexing buffer, if it is longer than a second.
     pub fn busy_under_way(&self) -> Option<Stay>
         ensures { (sizes : VideoSizes) (rate : ℕ) (parts : List Part) → IsVideoHeld self.now sizes rate parts →
             result ≡ busy_under_way (leak_busy rate sizes.leak sizes.second parts) (last_leaked rate sizes.leak parts) }
@@ -188,7 +186,7 @@ impl VideoBuffers {
         self.busy.under_way(self.view.transport.last)
     }
 
-    // When the last byte so far goes to the elementary stream buffer, where none goes while that is full.
+    // Returns when the last byte so far goes to the elementary stream buffer; no byte goes while that buffer is full.
     fn last_entry(&self) -> u128
         ensures { (sizes : VideoSizes) (rate : ℕ) (parts : List Part) → IsVideoHeld self.now sizes rate parts →
             capped result ≡ capped (last_transferred rate sizes.leak sizes.elementary parts) }
@@ -196,7 +194,7 @@ impl VideoBuffers {
         self.view.transport.last.max(self.rooms.last)
     }
 
-    /// Returns the unit under way.
+    /// Returns the current unit.
     pub fn unit(&self) -> Option<VideoUnit>
         ensures { (sizes : VideoSizes) (rate : ℕ) (parts : List Part) → IsVideoHeld self.now sizes rate parts →
             result ≡ video_unit_in sizes rate parts }
@@ -205,7 +203,7 @@ impl VideoBuffers {
     }
 }
 
-// A unit whose last byte goes to the elementary stream buffer then.
+// Returns the unit with the time at which its last byte goes to the elementary stream buffer.
 #[tactic(auto, unfolding(crate::specs::VideoViewed::with_entry))]
 fn with_entry(unit: Option<UnitSeen>, time: u128) -> Option<VideoUnit>
     ensures { result ≡ with_entry unit time }
@@ -219,7 +217,7 @@ fn with_entry(unit: Option<UnitSeen>, time: u128) -> Option<VideoUnit>
     }
 }
 
-/// Payload bytes leave the transport buffer so, and enter the buffers of video, if there are any.
+/// Takes payload bytes that leave the transport buffer into the buffers of video, if there are any.
 #[inline(always)]
 pub(crate) fn take_video(
     video: &mut Option<VideoBuffers>,
@@ -248,7 +246,8 @@ pub(crate) fn take_video(
     }
 }
 
-/// Begins a unit in the buffers of video, if there are any; the unit before it is written where none is yet.
+/// Begins a unit in the buffers of video, if there are any; writes the unit before it into `unit`, which must be
+/// empty.
 pub(crate) fn begin_video(
     video: &mut Option<VideoBuffers>,
     due: DueTime,

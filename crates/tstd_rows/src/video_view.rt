@@ -34,7 +34,7 @@ pub fn leak_step(step: u64, rx: u32, rbx: u32) -> u64
 }
 
 impl<A: Allocator> StreamView<A> {
-    // Bytes of one row that left the transport buffer.
+    // Takes bytes of one row that left the transport buffer.
     fn leak_row(&mut self, row: &Row, ended: &mut Option<Excess>) -> VideoFound
         requires timed { IsTimed row.now }
         requires soon { IsSoon row.now }
@@ -64,7 +64,7 @@ impl<A: Allocator> StreamView<A> {
 
     /// Takes the bytes of a row of video as they leave its transport buffer. They enter the multiplexing buffer, which
     /// is this view's transport buffer, and then the elementary stream buffer, which is its main buffer. Returns what
-    /// they found. The excesses of the multiplexing buffer that have ended are written into empty places: before a byte
+    /// they found. Writes the excesses of the multiplexing buffer that have ended into empty places: before a byte
     /// that waited in the transport buffer, and before a byte that found it empty.
     pub fn leak(
         &mut self,

@@ -23,7 +23,7 @@ use arrival::Row;
 use std::alloc::{AllocError, Allocator};
 use tstd::MainBuffer;
 
-// A unit has more bytes, the last of which leaves then.
+// Adds `count` bytes to a unit; its last byte leaves at `left`.
 fn add_bytes(unit: &mut Option<UnitSeen>, count: u64, left: u128)
     requires { IfSome unit.old (λ u. u.bytes + count < 2 ^ 64) }
     ensures { unit.new ≡ with_bytes unit.old count left }
@@ -56,9 +56,9 @@ impl<A: Allocator> StreamView<A> {
         }
     }
 
-    /// Takes bytes that go no further than the transport buffer: headers of packets, adaptation fields, and payload of
-    /// no unit. Returns the most that any of them finds. The excess that has ended is written into an empty place, so
-    /// that it is not moved.
+    /// Takes bytes that stop at the transport buffer: headers of packets, adaptation fields, and payload outside
+    /// units. Returns the most bytes that a byte finds. Writes the excess that has ended into an empty place, so that
+    /// it is not moved.
     #[inline(always)]
     pub fn pass(&mut self, row: &Row, ended: &mut Option<Excess>) -> u128
         requires timed { IsTimed row.now }
@@ -80,9 +80,9 @@ impl<A: Allocator> StreamView<A> {
         arrive(&mut self.transport, &mut self.watch, row, ended).most
     }
 
-    /// Takes payload bytes of the current unit, its PES header too, and returns what they find. They enter the main
-    /// buffer as they leave the transport buffer, and stay there until the unit is due; before the first unit none
-    /// enters. The excess of the transport buffer that has ended is written into an empty place, so that it is not
+    /// Takes payload bytes of the current unit, including its PES header, and returns what they find. They enter the
+    /// main buffer as they leave the transport buffer, and stay there until the unit is due; before the first unit no
+    /// byte enters. Writes the excess of the transport buffer that has ended into an empty place, so that it is not
     /// moved.
     #[inline(always)]
     pub fn carry(&mut self, row: &Row, ended: &mut Option<Excess>) -> Carried

@@ -15,8 +15,8 @@ pub fn tables()
     ensures { TablesLaw }
 {}
 
-/// States that the least that the bytes of a part of a stream find in the main buffer is its least fullness while that
-/// part comes.
+/// States that the least number that the bytes of a part of a stream find in the main buffer is its least fullness
+/// while this part arrives.
 pub fn lows()
     ensures { LowsLaw }
 {}

@@ -1,4 +1,4 @@
--- What is done with a stream.
+-- The answers for a stream.
 use Rattle.std.specs.Prelude.{ℕ}
 use Rattle.devices.specs.Devices.{Device}
 use Rattle.devices.specs.Runs.{Performs}
@@ -7,7 +7,7 @@ use Rattle.tsview_cli.specs.Viewing.{Views}
 use Rattle.tsview_cli.specs.declared.request.Request.{Request}
 use Rattle.tsview_cli.specs.declared.request.Request.TheVariants.{Lines, Page}
 
--- it is viewed as it comes, or a page of it is drawn
+-- the stream is viewed as it comes, or a page of it is drawn
 abbrev pub Answers : Request → Device → Device → Device → ℕ → Type 0
 Answers (Lines request json) = Views request json
 Answers (Page request) = Performs (DrawsPage request)

@@ -8,7 +8,7 @@ use Rattle.arrival.specs.declared.arrival.Arrival.{Arrival}
 use Rattle.arrival.specs.declared.arrival.Arrival.TheVariants.{Unknown, AtRate, OnLines}
 use Rattle.option_lists.specs.Lists.{buffer_list}
 use Rattle.es_buffers.specs.declared.buffers.PidBuffers.{PidBuffers}
-use Rattle.es_view.specs.declared.view_options.ViewOptions.{ViewOptions}
+use Rattle.es_events.specs.declared.view_options.ViewOptions.{ViewOptions}
 use Rattle.ts_watch.specs.declared.view_request.ViewSpan.{ViewSpan}
 use Rattle.ts_watch.specs.Choices.{ChoiceView, RequestView}
 use Rattle.word_faults.specs.GivenOptions.{given_options, number_if, number_of, numbers_of}
@@ -21,14 +21,14 @@ unfoldable pub arrival_of : Option ℕ → Arrival
 arrival_of None = Unknown
 arrival_of (Some rate) = AtRate rate
 
--- none where the rate is out of its range
+-- none if the rate is out of its range
 abbrev pub arrival_in : List Row → Option Arrival
 arrival_in rows = option_map arrival_of (number_if options (codes "rate") rows)
 
 abbrev pub view_options : Arrival → ℕ → ViewOptions
 view_options arrival window = record { arrival = arrival; origin = 0; window = window }
 
--- a rate in bits a second, and a window of 10 ms to an hour, of 1 s where none is given
+-- a rate in bits a second, and a window of 10 ms to an hour, 1 s if none is given
 unfoldable pub options_of : List Row → Option ViewOptions
 options_of rows =
     option_and_then (λ arrival.
@@ -46,7 +46,7 @@ span_of rows =
     (number_if options (codes "to") rows))
     (number_if options (codes "from") rows)
 
--- which programs are viewed, with which buffers
+-- the programs that are viewed, and the buffers that are given
 abbrev pub choice : List ℕ → List PidBuffers → ChoiceView
 choice programs buffers = record { programs = programs; buffers = buffers }
 
@@ -62,7 +62,7 @@ choice_of rows =
 abbrev pub request : ViewOptions → ChoiceView → ViewSpan → Bool → RequestView
 request given viewed span stamps = record { options = given; choice = viewed; span = span; stamps = stamps }
 
--- stamps are asked for; none where a rate is given too
+-- whether stamps are asked for; none if a rate is given too
 unfoldable pub stamps_beside : Arrival → Bool → Option Bool
 stamps_beside Unknown stamps = Some stamps
 stamps_beside (AtRate rate) stamps = if stamps then None else Some false
@@ -75,7 +75,7 @@ stamps_in rows arrival = stamps_beside arrival (is_given (first_of (codes "arriv
 unfoldable pub requested : Bool → Bool → RequestView → Option Request
 requested page json request = if page then (if json then None else Some (Page request)) else Some (Lines request json)
 
--- with the options that are lists
+-- a request with the options that are lists
 unfoldable pub request_with : List Row → ViewOptions → ViewSpan → Bool → Option Request
 request_with rows given span stamps =
     option_and_then (λ viewed.
@@ -92,7 +92,7 @@ request_of rows =
     (span_of rows))
     (options_of rows)
 
--- with the name of the file that has the stream; the input has it where no name or `-` is given
+-- a request with the name of the stream's file; the stream is the input if no name or `-` is given
 pub record AskedView : Type 0 where
   pub request : Request
   pub file : Option Text
@@ -112,7 +112,7 @@ asked_view rows request = asked_for request (file_of rows)
 unfoldable pub asked_of : List Row → Option AskedView
 asked_of rows = option_map (asked_view rows) (request_of rows)
 
--- what the words ask for, none where they are a usage error
+-- the request of the words; none for a usage error
 abbrev pub asked_in : List Text → Option AskedView
 asked_in words = option_and_then asked_of (given_options (codes "tsview") options words)
 

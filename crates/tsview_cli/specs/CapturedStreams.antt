@@ -30,7 +30,7 @@ slip_event s = events.Input (inputs.Slip (record { packet = s.packet; place = s.
 abbrev pub size_event : OtherPackets → Event
 size_event other = events.Input (inputs.PacketSize (size_of other))
 
--- the events that a part settles, and what is kept of the stream after it
+-- the events that a part settles, and the state of the stream after it
 unfoldable pub part_events : AnalysisState → Part → List TimedEvent
 part_events s (IsPacket bytes) = events_at s bytes
 part_events s (IsStamped head bytes) = stamped_events s head bytes
@@ -51,7 +51,7 @@ unfoldable pub events_of : AnalysisState → List Part → List TimedEvent
 events_of s [] = []
 events_of s (part ∷ parts) = part_events s part ++ events_of (after_part s part) parts
 
--- 2. What is noted at the end of the input
+-- 2. Notes at the end of the input
 
 -- the rate that is given
 unfoldable pub given_rate : Arrival → Option ℕ
@@ -102,19 +102,19 @@ kept_of request bytes = after_parts (start request) (parts_in bytes)
 abbrev pub left_in : List ℕ → ℕ
 left_in bytes = length (capture_of bytes).rest
 
--- what is noted of the input by the last events of a stream of which this is kept
+-- the notes on the input, by the last events of a stream in this state
 abbrev pub notes_at : Option ℕ → FileForm → AnalysisState → ℕ → List Event
 notes_at rate form s left = notes rate form (ending.last_events s left)
 
--- what is kept with what is noted
+-- the state with these notes
 abbrev pub noted_at : Option ℕ → FileForm → AnalysisState → ℕ → AnalysisState
 noted_at rate form s left = with_events (ended s left) (notes_at rate form s left)
 
--- nothing is wrong: no event is a fault, none that is noted either
+-- nothing is wrong: no event is a fault, and no note is
 abbrev pub is_whole : Option ℕ → FileForm → AnalysisState → ℕ → Bool
 is_whole rate form s left = is_good s left && is_faultless (noted_at rate form s left)
 
--- the last events, what is noted of the input before them, and what all events come to after them
+-- the last events, the notes on the input before them, and the totals of all events after them
 abbrev pub last_events : Option ℕ → FileForm → AnalysisState → ℕ → List TimedEvent
 last_events rate form s left = all_timed (ended s left) (notes_at rate form s left)
     ++ (ending.last_events s left ++ conclusion (noted_at rate form s left) (is_whole rate form s left))
@@ -133,7 +133,7 @@ is_good_input request bytes = is_whole (rate_in request) (capture_of bytes).form
 
 -- 4. As its bytes come
 
--- what parts do to a view
+-- the effect of parts on a view
 pub record HasParts (first now : ViewedParts) (s : AnalysisState) (parts : List Part) : Type 0 where
   pub view : IsAnalysed now.view (after_parts s parts)
   pub events : now.events.items ≡ first.events.items ++ events_of s parts
@@ -141,7 +141,7 @@ pub record HasParts (first now : ViewedParts) (s : AnalysisState) (parts : List 
 abbrev pub TakesParts : List Part → ViewedParts → ViewedParts → Type 0
 TakesParts parts first now = (s : AnalysisState) → IsAnalysed first.view s → HasParts first now s parts
 
--- these parts of the first bytes of an input were viewed, all but those that less than 1,128 bytes hold, however the input goes on
+-- these parts of the first bytes of an input were viewed, except parts within less than 1,128 bytes, whatever bytes follow
 pub record IsSoFar (first : AnalysisState) (now : CapturedView) (bytes : List ℕ) (found : List Part) : Type 0 where
   pub left : (more : List ℕ) → capture_of (bytes ++ more) ≡ with_parts found (capture_left now.reader more)
   pub few : length now.reader.kept < 1128
@@ -153,7 +153,7 @@ pub record IsMore (first : AnalysisState) (now : CapturedView) (bytes : List ℕ
   pub so_far : IsSoFar first now bytes (found ++ more)
   pub events : now.parts.events.items ≡ events_of (after_parts first found) more
 
--- all that is left was viewed, and the events that it settles are there, and those at the end
+-- the rest of the input was viewed, and its events are there, and the events at the end
 pub record IsEnded (rate : Option ℕ) (first : AnalysisState) (now : CapturedView) (bytes : List ℕ) (found : List Part) (good : Bool) : Type 0 where
   pub more : List Part
   pub parts_are : parts_in bytes ≡ found ++ more

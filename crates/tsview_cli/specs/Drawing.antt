@@ -1,4 +1,4 @@
--- A page of what is found in a stream, written at its end.
+-- A page of the events of a stream, written at its end.
 use Rattle.std.specs.Prelude.{◌≡◌, ℕ, ◌++◌, Bool, if◌then◌else◌, List, [], Option, Result, Ok, Err, string_bytes}
 use Rattle.capture.specs.Captures.{Part, capture_of}
 use Rattle.ts_watch.specs.Choices.{RequestView}
@@ -30,7 +30,7 @@ first_page request = no_events request.options.window (rate_in request) request.
 abbrev pub TakesBytes : List ℕ → Drawing → Drawing → Type 0
 TakesBytes bytes first now = (s : AnalysisState) (p : PageState) → IsDrawn first s p [] → IsDrawn now s p bytes
 
--- all events of an input, those at its end too
+-- all events of an input, with the events at its end
 abbrev pub all_events : Option ℕ → AnalysisState → List ℕ → List TimedEvent
 all_events rate s bytes = events_of s (parts_in bytes) ++ last_events rate (capture_of bytes).form (after_parts s (parts_in bytes)) (left_in bytes)
 
@@ -43,14 +43,14 @@ pub record EndsDrawn (rate : Option ℕ) (page : Page) (s : AnalysisState) (p : 
 
 -- 2. The page of a stream
 
--- a page is that of all events, those at its end too
+-- a page is the page of all events, with the events at the end
 pub record IsWritten (rate : Option ℕ) (s : AnalysisState) (p : PageState) (bytes : List ℕ) (drawn : DrawnPage) : Type 0 where
   pub page : Page
   pub is : IsPage page (after_events p (all_events rate s bytes))
   pub text_is : string_bytes drawn.text ≡ page_text page
   pub good_is : drawn.good ≡ is_good_from rate s bytes
 
--- that of the whole input
+-- the page of the whole input
 pub record DrawsAll (request : RequestView) (input : Device) (page : DrawnPage) : Type 0 where
   pub bytes : List ℕ
   pub read : ReadsInput input (Ok bytes)

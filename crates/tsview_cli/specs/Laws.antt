@@ -1,4 +1,4 @@
--- Laws of what is viewed.
+-- Laws of views.
 use Rattle.std.specs.Prelude.{◌≡◌, ℕ, ◌%◌, List, length}
 use Rattle.packet_sync.specs.Laws.{IsInStep}
 use Rattle.ts_packet.specs.PidList.{cut_packets}

@@ -6,7 +6,7 @@ use Rattle.devices.specs.Files.{Files, IsOpened, IsUnopened}
 use Rattle.devices.specs.Lines.{Reports, line_text}
 use Rattle.devices.specs.Runs.{LacksMemory}
 
--- the file was opened, and what is done with an input is done with it; the input is not read
+-- the file was opened, and takes the place of the input; the input is not read
 pub record IsOfFile (files : Files) (name : Text) (Does : Device → Device → Device → ℕ → Type 0) (input output faults : Device) (status : ℕ) : Type 0 where
   pub opened : IsOpened files name
   pub file : Device
@@ -14,7 +14,7 @@ pub record IsOfFile (files : Files) (name : Text) (Does : Device → Device → 
   pub does : Does file output faults status
   pub unread : IsUntouched input
 
--- it can't be opened: nothing is read and nothing written
+-- the file can't be opened: nothing is read and nothing written
 pub record HasNoFile (files : Files) (name : Text) (input output faults : Device) (status : ℕ) : Type 0 where
   pub unopened : IsUnopened files name
   pub unread : IsUntouched input

@@ -1,4 +1,4 @@
--- A stream that is viewed as it comes: the lines of the events that each piece of it settles are written before the next is read.
+-- A stream that is viewed as it comes: the lines of the events that each piece settles are written before the next piece is read.
 use Rattle.std.specs.Prelude.{◌≡◌, ◌⊎◌, ◌<◌, ℕ, ◌%◌, ◌*◌, Bool, true, if◌then◌else◌, List, [], ◌++◌, codes, length, Option, Some, Result, Ok, Err}
 use Rattle.capture.specs.Captures.{Part, capture_of, with_parts}
 use Rattle.capture.specs.Reading.{ReaderView, capture_left}
@@ -28,7 +28,7 @@ lines_all json s parts = lines_of json (events_of s parts)
 abbrev pub settled : RequestView → Bool → List Part → List ℕ
 settled request json parts = lines_all json (start request) parts
 
--- all lines, with those at its end; the status 1 where something is wrong
+-- all lines, with the lines at the end; status 1 if something is wrong
 abbrev pub all_lines : RequestView → Bool → List ℕ → List ℕ
 all_lines request json bytes = settled request json (parts_in bytes) ++ lines_of json (events_last request bytes)
 
@@ -38,7 +38,7 @@ viewed request json bytes = printed (all_lines request json bytes) (if is_good_i
 abbrev pub Leads : RequestView → Bool → List ℕ → Outcome → Type 0
 Leads request json bytes outcome = outcome ≡ viewed request json bytes
 
--- a view of the first parts of these bytes is crowded: so many units of a stream wait
+-- a view of the first parts of these bytes is crowded: too many units of a stream wait
 pub record IsCrowdedAfter (request : RequestView) (bytes : List ℕ) : Type 0 where
   pub found : List Part
   pub later : List Part
@@ -63,7 +63,7 @@ StopsNext input Memory = IsClean input
 abbrev pub BeginsWith : Option (List ℕ) → List ℕ → Type 0
 BeginsWith known bytes = (xs : List ℕ) → known ≡ Some xs → (rest : List ℕ) × (xs ≡ bytes ++ rest)
 
--- these parts of the first bytes of an input are settled, all but those that less than 1,128 bytes hold, however the input goes on
+-- these parts of the first bytes of an input are settled, except parts within less than 1,128 bytes, whatever bytes follow
 pub record AreSettled (bytes : List ℕ) (found : List Part) : Type 0 where
   pub reader : ReaderView
   pub left : (more : List ℕ) → capture_of (bytes ++ more) ≡ with_parts found (capture_left reader more)
@@ -76,13 +76,13 @@ pub record Seen (json : Bool) (first : AnalysisState) (output : Device) (now : C
   pub written : Takes output (lines_all json first found)
   pub clean : IsClean output
 
--- the lines of more parts, those that these bytes settle
+-- the lines of the further parts that these bytes settle
 pub record Shows (json : Bool) (first : AnalysisState) (now : CapturedView) (bytes : List ℕ) (found : List Part) (text : List ℕ) : Type 0 where
   pub more : List Part
   pub so_far : IsSoFar first now bytes (found ++ more)
   pub text_is : text ≡ lines_all json (after_parts first found) more
 
--- the lines of all that is left, and those at the end
+-- the lines of the rest of the input, and the lines at the end
 pub record EndShows (rate : Option ℕ) (json : Bool) (first : AnalysisState) (bytes : List ℕ) (found : List Part) (text : List ℕ) (good : Bool) : Type 0 where
   pub more : List Part
   pub parts_are : parts_in bytes ≡ found ++ more
@@ -90,7 +90,7 @@ pub record EndShows (rate : Option ℕ) (json : Bool) (first : AnalysisState) (b
       ++ last_events rate (capture_of bytes).form (after_parts first (parts_in bytes)) (left_in bytes))
   pub good_is : good ≡ is_whole rate (capture_of bytes).form (after_parts first (parts_in bytes)) (left_in bytes)
 
--- a front of the input, of `size` bytes, was viewed, and then so many units of a stream waited that no more of the input is viewed
+-- the first `size` bytes of the input were viewed, and then too many units of a stream waited: no more of the input is viewed
 pub record Crowds (json : Bool) (first : AnalysisState) (input output : Device) (now : CapturedView) (size : ℕ) : Type 0 where
   pub bytes : List ℕ
   pub size_is : size ≡ length bytes
@@ -103,7 +103,7 @@ pub record Crowds (json : Bool) (first : AnalysisState) (input output : Device) 
 abbrev pub Reaches : Bool → AnalysisState → Device → Device → CapturedView → ℕ → Type 0
 Reaches json first input output now size = TakesInput (Seen json first output now) input (Ok size) ⊎ Crowds json first input output now size
 
--- where the view is crowded the input may have more than was viewed
+-- if the view is crowded, the input may have more bytes than were viewed
 abbrev pub as_viewed : Bool → Bool → Viewed
 as_viewed crowded good = if crowded then is_viewed.Crowded else is_viewed.Whole good
 
@@ -122,7 +122,7 @@ pub record Breaks (json : Bool) (first : AnalysisState) (input output : Device) 
   pub are : AreSettled bytes found
   pub at : BreaksAt (lines_all json first found) input output halt
 
--- these bytes of the input are all of it, or so many units of a stream wait after them that no more is viewed
+-- these bytes are the whole input, or too many units of a stream wait after them: no more is viewed
 abbrev pub AreViewed : RequestView → Device → List ℕ → Type 0
 AreViewed request input bytes = ReadsInput input (Ok bytes) ⊎ IsCrowdedAfter request bytes
 
@@ -130,7 +130,7 @@ AreViewed request input bytes = ReadsInput input (Ok bytes) ⊎ IsCrowdedAfter r
 abbrev pub IsSettledText : RequestView → Bool → List ℕ → List ℕ → Type 0
 IsSettledText request json bytes text = (found : List Part) × AreSettled bytes found × (text ≡ settled request json found)
 
--- the same, or all lines of these bytes where no more of the input is viewed
+-- the same, or all lines of these bytes if no more of the input is viewed
 abbrev pub IsText : RequestView → Bool → Device → List ℕ → List ℕ → Type 0
 IsText request json input bytes text = IsSettledText request json bytes text ⊎ ((text ≡ all_lines request json bytes) × AreViewed request input bytes)
 
@@ -151,7 +151,7 @@ pub record SeesAll (request : RequestView) (json : Bool) (input output : Device)
   pub clean : IsClean output
   pub good_is : good ≡ is_good_input request bytes
 
--- or those of the front of it after which so many units of a stream wait that no more is viewed, with the lines at its end
+-- or the lines of the first bytes of the input, after which too many units of a stream wait, with the lines at the end; no more is viewed
 pub record SeesFront (request : RequestView) (json : Bool) (input output : Device) : Type 0 where
   pub bytes : List ℕ
   pub front : BeginsWith input.before.bytes bytes
@@ -165,19 +165,19 @@ Sees request json input output (Ok (is_viewed.Whole good)) = SeesAll request jso
 Sees request json input output (Ok is_viewed.Crowded) = SeesFront request json input output
 Sees request json input output (Err halt) = BreaksOff request json input output halt
 
--- what standard error then takes, and the status
+-- the line that standard error then takes, and the status
 abbrev pub Concludes : Viewed → Device → ℕ → Type 0
 Concludes (is_viewed.Whole good) faults status = IsUntouched faults × (status ≡ (if good then 0 else 1))
 Concludes is_viewed.Crowded faults status = Reports faults (line_text (codes "waiting") []) × (status ≡ 3)
 
--- it ended early, and the line that says why is told
+-- it ended early, and the line that says why is printed
 pub record EndsEarly (request : RequestView) (json : Bool) (input output faults : Device) (status : ℕ) : Type 0 where
   pub halt : Halt
   pub breaks : BreaksOff request json input output halt
   pub reports : Reports faults (halt_line halt)
   pub status_is : status ≡ 3
 
--- or the rest of the input was not viewed, because too many units of a stream wait, and that is told
+-- or the rest of the input was not viewed, because too many units of a stream wait, and a line says so
 pub record EndsCrowded (request : RequestView) (json : Bool) (input output faults : Device) (status : ℕ) : Type 0 where
   pub sees : SeesFront request json input output
   pub reports : Reports faults (line_text (codes "waiting") [])

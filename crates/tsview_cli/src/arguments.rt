@@ -15,7 +15,7 @@ use std::alloc::{AllocError, Global};
 use ts_report::{ViewChoice, ViewOptions, ViewRequest, ViewSpan};
 use word_faults::{given_options, number_if, number_of, numbers_of};
 
-// How packets arrive: at this rate, or else by clock references.
+// Returns how packets arrive: at this rate, or without a rate by clock references.
 #[tactic(auto, unfolding(crate::specs::Arguments::arrival_of))]
 fn arrival_at(bits: Option<u64>) -> Arrival
     requires lower { IfSome bits (λ n. 100000 ≤ n) }
@@ -31,7 +31,7 @@ fn arrival_at(bits: Option<u64>) -> Arrival
     Arrival::AtRate(rate)
 }
 
-// How packets arrive; none where the rate is out of its range.
+// Returns how packets arrive; `None` if the rate is out of its range.
 fn arrival_in(matches: &ArgMatches<'_>) -> Option<Arrival>
     ensures { result ≡ spec.arrival_in (rows_of (found_of matches.now)) }
 {
@@ -39,7 +39,7 @@ fn arrival_in(matches: &ArgMatches<'_>) -> Option<Arrival>
     Some(arrival_at(rate))
 }
 
-// The values of the options; none where one is out of its range.
+// Returns the values of the options; `None` if any value is out of its range.
 #[tactic(auto, unfolding(crate::specs::Arguments::options_of))]
 fn options_of(matches: &ArgMatches<'_>) -> Option<ViewOptions>
     ensures { result ≡ spec.options_of (rows_of (found_of matches.now)) }
@@ -53,7 +53,7 @@ fn options_of(matches: &ArgMatches<'_>) -> Option<ViewOptions>
     })
 }
 
-// The part of the stream that is asked for; none where one of its ends is out of its range.
+// Returns the requested part of the stream; `None` if an end is out of its range.
 #[tactic(auto, unfolding(crate::specs::Arguments::span_of))]
 fn span_of(matches: &ArgMatches<'_>) -> Option<ViewSpan>
     ensures { result ≡ spec.span_of (rows_of (found_of matches.now)) }
@@ -63,7 +63,7 @@ fn span_of(matches: &ArgMatches<'_>) -> Option<ViewSpan>
     Some(ViewSpan { from, to })
 }
 
-// Whether stamps are asked for; none where a rate is given too.
+// Returns whether stamps time the arrival; `None` if a rate is given too.
 #[tactic(auto, unfolding(crate::specs::Arguments::stamps_beside))]
 fn stamps_beside(arrival: &Arrival, stamps: bool) -> Option<bool>
     ensures { result ≡ spec.stamps_beside arrival.now stamps }
@@ -80,7 +80,7 @@ fn stamps_in(matches: &ArgMatches<'_>, arrival: &Arrival) -> Option<bool>
     stamps_beside(arrival, is_given(text_of(matches, "arrival-stamps")))
 }
 
-// Its lines, or a page of them; none where both are asked for.
+// Returns the request for lines or for a page; `None` if the options ask for both.
 #[tactic(auto, unfolding(crate::specs::Arguments::requested))]
 fn requested(page: bool, json: bool, request: ViewRequest) -> Option<Request>
     ensures { result ≡ spec.requested page json request }
@@ -95,7 +95,7 @@ fn requested(page: bool, json: bool, request: ViewRequest) -> Option<Request>
     Some(Request::Page(request))
 }
 
-// Which programs are viewed, with which buffers; none where one of the lists is not one.
+// Returns the programs to view and their buffers; `None` if the value of an option is not a list.
 #[tactic(auto, unfolding(crate::specs::Arguments::choice_of))]
 fn choice_of(alloc: Global, matches: &ArgMatches<'_>) -> Result<Option<ViewChoice>, AllocError>
     ensures { IfOk result (λ r. r ≡ spec.choice_of (rows_of (found_of matches.now))) }
@@ -109,7 +109,7 @@ fn choice_of(alloc: Global, matches: &ArgMatches<'_>) -> Result<Option<ViewChoic
     Ok(Some(ViewChoice { programs, buffers }))
 }
 
-// With the options that are lists.
+// Adds the options that are lists.
 #[tactic(auto, unfolding(crate::specs::Arguments::request_with))]
 fn request_with(
     alloc: Global,
@@ -134,7 +134,7 @@ fn request_with(
     Ok(requested(page, json, request))
 }
 
-// All that the options ask for.
+// Returns all that the options ask for.
 #[tactic(auto, unfolding(crate::specs::Arguments::request_of))]
 fn request_of(alloc: Global, matches: &ArgMatches<'_>) -> Result<Option<Request>, AllocError>
     ensures { IfOk result (λ r. r ≡ spec.request_of (rows_of (found_of matches.now))) }
@@ -151,7 +151,7 @@ fn request_of(alloc: Global, matches: &ArgMatches<'_>) -> Result<Option<Request>
     request_with(alloc, matches, options, span, stamps)
 }
 
-// The name of the file with the stream; none where the stream comes on the input.
+// Returns the name of the file with the stream; `None` if the stream is the input.
 fn file_of<'a>(matches: &ArgMatches<'a>) -> Option<&'a str>
     ensures { option_map (λ s. s.now) result ≡ spec.file_of (rows_of (found_of matches.now)) }
 {
@@ -161,7 +161,7 @@ fn file_of<'a>(matches: &ArgMatches<'a>) -> Option<&'a str>
     }
 }
 
-// What is asked for, and of which stream.
+// Returns the request, and the file with the stream.
 #[tactic(auto, unfolding(crate::specs::Arguments::asked_of))]
 fn asked_of<'a>(alloc: Global, matches: &ArgMatches<'a>) -> Result<Option<Asked<'a>>, AllocError>
     ensures { IfOk result (λ r. r ≡ spec.asked_of (rows_of (found_of matches.now))) }
@@ -173,7 +173,7 @@ fn asked_of<'a>(alloc: Global, matches: &ArgMatches<'a>) -> Result<Option<Asked<
     Ok(Some(Asked { request, file }))
 }
 
-/// Returns what the words ask for; none where they are a usage error.
+/// Returns what the words ask for; `None` if they are a usage error.
 pub(crate) fn read_arguments<'a>(
     alloc: Global,
     words: &'a [&'a str],

@@ -74,7 +74,7 @@ impl PartTaker for ViewedParts {
     }
 }
 
-// The rate at which packets arrive, if it is given.
+// Returns the rate at which packets arrive, if the user gives it.
 #[tactic(auto, unfolding(crate::specs::CapturedStreams::given_rate))]
 fn given_rate(arrival: &Arrival) -> Option<u64>
     ensures { result ≡ spec.given_rate arrival.now }
@@ -92,7 +92,7 @@ pub(crate) fn rate_of(request: &ViewRequest) -> Option<u64>
     given_rate(&request.options.arrival)
 }
 
-// Whether clock references give another rate than the given one.
+// Returns whether clock references give another rate than the given one.
 fn is_other(given: u64, references: u128) -> bool
     ensures { result ≡ spec.is_other given references }
 {
@@ -134,7 +134,7 @@ fn end_note(form: FileForm, end: &ReportEnd) -> Option<InputEvent>
     }
 }
 
-// What an event at the end of an input shows of the input.
+// Returns the note about an input that an event at its end gives, if any.
 #[tactic(auto, unfolding(crate::specs::CapturedStreams::note_of))]
 fn note_of(rate: Option<u64>, form: FileForm, event: &Event) -> Option<InputEvent>
     ensures { result ≡ spec.note_of rate form event.now }
@@ -146,7 +146,7 @@ fn note_of(rate: Option<u64>, form: FileForm, event: &Event) -> Option<InputEven
     }
 }
 
-// Appends what an event shows, if it shows something.
+// Appends the note about an event, if there is one.
 #[tactic(auto, unfolding(crate::specs::CapturedStreams::noted))]
 fn push_note(note: Option<InputEvent>, events: &mut Vec<Event>) -> Result<(), AllocError>
     ensures { OnOk result (events.new.items ≡ events.old.items ++ spec.noted note) }
@@ -176,8 +176,8 @@ fn push_notes(
 }
 
 impl ViewedParts {
-    // Appends the last events, before them what they show of the input, and after them what all events come to. Returns
-    // whether nothing is wrong in it.
+    // Appends the notes about the input, then the last events, then the summary of all events. Returns whether no fault
+    // is found.
     fn push_last(
         &mut self,
         alloc: Global,
@@ -217,7 +217,7 @@ impl CapturedView {
         }
     }
 
-    /// Takes the next bytes: their events are there afterwards, and no others.
+    /// Takes the next bytes. Afterwards `events` has the events of these bytes, and no earlier event.
     pub fn take(&mut self, piece: &[u8]) -> Result<(), AllocError>
         ensures { (first : AnalysisState) (bytes : List ℕ) (found : List Part) → IsSoFar first self.old bytes found →
             OnOk result (IsMore first self.new (bytes ++ piece.now) found) }
@@ -233,8 +233,8 @@ impl CapturedView {
         self.parts.view.is_crowded()
     }
 
-    /// Ends the input: the last events are there afterwards, and no others. Returns whether nothing is wrong in it;
-    /// `rate`: the rate that is given.
+    /// Ends the input. Afterwards `events` has the last events, and no earlier event. Returns whether no fault is
+    /// found; `rate`: the rate that the user gives.
     pub fn end(&mut self, rate: Option<u64>) -> Result<bool, AllocError>
         ensures { (first : AnalysisState) (bytes : List ℕ) (found : List Part) → IsSoFar first self.old bytes found →
             IfOk result (IsEnded rate first self.new bytes found) }

@@ -26,14 +26,14 @@ pub struct Drawing {
     pub page: Page,
 }
 
-// The length of a window in ms.
+// Returns the length of a window in ms.
 fn window_of(request: &ViewRequest) -> u32
     ensures { result ≡ request.now.options.window }
 {
     request.options.window
 }
 
-// Whether stamps of arrival are asked for.
+// Returns whether the request has arrival by stamps.
 fn stamps_of(request: &ViewRequest) -> bool
     ensures { result ≡ request.now.stamps }
 {
@@ -41,7 +41,7 @@ fn stamps_of(request: &ViewRequest) -> bool
 }
 
 impl Drawing {
-    // Before the first byte.
+    // Returns the drawing before the first byte.
     fn new(alloc: Global, request: ViewRequest) -> Drawing
         ensures { IsDrawn result (start request) (first_page request) [] }
     {
@@ -53,7 +53,7 @@ impl Drawing {
         }
     }
 
-    // The next bytes: the page takes the events that they settle.
+    // Takes the next bytes: the page takes the events that they settle.
     fn take(&mut self, piece: &[u8]) -> Result<(), AllocError>
         ensures { (s : AnalysisState) (p : PageState) (bytes : List ℕ) → IsDrawn self.old s p bytes →
             OnOk result (IsDrawn self.new s p (bytes ++ piece.now)) }
@@ -62,8 +62,7 @@ impl Drawing {
         self.page.take_all(&self.stream.parts.events)
     }
 
-    // The bytes of the next piece. A view that is crowded is refused as if there were no memory: a page of a part is
-    // not drawn.
+    // Takes the bytes of the next piece. A crowded view is refused as if memory ran out: no page is drawn of a part.
     fn take_bytes(&mut self, piece: &[u8]) -> Result<(), Halt>
         ensures taken { (s : AnalysisState) (p : PageState) (bytes : List ℕ) → IsDrawn self.old s p bytes →
             OnOk result (IsDrawn self.new s p (bytes ++ piece.now)) }
@@ -75,7 +74,7 @@ impl Drawing {
         }
     }
 
-    // The events at the end of the input. Whether nothing is wrong in it.
+    // Takes the events at the end of the input, and returns whether no fault is found.
     fn end(&mut self, rate: Option<u64>) -> Result<bool, AllocError>
         ensures { (s : AnalysisState) (p : PageState) (bytes : List ℕ) → IsDrawn self.old s p bytes →
             IfOk result (EndsDrawn rate self.new.page s p bytes) }
@@ -103,7 +102,7 @@ pub struct DrawnPage {
     pub good: bool,
 }
 
-// The page of a stream that has come whole.
+// Writes the page of a stream that was read to its end.
 fn write_drawn(
     alloc: Global,
     rate: Option<u64>,
@@ -117,7 +116,7 @@ fn write_drawn(
     Ok(DrawnPage { text, good })
 }
 
-// The same, if there is memory for it.
+// Writes the page, unless memory runs out.
 fn drawn(alloc: Global, rate: Option<u64>, drawing: &mut Drawing) -> Result<DrawnPage, Halt>
     ensures ok { (s : AnalysisState) (p : PageState) (bytes : List ℕ) → IsDrawn drawing.old s p bytes → IfOk result (IsWritten rate s p bytes) }
     ensures err { IfErr result (λ halt. halt ≡ Halt.Memory) }
@@ -128,7 +127,7 @@ fn drawn(alloc: Global, rate: Option<u64>, drawing: &mut Drawing) -> Result<Draw
     }
 }
 
-// The page of the input, by a drawing of no byte.
+// Draws the page of the input, from a drawing of no byte.
 fn draw_whole<R: Source>(
     alloc: Global,
     rate: Option<u64>,
@@ -144,7 +143,7 @@ fn draw_whole<R: Source>(
     }
 }
 
-// The page of the input.
+// Draws the page of the input.
 fn draw_input<R: Source>(
     alloc: Global,
     request: ViewRequest,
@@ -160,7 +159,7 @@ fn draw_input<R: Source>(
     result
 }
 
-// The status of a stream in which nothing is wrong, or something.
+// Returns the status: 0 if the stream has no fault, 1 if it has a fault.
 fn status_of(page: &DrawnPage) -> u8
     ensures { result ≡ (if page.now.good then 0 else 1) }
 {

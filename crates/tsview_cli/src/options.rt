@@ -6,8 +6,7 @@ ghost use Rattle.word_faults.specs.KnownWords.{known_of};
 use option_lists::Scale;
 use word_faults::{KnownWords, OptionRow, ValueKind};
 
-/// The options, and the name of a file beside them. What is read, which word is a fault, and the usage follow these
-/// rows.
+/// The options and the name of a file. The reader, the first faulty word and the usage follow these rows.
 pub(crate) const OPTIONS: [OptionRow; 14] = [
     OptionRow {
         name: "file",

@@ -23,7 +23,7 @@ pub(crate) fn is_plan(words: &[&str]) -> bool
     }
 }
 
-// The page of the first plan of a job.
+// Returns the page of the first plan of a job.
 fn page_of(alloc: Global, plans: &JobPlans) -> Result<String, AllocError>
     ensures { (rest : List ℕ) → IfOk result (λ text. string_bytes text ≡ spec.job_page (plans_view plans.now rest)) }
 {
@@ -35,7 +35,7 @@ fn page_of(alloc: Global, plans: &JobPlans) -> Result<String, AllocError>
     Ok(text)
 }
 
-// The page of the plan in these bytes.
+// Returns the page of the plan in these bytes.
 fn drawn(alloc: Global, bytes: &[u8]) -> Result<String, JobReadError>
     ensures { spec.IsPlanPage (job_of false bytes.now) result }
 {

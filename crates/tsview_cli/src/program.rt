@@ -37,7 +37,7 @@ pub fn report_usage<E: Sink>(faults: &mut E) -> u8
     2
 }
 
-// The status of a stream in which nothing is wrong, or something.
+// Returns the status: 0 if the stream has no fault, 1 if it has a fault.
 fn status_of(good: bool) -> u8
     ensures { result ≡ (if good then 0 else 1) }
 {
@@ -75,7 +75,7 @@ fn view_stream<R: Source, W: Sink, E: Sink>(
     }
 }
 
-// Answers what is asked for of the stream in an input, and returns the status.
+// Answers a request about the stream in an input, and returns the status.
 fn answer<R: Source, W: Sink, E: Sink>(
     alloc: Global,
     request: Request,
@@ -92,7 +92,7 @@ fn answer<R: Source, W: Sink, E: Sink>(
     }
 }
 
-// Answers what is asked for of the stream in the file of a name, and returns the status.
+// Answers a request about the stream in a named file, and returns the status.
 fn answer_file<F: NamedFiles, W: Sink, E: Sink>(
     alloc: Global,
     request: Request,
@@ -115,7 +115,7 @@ fn answer_file<F: NamedFiles, W: Sink, E: Sink>(
     status
 }
 
-// Answers what is asked for, of the stream in the input or in a file, and returns the status.
+// Answers a request about the stream in the input or in a file, and returns the status.
 fn answer_asked<F: NamedFiles, R: Source, W: Sink, E: Sink>(
     alloc: Global,
     wanted: Asked<'_>,
@@ -139,7 +139,7 @@ fn answer_asked<F: NamedFiles, R: Source, W: Sink, E: Sink>(
     }
 }
 
-// The program for a transport stream in the input or in a file, or a usage error.
+// Runs the program for a transport stream in the input or in a file, or reports a usage error.
 fn run_on_stream<F: NamedFiles, R: Source, W: Sink, E: Sink>(
     alloc: Global,
     words: &[&str],
@@ -153,12 +153,12 @@ fn run_on_stream<F: NamedFiles, R: Source, W: Sink, E: Sink>(
         asked words.now ≡ Some (asked_for (Request.Lines r json) None) →
         Views r json (reads R.Source input.old input.new) (writes W.Sink output.old output.new)
         (writes E.Sink faults.old faults.new) result }
-    // A transport stream to the page of what is found in it.
+    // A transport stream to a page of its events.
     ensures page { (r : RequestView) →
         asked words.now ≡ Some (asked_for (Request.Page r) None) →
         Performs (DrawsPage r) (reads R.Source input.old input.new) (writes W.Sink output.old output.new)
         (writes E.Sink faults.old faults.new) result }
-    // The same of a transport stream in a file.
+    // A transport stream in a file, to its lines or its page.
     ensures view_file { (r : RequestView) (json : Bool) (name : Text) →
         asked words.now ≡ Some (asked_for (Request.Lines r json) (Some name)) →
         OfFile (files_of (F.contents_of files.now) (F.opens files.now) F.never_fails) name (Views r json)
@@ -206,12 +206,12 @@ pub fn run<F: NamedFiles, R: Source, W: Sink, E: Sink>(
         asked words.now ≡ Some (asked_for (Request.Lines r json) None) →
         Views r json (reads R.Source input.old input.new) (writes W.Sink output.old output.new)
         (writes E.Sink faults.old faults.new) result }
-    // A transport stream to the page of what is found in it.
+    // A transport stream to a page of its events.
     ensures page { is_plan (map (λ s. s.now) words.now) ≡ false → (r : RequestView) →
         asked words.now ≡ Some (asked_for (Request.Page r) None) →
         Performs (DrawsPage r) (reads R.Source input.old input.new) (writes W.Sink output.old output.new)
         (writes E.Sink faults.old faults.new) result }
-    // The same of a transport stream in a file.
+    // A transport stream in a file, to its lines or its page.
     ensures view_file { is_plan (map (λ s. s.now) words.now) ≡ false → (r : RequestView) (json : Bool) (name : Text) →
         asked words.now ≡ Some (asked_for (Request.Lines r json) (Some name)) →
         OfFile (files_of (F.contents_of files.now) (F.opens files.now) F.never_fails) name (Views r json)

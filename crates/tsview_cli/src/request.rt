@@ -10,7 +10,7 @@ pub enum Request {
     Page(ViewRequest),
 }
 
-/// What is asked for, and of which stream.
+/// A request, and the file with the stream.
 #[derive(Drop)]
 pub struct Asked<'a> {
     pub request: Request,

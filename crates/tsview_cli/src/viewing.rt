@@ -28,7 +28,7 @@ const PIECE: usize = 349 * 188;
 pub(crate) enum Viewed {
     /// It was viewed to its end: whether nothing is wrong in it.
     Whole(bool),
-    /// So many units of a stream wait that no more of the input was viewed.
+    /// The view stopped before the end: too many units of a stream wait in a buffer.
     Crowded,
 }
 
@@ -48,7 +48,7 @@ fn view_lines(
     write_events(alloc, text, json, &stream.parts.events)
 }
 
-// The same, if there is memory for it.
+// Views the next piece, unless memory runs out.
 fn view_piece(
     alloc: Global,
     json: bool,
@@ -79,7 +79,7 @@ fn view_next<R: Source>(
     requires bound { length piece.old ≤ longest_piece }
     // No line that is settled waits to be written.
     requires out { string_bytes text.old ≡ [] }
-    // Of no stream so many units wait that no more is viewed.
+    // No stream has enough waiting units to stop the view.
     requires calm { is_crowded stream.old.parts.view ≡ false }
     ensures read { IfOk result (λ n. ReadsFront (reads R.Source input.old input.new) piece.new n) }
     ensures shown { (first : AnalysisState) (bytes : List ℕ) (found : List Part) → IsSoFar first stream.old bytes found →
@@ -157,7 +157,7 @@ fn write_end(
     Ok(good)
 }
 
-// The same, if there is memory for it.
+// Ends the view, unless memory runs out.
 fn end_view(
     alloc: Global,
     json: bool,
@@ -176,7 +176,7 @@ fn end_view(
     }
 }
 
-// What an input is after whose view it is crowded or not, and in which nothing is wrong or something.
+// Returns how the view of an input ended: `crowded`, or at the end of the input; `good`: no fault was found.
 fn as_viewed(crowded: bool, good: bool) -> Viewed
     ensures { result ≡ spec.as_viewed crowded good }
 {

@@ -1,4 +1,4 @@
--- Why a unit is refused: one ordered list, of which the first cause is given.
+-- Why a unit is refused: one ordered list, and the first cause that applies.
 use Rattle.std.specs.Prelude.{ℕ, ◌+◌, ◌^◌, ◌==◌, ◌||◌, nat_lt, nat_le, Bool, if◌then◌else◌, Option, Some, None, Result, Ok, Err, List, length, map}
 use Rattle.clock27.specs.Release.{release}
 use Rattle.pes_packet.specs.AccessUnits.{AccessUnit}
@@ -21,8 +21,8 @@ or_cause None next = next
 abbrev pub is_bad_pts : ℕ → ℕ → ℕ → Bool
 is_bad_pts limit dts pts = nat_lt pts dts || nat_lt (dts + limit) pts
 
--- of the unit by itself and its distance from the one before: with what its marks take it has at most `largest` bytes, its PTS is at most `limit` after its
--- DTS, and no DTS below `min_next_dts` is accepted
+-- causes within the unit and its distance from the unit before: with its marks it has at most `largest` bytes, its PTS is at most `limit` after its DTS, and
+-- no DTS below `min_next_dts` is accepted
 unfoldable pub own_cause : ℕ → ℕ → ℕ → AccessUnit → Option FeedError
 own_cause largest limit min_next_dts u =
     if length u.bytes == 0 then Some Empty
@@ -31,16 +31,16 @@ own_cause largest limit min_next_dts u =
     else (if is_bad_pts limit u.dts u.pts then Some BadPts
     else None)))
 
--- of its time
+-- causes in its time
 unfoldable pub time_cause : Bool → ℕ → Option FeedError
 time_cause late dts = if late then Some Late else (if nat_lt (2 ^ 52) dts then Some TooFar else None)
 
--- of its packets: more than its stream declares, by groups or by pace
+-- causes in its packets: more than its stream declares, by groups or by pace
 abbrev pub packets_cause : Allowance → Bool → Option FeedError
 packets_cause (Groups g most) over = if over then Some Group else None
 packets_cause (Pace burst pace) over = if over then Some OverPace else None
 
--- of the room for it, and of its packets
+-- causes in the room for it, and then in its packets
 unfoldable pub room_cause : Bool → Option FeedError → Option FeedError
 room_cause full over = if full then Some Full else over
 
@@ -57,7 +57,7 @@ is_late l slots u = nat_lt u.dts l.parameters.lead || nat_lt (release l.paramete
 abbrev pub is_full : OwnedStream → ℕ → ℕ → List AccessUnit → Bool
 is_full l slots capacity us = nat_le capacity (length (left_before l slots us).units)
 
--- its packets after those of the units before are more than the stream declares
+-- its packets after the packets of the units before are more than the stream declares
 abbrev pub over_cause : OwnedStream → List AccessUnit → AccessUnit → Option FeedError
 over_cause l us u = packets_cause l.parameters.allowance (is_over l.parameters.allowance (map (timed l) us) (timed l u))
 
@@ -65,12 +65,12 @@ over_cause l us u = packets_cause l.parameters.allowance (is_over l.parameters.a
 abbrev pub min_next_dts_of : OwnedStream → List AccessUnit → ℕ
 min_next_dts_of l us = next_due l.parameters.interval 0 (map (timed l) us)
 
--- why a stream that has accepted these units, with `slots` slots written, refuses a further one
+-- why a stream that has accepted these units, with `slots` slots written, refuses one more unit
 abbrev pub unit_cause : OwnedStream → ℕ → ℕ → List AccessUnit → AccessUnit → Option FeedError
 unit_cause l slots capacity us u = first_cause l.parameters.size l.parameters.pts_limit (min_next_dts_of l us) (is_late l slots u) (is_full l slots capacity us)
     (over_cause l us u) u
 
--- why a call refused a unit, none where it accepted it
+-- why a call refused a unit, none if it accepted the unit
 abbrev pub refusal : {V W : Type 0} → Result V (FeedError × W) → Option FeedError
 refusal (Ok x) = None
 refusal (Err e) = Some e.0

@@ -9,11 +9,11 @@ use Rattle.unit_queue.specs.Queues.{Queue, QueueHolds, ParametersInRange, Kept}
 use Rattle.unit_queue.specs.QueueSteps.{empty_queue, queue_content, sent_in, state_cause, accepted}
 use Rattle.unit_queue.specs.Payloads.{StreamCarried, StreamIsAlone}
 
--- a queue without units stands for a stream that has accepted none
+-- a queue without units represents a stream that has accepted no unit
 abbrev pub FirstLaw : Type 0
 FirstLaw = (l : OwnedStream) (capacity : ℕ) → QueueHolds l 0 capacity [] (empty_queue l.parameters capacity)
 
--- in an own slot a queue gives the stream's packet, and stands for one slot more
+-- in an own slot a queue gives the packet of the stream, and then represents one more slot
 pub record StreamSlot (l : OwnedStream) (slots capacity : ℕ) (us : List AccessUnit) (q : Queue) : Type 0 where
   pub packet : packet_of (queue_content slots q) ≡ packet_of (stream_content l us slots)
   pub holds : QueueHolds l (suc slots) capacity us (sent_in slots q)
@@ -22,17 +22,17 @@ abbrev pub StreamSlotLaw : Type 0
 StreamSlotLaw = (l : OwnedStream) (slots capacity : ℕ) (us : List AccessUnit) (q : Queue) → l.own slots ≡ true →
     QueueHolds l slots capacity us q → StreamSlot l slots capacity us q
 
--- a slot that is not the stream's own changes nothing that a queue stands for
+-- a slot that is not the stream's own changes nothing that a queue represents
 abbrev pub OtherStreamSlotLaw : Type 0
 OtherStreamSlotLaw = (l : OwnedStream) (slots capacity : ℕ) (us : List AccessUnit) (q : Queue) → l.own slots ≡ false →
     QueueHolds l slots capacity us q → QueueHolds l (suc slots) capacity us q
 
--- a queue refuses a unit for the cause that its history has
+-- a queue refuses a unit for the cause that its history gives
 abbrev pub CauseLaw : Type 0
 CauseLaw = (l : OwnedStream) (slots capacity : ℕ) (us : List AccessUnit) (q : Queue) (u : AccessUnit) → QueueHolds l slots capacity us q →
     state_cause slots q u ≡ unit_cause l slots capacity us u
 
--- and with an accepted unit it stands for one unit more
+-- with an accepted unit the queue represents one more unit
 abbrev pub FedLaw : Type 0
 FedLaw = (l : OwnedStream) (slots capacity : ℕ) (us : List AccessUnit) (q : Queue) (u : AccessUnit) → ParametersInRange l.parameters →
     unit_cause l slots capacity us u ≡ None →
@@ -49,11 +49,11 @@ KeptLaw = (l : OwnedStream) (slots capacity : ℕ) (us : List AccessUnit) (u : A
     unit_cause l slots capacity us u ≡ None →
     Kept l us → Kept l (us ++ u ∷ [])
 
--- what an own slot carries can be a packet
+-- the content of an own slot can be a packet
 abbrev pub ContentLaw : Type 0
 ContentLaw = (l : OwnedStream) (us : List AccessUnit) (t : ℕ) → ParametersInRange l.parameters → ContentFits (stream_content l us t)
 
--- what the finished bytes carry of a stream that has its PID for itself
+-- what the finished bytes carry of a stream that is alone on its PID
 abbrev pub CarriedLaw : Type 0
 CarriedLaw = (l : OwnedStream) (us : List AccessUnit) (content : ℕ → Content) (n : ℕ) → StreamIsAlone l us content →
     StreamCarried l us n (run_bytes content 0 n)

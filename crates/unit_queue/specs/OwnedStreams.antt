@@ -7,7 +7,7 @@ use Rattle.unit_timing.specs.PesPacket.{PesPacket, packets_of_unit}
 use Rattle.unit_timing.specs.Schedule.{first_slot as first_own_slot}
 use Rattle.unit_queue.specs.declared.parameters.StreamParameters.{StreamParameters}
 
--- a stream: which slots are its own, over all time, and what it declares of its units
+-- a stream: which slots are its own, over all time, and what it declares about its units
 pub record OwnedStream : Type 0 where
   pub own : ℕ → Bool
   pub parameters : StreamParameters
@@ -16,22 +16,22 @@ pub record OwnedStream : Type 0 where
 abbrev pub pes_bytes : OwnedStream → AccessUnit → List ℕ
 pes_bytes l u = pes_packet_bytes l.parameters.stream_id l.parameters.base0 u
 
--- a decoder may begin with the unit, and then two bytes of an adaptation field are in front of it
+-- a decoder may begin with the unit: then two bytes of an adaptation field precede it
 abbrev pub has_access : AccessUnit → Bool
 has_access u = u.marks.random_access
 
--- the same as timing sees it: the decoding time stamp, the size in bytes, and the bytes in front of them
+-- the unit in the model of timing: the decoding time stamp, the size in bytes, and the bytes in front of them
 abbrev pub timed : OwnedStream → AccessUnit → PesPacket
 timed l u = record { dts = u.dts; size = length (pes_bytes l u); front = field_size (has_access u) }
 
--- the transport packets that carry it
+-- the number of transport packets that carry the unit
 abbrev pub packet_count : OwnedStream → AccessUnit → ℕ
 packet_count l u = packets_of_unit (timed l u)
 
--- the number of the own slot in which it begins: none before its release, and none of the first `free`, which are taken
+-- the number of the own slot where the unit begins: no slot before its release, and none of the first `free` own slots, which are taken
 unfoldable pub first_slot : OwnedStream → ℕ → AccessUnit → ℕ
 first_slot l free u = first_own_slot l.own l.parameters.rate l.parameters.lead free (timed l u)
 
--- the number of the own slot after its last
+-- the number of the own slot after the last packet of the unit
 abbrev pub end_slot : OwnedStream → ℕ → AccessUnit → ℕ
 end_slot l free u = first_slot l free u + packet_count l u

@@ -16,12 +16,12 @@ use Rattle.slot_contents.specs.RunLaws.{Fits}
 use Rattle.unit_queue.specs.OwnedStreams.{OwnedStream, pes_bytes, has_access, timed, packet_count}
 use Rattle.unit_queue.specs.Places.{UnitPlace, place_at, piece_bytes, piece_start, stream_content}
 
--- the payloads that a PES packet is cut into; it begins in the first
+-- the payloads of a PES packet; it begins in the first payload
 unfoldable pub marked : Start → List (List ℕ) → List Piece
 marked start [] = []
 marked start (bytes ∷ rest) = record { start = start; bytes = bytes } ∷ marked Continues rest
 
--- those of one with which a decoder may begin, or may not
+-- the payloads of a PES packet, which may be a random access point
 abbrev pub pes_pieces : Bool → List ℕ → List Piece
 pes_pieces access pes = marked (start_by true access) (unit_pieces access pes)
 
@@ -36,7 +36,7 @@ all_senders l us = flat_map (λ u. replicate (packet_count l u) u) us
 abbrev pub piece_in : Payload → Piece
 piece_in p = record { start = p.start; bytes = p.bytes }
 
--- the payload in the place of an own slot, and those of n slots
+-- the payload in the place of an own slot, and the payloads of n slots
 abbrev pub piece_of : OwnedStream → Option UnitPlace → Option Piece
 piece_of l None = None
 piece_of l (Some x) = Some (record { start = piece_start x; bytes = piece_bytes l x })
@@ -48,23 +48,23 @@ stream_payloads l us n = flat_map (λ s. put s (piece_of l (place_at l 0 0 us (o
 abbrev pub IsReleased : OwnedStream → AccessUnit → ℕ → Type 0
 IsReleased l u slot = u.dts * l.parameters.rate ≤ slot * slot_units_at_1bps + l.parameters.lead * l.parameters.rate
 
--- what the finished bytes of n slots have of a stream's units
+-- what the finished bytes of n slots carry of the units of a stream
 pub record StreamCarried (l : OwnedStream) (us : List AccessUnit) (n : ℕ) (bytes : List ℕ) : Type 0 where
   -- packet number j of the PID has the continuity_counter j modulo 16 (ISO/IEC 13818-1, 2.4.3.3)
   pub counters : (j : ℕ) (e : Entry) → slice_get (pid_list l.parameters.pid bytes) j ≡ Some e → e.packet.header.continuity_counter ≡ j % 16
-  -- the payloads are the first of those that the units are cut into: each is of one unit, and has the start indicator where a unit begins, with
-  -- the random_access_indicator exactly if a decoder may begin with the unit
+  -- the payloads are the first payloads of the units: each belongs to a single unit, and has the start indicator where a unit begins, with the
+  -- random_access_indicator exactly if a decoder may begin with the unit
   pub pieces : map (λ e. piece_in (payload_at e)) (pid_list l.parameters.pid bytes) ≡ take (length (pid_list l.parameters.pid bytes)) (all_pieces l us)
   -- joined they are a beginning of the units' PES packets
   pub joined : starts_with nat_eq (concat (map (pes_bytes l) us)) (payloads_on l.parameters.pid bytes) ≡ true
-  -- none comes early
+  -- no payload is sent early
   pub released : (j : ℕ) (e : Entry) (u : AccessUnit) → slice_get (pid_list l.parameters.pid bytes) j ≡ Some e → slice_get (all_senders l us) j ≡ Some u →
       IsReleased l u e.index
-  -- they are the packets that the timing of the stream speaks of
+  -- they are the packets in the model of timing
   pub packets : map (λ e. record { slot = e.index; size = length (payload_of e.packet) }) (pid_list l.parameters.pid bytes)
       ≡ packets_in_slots l.own l.parameters.rate l.parameters.lead 0 (map (timed l) us) (own_slots l.own 0 n)
 
--- an output in which the stream, and nothing else, is on its PID
+-- an output where the stream is alone on its PID
 pub record StreamIsAlone (l : OwnedStream) (us : List AccessUnit) (content : ℕ → Content) : Type 0 where
   pub fits : Fits content
   pub no_null : (l.parameters.pid == 8191) ≡ false

@@ -1,4 +1,4 @@
--- What the own slots of a stream carry, counted from 0 over all time: units in their order, each from its release on.
+-- What the own slots of a stream carry, counted from 0 over all time: the units in order, each from its release on.
 use Rattle.std.specs.Prelude.{ℕ, ◌+◌, ◌-◌, ◌*◌, ◌==◌, cond, nat_lt, Option, Some, None, List, [], ◌∷◌}
 use Rattle.own_slots.specs.Slots.{own_before}
 use Rattle.pes_packet.specs.AccessUnits.{AccessUnit}
@@ -15,7 +15,7 @@ pub record UnitPlace : Type 0 where
   pub piece : ℕ
   pub number : ℕ
 
--- what own slot number i carries, where the first `free` are taken and `number` packets have been sent
+-- what own slot number i carries, if the first `free` slots are taken and `number` packets have been sent
 unfoldable pub place_at : OwnedStream → ℕ → ℕ → List AccessUnit → ℕ → Option UnitPlace
 place_at l free number [] i = None
 place_at l free number (u ∷ us) i =
@@ -27,20 +27,20 @@ place_at l free number (u ∷ us) i =
 abbrev pub piece_bytes : OwnedStream → UnitPlace → List ℕ
 piece_bytes l x = part_of (field_size (has_access x.unit)) (184 * x.piece) (pes_bytes l x.unit)
 
--- what begins with it: the PES packet with its first piece
+-- what begins with that piece: the PES packet, if it is the first piece
 abbrev pub piece_start : UnitPlace → Start
 piece_start x = start_by (x.piece == 0) (has_access x.unit)
 
--- as the content of a slot: a payload, or nothing
+-- the place as the content of a slot: a payload, or nothing
 abbrev pub content_of : OwnedStream → Option UnitPlace → Content
 content_of l None = NullContent
 content_of l (Some x) = PayloadContent l.parameters.pid x.number (piece_start x) (piece_bytes l x)
 
--- what slot s carries of these units, where it is an own slot
+-- what slot s carries of these units, if it is an own slot
 abbrev pub stream_content : OwnedStream → List AccessUnit → ℕ → Content
 stream_content l us s = content_of l (place_at l 0 0 us (own_before l.own s))
 
--- what is left before an own slot: the units not sent whole, the own slots taken by those before them, and the number of their packets
+-- what remains before an own slot: the units not sent whole, the own slots that the units before them took, and the number of their packets
 pub record Left : Type 0 where
   pub free : ℕ
   pub number : ℕ
@@ -52,12 +52,12 @@ left_at l p free number (u ∷ us) =
     cond (nat_lt p (end_slot l free u)) (record { free = free; number = number; units = u ∷ us })
     (left_at l p (end_slot l free u) (number + packet_count l u) us)
 
--- of units of which the first is not sent whole, the number of its packets before own slot number p
+-- the number of packets of the first unit that are sent before own slot number p
 unfoldable pub begun : OwnedStream → ℕ → ℕ → List AccessUnit → ℕ
 begun l p free [] = 0
 begun l p free (u ∷ us) = p - first_slot l free u
 
--- what is left when the slots before s are written
+-- what remains when the slots before s are written
 abbrev pub left_before : OwnedStream → ℕ → List AccessUnit → Left
 left_before l s us = left_at l (own_before l.own s) 0 0 us
 

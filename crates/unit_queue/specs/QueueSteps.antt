@@ -1,4 +1,4 @@
--- One slot, and one unit more, as a queue takes them.
+-- The steps of a queue: one slot, and one more unit.
 use Rattle.std.specs.Prelude.{ℕ, ◌+◌, ◌-◌, ◌%◌, ◌==◌, ◌||◌, nat_lt, nat_le, Bool, if◌then◌else◌, Option, List, [], ◌∷◌, ◌++◌, length, drop}
 use Rattle.clock27.specs.Release.{release}
 use Rattle.pes_packet.specs.AccessUnits.{AccessUnit}
@@ -16,15 +16,15 @@ use Rattle.unit_queue.specs.Queues.{Queued, Queue, queued}
 use Rattle.unit_queue.specs.declared.parameters.StreamParameters.{StreamParameters}
 use Rattle.unit_queue.specs.declared.refusal.FeedError.{FeedError}
 
--- more than a packet holds is left of a PES packet, and of what is in front of it
+-- more bytes remain of a PES packet, and of the field in front of it, than one packet holds
 abbrev pub goes_on : Bool → List ℕ → ℕ → Bool
 goes_on access pes sent = nat_lt 184 (field_size access + length pes - sent)
 
--- a payload, where there are bytes for it
+-- a payload, if there are bytes for it
 unfoldable pub payload_or_null : ℕ → ℕ → Start → List ℕ → Content
 payload_or_null pid number start bytes = if length bytes == 0 then NullContent else PayloadContent pid number start bytes
 
--- the packet that carries what comes after the first `sent` bytes of a PES packet, and of what is in front of it
+-- the packet that carries the bytes after the first `sent` bytes of a PES packet and of the field in front of it
 abbrev pub part_content : ℕ → ℕ → Bool → List ℕ → ℕ → Content
 part_content pid number access pes sent = payload_or_null pid number (start_by (sent == 0) access) (part_of (field_size access) sent pes)
 
@@ -36,7 +36,7 @@ front_content s q (u ∷ us) = if nat_lt s u.release then NullContent else part_
 abbrev pub queue_content : ℕ → Queue → Content
 queue_content s q = front_content s q q.units
 
--- the queue when a piece of its first unit is sent, and further ones follow it or not
+-- the queue after a piece of its first unit is sent, with more pieces to follow or not
 abbrev pub stepped : Bool → Queue → Queue
 stepped more q =
     if more then record q { sent = q.sent + 184; counter = (q.counter + 1) % 256 }
@@ -50,7 +50,7 @@ front_sent s q (u ∷ us) = if nat_lt s u.release then q else stepped (goes_on u
 abbrev pub sent_in : ℕ → Queue → Queue
 sent_in s q = front_sent s q q.units
 
--- a queue in which no unit has been
+-- a queue that has had no unit
 abbrev pub empty_queue : StreamParameters → ℕ → Queue
 empty_queue r capacity = record { parameters = r; units = []; capacity = capacity; sent = 0; counter = 0; min_next_dts = 0; tally = empty_tally r.allowance }
 
@@ -58,15 +58,15 @@ empty_queue r capacity = record { parameters = r; units = []; capacity = capacit
 abbrev pub late_at : StreamParameters → ℕ → ℕ → Bool
 late_at r slots dts = nat_lt dts r.lead || nat_lt (release r.rate r.lead dts) slots
 
--- when the unit before is due, 0 where there is none
+-- when the unit before is due, 0 if there is no unit before
 abbrev pub last_dts : Queue → ℕ
 last_dts q = q.min_next_dts - q.parameters.interval
 
--- a unit has more packets than are allowed after those that the queue counted
+-- a unit has more packets than are allowed after the packets that the queue counted
 abbrev pub is_over_for : Queue → PesPacket → Bool
 is_over_for q unit = exceeds q.parameters.allowance q.tally (last_dts q) unit
 
--- a unit as timing sees it
+-- a unit in the model of timing
 abbrev pub timed_by : StreamParameters → AccessUnit → PesPacket
 timed_by r u = record { dts = u.dts; size = length (pes_packet_bytes r.stream_id r.base0 u); front = field_size (has_access u) }
 

@@ -1,4 +1,4 @@
--- The state of a queue, and the history that it stands for.
+-- The state of a queue, and the history that it represents.
 use Rattle.std.specs.Prelude.{◌≡◌, ◌≤◌, ◌<◌, ℕ, ◌+◌, ◌*◌, ◌%◌, ◌/◌, ◌^◌, Bool, List, length, map, All, IsTrue}
 use Rattle.clock27.specs.Release.{release}
 use Rattle.pes_packet.specs.AccessUnits.{AccessUnit}
@@ -22,11 +22,11 @@ pub record ParametersInRange (r : StreamParameters) : Type 0 where
   pub pts_limit : r.pts_limit ≤ 5_400_000
   pub rows : 0 < allowance_rows r.allowance
 
--- the maximum number of packets of a unit, whose header has at most 19 bytes and what its marks take
+-- the maximum number of packets of a unit, with at most 19 bytes of header and the bytes of its marks
 abbrev pub max_packets_per_unit : StreamParameters → ℕ
 max_packets_per_unit r = (19 + r.size + 183) / 184
 
--- the units that a stream accepts: each by itself, with what its marks take, their distances, their sizes and the number of their packets
+-- the units that a stream accepts: each by itself, including its marks, and together their distances, their sizes and the number of their packets
 pub record IsUnit (r : StreamParameters) (u : AccessUnit) : Type 0 where
   pub some : 1 ≤ length u.bytes
   pub most : length u.bytes + marks_size u.marks ≤ r.size
@@ -47,8 +47,8 @@ pub record Queued : Type 0 where
   pub access : Bool
   pub bytes : List ℕ
 
--- a queue: the units not sent whole, and of the first the bytes that are sent, with those in front of it; the number of packets sent, modulo 256; the minimum
--- DTS of the next unit; what is counted of the packets of all units accepted
+-- a queue: the units not sent whole, and the bytes sent of the first unit and of the field in front of it; the number of packets sent, modulo 256; the
+-- minimum DTS of the next unit; and the tally of the packets of all accepted units
 pub record Queue : Type 0 where
   pub parameters : StreamParameters
   pub units : List Queued
@@ -67,7 +67,7 @@ queued r u = record {
   bytes = u.bytes;
 }
 
--- a queue for these units, which are not sent whole, when `begun` packets of the first, which is packet `number` of the stream, are sent
+-- a queue for these units, which are not sent whole, when `begun` packets of the first unit are sent; this unit begins with packet `number` of the stream
 abbrev pub queue_at : OwnedStream → ℕ → ℕ → List AccessUnit → ℕ → ℕ → Tally → Queue
 queue_at l number begun us capacity min_next_dts tally = record {
   parameters = l.parameters;
@@ -84,7 +84,7 @@ abbrev pub queue_of : OwnedStream → ℕ → ℕ → List AccessUnit → Queue
 queue_of l slots capacity us = queue_at l (left_before l slots us).number (begun_before l slots us) (left_before l slots us).units capacity
     (min_next_dts_of l us) (tally_of l.parameters.allowance (map (timed l) us))
 
--- a queue stands for that history
+-- a queue represents this history
 pub record QueueHolds (l : OwnedStream) (slots capacity : ℕ) (us : List AccessUnit) (q : Queue) : Type 0 where
   pub state : q ≡ queue_of l slots capacity us
   pub kept : Kept l us

@@ -11,9 +11,8 @@ use unit_timing::allowance::Allowance;
 // No DTS over this is accepted.
 const MAX_DTS: u64 = 1 << 52;
 
-/// Returns the first cause that lies in the unit by itself and in its distance from the one before: it has a byte, and
-/// with what its marks take at most `largest`, its DTS is `min_next_dts` or later, and its PTS at most `limit` after
-/// its DTS.
+/// Returns the first cause within the unit and in its distance from the unit before: it has a byte, and with its marks
+/// at most `largest` bytes, its DTS is `min_next_dts` or later, and its PTS at most `limit` after its DTS.
 #[tactic(auto, unfolding(crate::specs::Causes::own_cause))]
 pub fn own_cause<A: Allocator>(
     largest: usize,
@@ -62,7 +61,7 @@ pub(crate) fn packets_cause(allowance: Allowance, over: bool) -> Option<FeedErro
     }
 }
 
-/// Returns the first cause that lies in the room for it: the queue is full, or that of its packets.
+/// Returns the first cause in the room for a unit: the queue is full, or the cause `over` in its packets.
 #[tactic(auto, unfolding(crate::specs::Causes::room_cause))]
 pub(crate) fn room_cause(full: bool, over: Option<FeedError>) -> Option<FeedError>
     ensures { result ≡ room_cause full over }
@@ -70,7 +69,7 @@ pub(crate) fn room_cause(full: bool, over: Option<FeedError>) -> Option<FeedErro
     if full { Some(FeedError::Full) } else { over }
 }
 
-// Whether the PTS is before the DTS, or more than a limit after it.
+// Returns whether the PTS is before the DTS, or more than `limit` after it.
 fn is_bad_pts(limit: u32, dts: u64, pts: u64) -> bool
     ensures { result ≡ is_bad_pts limit dts pts }
 {

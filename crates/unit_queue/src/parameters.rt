@@ -34,7 +34,7 @@ pub struct StreamParameters {
 }
 
 impl StreamParameters {
-    // The PES header of a unit.
+    // Returns the PES header of a unit.
     pub(crate) fn header<A: Allocator>(&self, unit: &Unit<A>) -> ArrayVec<u8, 45>
         requires base0 { self.now.base0 < 2 ^ 33 }
         requires fits { IsTrue (fits_packet self.now.stream_id (length unit.now.bytes)) }

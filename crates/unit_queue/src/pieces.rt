@@ -13,10 +13,9 @@ use ts_packet::{
     MAX_PAYLOAD, Start, write_null_packet_into, write_payload_into, write_split_payload_into,
 };
 
-/// Writes the packet that comes after the first `sent` bytes of a PES packet, its header and then the unit, over the
-/// bytes of `packet`, and says whether further packets follow it. The counter is taken modulo 16. If a decoder may
-/// begin with the unit, two bytes of its first packet's adaptation field are in front of the PES packet, and count in
-/// `sent`.
+/// Writes the packet after the first `sent` bytes of a PES packet, its header and then the unit, into `packet`, and
+/// returns whether more packets follow it. The counter is taken modulo 16. If a decoder may begin with the unit, two
+/// bytes of the adaptation field of its first packet are in front of the PES packet, and count in `sent`.
 pub fn write_piece(
     packet: &mut [u8; 188],
     pid: u16,
@@ -39,7 +38,7 @@ pub fn write_piece(
     left_after(access, header, bytes, sent) > MAX_PAYLOAD
 }
 
-// The greatest payload of the packet that comes after the first `sent` bytes of a PES packet and of what is in front of
+// Returns the greatest payload of the packet after the first `sent` bytes of a PES packet and of the field in front of
 // it.
 fn part_room(access: bool, sent: usize) -> usize
     ensures value { result ≡ 184 - (field_size access - sent) }
@@ -49,7 +48,7 @@ fn part_room(access: bool, sent: usize) -> usize
     MAX_PAYLOAD - field_size(access).saturating_sub(sent)
 }
 
-// The number of bytes that come after those.
+// Returns the number of bytes after the first `sent` bytes.
 fn left_after(access: bool, header: &[u8], bytes: &[u8], sent: usize) -> usize
     requires { length header.now ≤ 45 }
     ensures value { result ≡ field_size access + length (header.now ++ bytes.now) - sent }
@@ -96,7 +95,7 @@ pub(crate) fn packet_count(size: usize) -> u64
     size.div_ceil(MAX_PAYLOAD) as u64
 }
 
-// The bytes from one on.
+// Returns the bytes from number `start` on.
 #[tactic(auto, using(std::proofs::lemmas::List::drop_min))]
 fn bytes_from(bytes: &[u8], start: usize) -> &[u8]
     ensures { result.now ≡ drop start bytes.now }
@@ -126,7 +125,7 @@ fn write_front(
     write_split_payload(packet, pid, counter, start, header, front);
 }
 
-// Writes the packet of a payload, the null packet where it has no bytes.
+// Writes the packet of a payload, or the null packet if the payload has no bytes.
 #[tactic(auto, unfolding(crate::specs::QueueSteps::payload_or_null, slot_contents::specs::Contents::packet_of))]
 fn write_payload(packet: &mut [u8; 188], pid: u16, counter: u8, start: Start, payload: &[u8])
     requires pid { pid < 2 ^ 13 }
@@ -140,7 +139,7 @@ fn write_payload(packet: &mut [u8; 188], pid: u16, counter: u8, start: Start, pa
     }
 }
 
-// Writes the packet of a payload in two slices, of which the first is not empty.
+// Writes the packet of a payload in two slices; `first` is not empty.
 #[tactic(auto, unfolding(crate::specs::QueueSteps::payload_or_null, slot_contents::specs::Contents::packet_of))]
 fn write_split_payload(
     packet: &mut [u8; 188],

@@ -31,13 +31,13 @@ use ts_packet::{MAX_PAYLOAD, write_null_packet_into};
 pub struct UnitQueue<A: Allocator = Global> {
     parameters: StreamParameters,
     waiting: HeapCircularBuffer<QueuedUnit<A>, A>,
-    // The bytes sent of the first unit's PES packet, and of what is in front of it.
+    // The bytes sent of the first unit's PES packet and of the field in front of it.
     sent: usize,
     // The number of packets sent, modulo 256.
     counter: u8,
     // The minimum DTS of the next unit.
     min_next_dts: u64,
-    // What is counted of the packets of the units accepted.
+    // The tally of the packets of the accepted units.
     tally: PacketTally<A>,
 }
 
@@ -83,9 +83,9 @@ impl<A: Allocator + Clone> UnitQueue<A> {
 }
 
 impl<A: Allocator> UnitQueue<A> {
-    /// Takes a unit, when `slots` slots are written, or hands it back with the first cause for which it is refused.
+    /// Takes a unit, when `slots` slots are written, or returns it with the first cause of the refusal.
     pub fn feed(&mut self, slots: u64, unit: Unit<A>) -> Result<(), (FeedError, Unit<A>)>
-        // Of any stream and its units that the queue stands for: why the unit is refused, and else one unit more.
+        // For any stream and units that the queue represents: the cause of a refusal, or one more unit.
         ensures refused { (l : OwnedStream) (capacity : ℕ) (us : List AccessUnit) →
             QueueHolds l slots capacity us self.old →
             refusal result ≡ unit_cause l slots capacity us unit }
@@ -114,7 +114,7 @@ impl<A: Allocator> UnitQueue<A> {
         }
     }
 
-    // The slot of a unit's release, or the first cause that does not lie in the room for it.
+    // Returns the slot of a unit's release, or the first cause in the unit or in its time.
     #[tactic(auto, unfolding(crate::specs::Causes::or_cause, crate::specs::Causes::time_cause))]
     fn release(&self, slots: u64, unit: &Unit<A>) -> Result<u64, FeedError>
         ensures cause { error_of result ≡ or_cause (own_cause self.now.parameters.size self.now.parameters.pts_limit self.now.min_next_dts unit.now)
@@ -143,8 +143,8 @@ impl<A: Allocator> UnitQueue<A> {
         }
     }
 
-    // The first cause that lies in the room for a unit of this DTS and size in bytes, with `front` bytes in front of
-    // it, or in its packets.
+    // Returns the first cause in the room for a unit or in its packets; the unit has this DTS and size in bytes, and
+    // `front` bytes in front of it.
     fn room(&self, dts: u64, size: usize, front: usize) -> Option<FeedError>
         requires { front + size < 2 ^ 63 }
         ensures { result ≡ room_cause (nat_le self.now.capacity (length self.now.units))
@@ -158,7 +158,7 @@ impl<A: Allocator> UnitQueue<A> {
         room_cause(full, packets_cause(allowance, over))
     }
 
-    // Adds a unit for which there is room.
+    // Adds a unit; there has to be room for it.
     fn push(&mut self, dts: u64, size: usize, front: usize, unit: QueuedUnit<A>)
         requires dts { dts ≤ 2 ^ 52 }
         requires size { front + size < 2 ^ 63 }
@@ -173,7 +173,7 @@ impl<A: Allocator> UnitQueue<A> {
         let _ = self.waiting.try_push_back(unit);
     }
 
-    // When the unit before is due, 0 where there is none.
+    // Returns when the unit before is due, 0 if there is none.
     fn last_dts(&self) -> u64
         ensures { result ≡ last_dts self.now }
     {
@@ -184,7 +184,7 @@ impl<A: Allocator> UnitQueue<A> {
     /// Returns the packet of an own slot: the next piece of the current unit; or the first piece of the next unit, if
     /// the slot of its release is `slot` or before; or the null packet.
     pub fn next(&mut self, slot: u64) -> [u8; 188]
-        // Of any stream and its units that the queue stands for: their packet in this slot, and one slot more.
+        // For any stream and units that the queue represents: their packet in this slot, and one more slot.
         ensures stands { (l : OwnedStream) (capacity : ℕ) (us : List AccessUnit) → l.own slot ≡ true →
             QueueHolds l slot capacity us self.old →
             (result ≡ packet_of (stream_content l us slot)) × QueueHolds l (suc slot) capacity us self.new }
@@ -212,7 +212,7 @@ impl<A: Allocator> UnitQueue<A> {
         }
     }
 
-    // A piece of the first unit is sent, and further ones follow it or not.
+    // Notes that a piece of the first unit is sent, with more pieces to follow or not.
     fn step(&mut self, more: bool)
         requires { more ≡ true → self.old.sent + 184 < 2 ^ 64 }
         ensures { self.new ≡ stepped more self.old }

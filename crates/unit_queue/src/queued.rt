@@ -41,8 +41,7 @@ impl<A: Allocator> QueuedUnit<A> {
         }
     }
 
-    /// Writes the packet that comes after the first `sent` bytes over the bytes of `packet`, and says whether further
-    /// packets follow it.
+    /// Writes the packet after the first `sent` bytes into `packet`, and returns whether more packets follow it.
     pub fn write_piece(&self, packet: &mut [u8; 188], pid: u16, counter: u8, sent: usize) -> bool
         requires pid { pid < 2 ^ 13 }
         ensures packet { packet.new ≡ packet_of (part_content pid counter self.now.access

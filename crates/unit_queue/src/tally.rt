@@ -12,12 +12,12 @@ use std::alloc::{AllocError, Allocator};
 use std::marker::Model;
 use unit_timing::allowance::Allowance;
 
-/// The packets of the units before, as far as those of the next unit are judged by them: its memory is taken by `new`.
+/// The packets of earlier units that count towards the allowance of the next unit; `new` takes the memory.
 #[derive(Drop)]
 pub(crate) struct PacketTally<A: Allocator> {
     // By groups, the number of packets of each unit in the same group as the next; by pace nothing.
     recent: HeapCircularBuffer<u64, A>,
-    // By pace, the packets so far less those that the pace took off, in parts of which a packet has 135,360,000; by
+    // By pace, the packets so far minus the packets that the pace took off, in units of 1 / 135,360,000 packet; by
     // groups 0.
     level: u64,
 }
@@ -65,7 +65,7 @@ impl<A: Allocator> PacketTally<A> {
         }
     }
 
-    /// Counts a unit that is within what is allowed.
+    /// Counts a unit that is within the allowance.
     pub fn add(&mut self, allowance: Allowance, last: u64, dts: u64, size: usize, front: usize)
         requires size { front + size < 2 ^ 63 }
         requires within { exceeds allowance self.old last (record { dts = dts; size = size; front = front }) ≡ false }
@@ -75,7 +75,7 @@ impl<A: Allocator> PacketTally<A> {
         let _ = self.recent.push_back(packet_count(front + size));
     }
 
-    // Whether a unit of this number of packets is too large for its group.
+    // Returns whether a unit of this number of packets is too large for its group.
     fn exceeds_group(&self, most: u32, packets: u64) -> bool
         ensures { result ≡ nat_lt most (sum self.now.recent + packets) }
     {
@@ -91,7 +91,7 @@ impl<A: Allocator> PacketTally<A> {
         false
     }
 
-    // The level with a unit that is within what is allowed; by groups 0.
+    // Returns the level with a unit that is within the allowance; 0 by groups.
     fn level_with(
         &self,
         allowance: Allowance,
@@ -110,7 +110,8 @@ impl<A: Allocator> PacketTally<A> {
         }
     }
 
-    // The level with a further unit: what the pace takes off until its DTS, no more than there is, and its packets.
+    // Returns the level with one more unit: the level minus what the pace takes off until its DTS (at least 0), plus
+    // its packets.
     fn next_level(&self, pace: u32, last: u64, dts: u64, size: usize, front: usize) -> u128
         requires { front + size < 2 ^ 63 }
         ensures { result ≡ next_level pace self.now.level last (record { dts = dts; size = size; front = front }) }

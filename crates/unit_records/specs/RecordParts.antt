@@ -1,11 +1,11 @@
--- The parts of a record, as they are read one by one.
+-- The parts of a record, read one by one.
 use Rattle.std.specs.Prelude.{◌≡◌, ◌≤◌, ◌<◌, ℕ, List, [], length, take, drop, slice_index, Option, Some, None, Result, Ok, Err}
 use Rattle.byteorder.specs.Endian.{big_number}
 use Rattle.unit_records.specs.Records.{StopsWithin, byte_at, max_unit_size, size_at}
 use Rattle.unit_records.specs.declared.reading.UnitFileError.{UnitFileError}
 use Rattle.unit_records.specs.declared.reading.UnitFileError.TheVariants.{Cut, Size, Device, Memory}
 
--- a part was filled, or the input ended in it
+-- a part was filled, or the input ended within it
 abbrev pub FillsWhole : List ℕ → Option (List ℕ) → List ℕ → Result (Unit {0}) UnitFileError → Type 0
 FillsWhole xs left part (Ok x) = (length part ≤ length xs) × (part ≡ take (length part) xs) × (left ≡ Some (drop (length part) xs))
 FillsWhole xs left part (Err Cut) = (length xs < length part) × (left ≡ Some [])

@@ -11,7 +11,7 @@ use Rattle.pes_packet.specs.AccessUnits.{AccessUnit}
 use Rattle.unit_records.specs.declared.reading.UnitFileError.{UnitFileError}
 use Rattle.unit_records.specs.declared.reading.UnitFileError.TheVariants.{Cut, Size, Device, Memory}
 
--- the number of bytes before PES_private_data and those of the unit
+-- the size of the head of a record: the bytes before PES_private_data and the unit
 abbrev pub head_size : ℕ
 head_size = 21
 
@@ -29,11 +29,11 @@ abbrev pub private_bytes : Option (List ℕ) → List ℕ
 private_bytes None = []
 private_bytes (Some bytes) = sixteen bytes
 
--- and their number
+-- the number of bytes of PES_private_data in a record
 abbrev pub private_size : Marks → ℕ
 private_size marks = if is_some marks.private_data then 16 else 0
 
--- the marks that a byte names, with the bytes behind the head of a record
+-- the marks in a byte, together with the bytes behind the head of a record
 unfoldable pub marks_in : ℕ → List ℕ → Marks
 marks_in byte bytes = record {
   random_access = flag byte 64;
@@ -42,23 +42,23 @@ marks_in byte bytes = record {
   private_data = if flag byte 32 then first_sixteen bytes else None;
 }
 
--- the bytes of the unit among them
+-- the bytes of the unit among the bytes behind the head
 abbrev pub bytes_in : ℕ → List ℕ → List ℕ
 bytes_in byte bytes = if flag byte 32 then drop 16 bytes else bytes
 
--- the word of a record: a byte of marks and three bytes of size; where three bytes do not name the size, a word that no reader takes
+-- the word of a record: a byte of marks and three bytes of size; if the size does not fit in three bytes, a word that no reader takes
 abbrev pub word_of : Marks → ℕ → ℕ
 word_of marks size = if nat_lt size (2 ^ 24) then marks_byte marks * 2 ^ 24 + size else 2 ^ 32 - 1
 
--- the least number of bytes behind the head of a record with marks: those of PES_private_data, and one of the unit
+-- the least number of bytes behind the head of a record with marks: PES_private_data, if present, and one byte of the unit
 abbrev pub least_size : ℕ → ℕ
 least_size byte = if flag byte 32 then 17 else 1
 
--- each bit of the byte of marks that is set says something, and the bytes are enough
+-- each bit set in the byte of marks has a meaning, and there are enough bytes
 abbrev pub is_known : ℕ → Bool
 is_known word = nat_lt (word / 2 ^ 24) 128 && nat_le (least_size (word / 2 ^ 24)) (word % 2 ^ 24)
 
--- the size in a word; the whole word, which is 0 or over each size, if a bit that says nothing is set or the unit has no bytes
+-- the size in a word; the whole word, which is 0 or over each size, if a bit without a meaning is set or the unit has no bytes
 unfoldable pub size_in : ℕ → ℕ
 size_in word = if is_known word then word % 2 ^ 24 else word
 
@@ -87,8 +87,7 @@ unit_at xs = record {
   bytes = bytes_in (byte_at xs) (body_at xs);
 }
 
--- what is at the front of an input: nothing if it is empty, a record, or why it is none;
--- the size is tested as soon as it is read
+-- the front of an input: nothing if it is empty, a record, or the fault that was found; the size is tested as soon as it is read
 unfoldable pub record_at : List ℕ → Result (Option (ℕ × AccessUnit)) UnitFileError
 record_at xs =
     if length xs == 0 then Ok None
@@ -101,7 +100,7 @@ record_at xs =
 abbrev pub after_record : List ℕ → List ℕ
 after_record xs = drop (head_size + size_at xs) xs
 
--- the bytes of a record before those of its unit, which has `size`
+-- the bytes of a record in front of its unit, which has `size` bytes
 unfoldable pub record_head : ℕ → Marks → ℕ → ℕ → ℕ → List ℕ
 record_head stream marks size dts pts =
     stream ∷ (big_bytes 4 (word_of marks (private_size marks + size)) ++ (big_bytes 8 dts ++ (big_bytes 8 pts ++ private_bytes marks.private_data)))
@@ -110,16 +109,15 @@ record_head stream marks size dts pts =
 abbrev pub record_bytes : ℕ → AccessUnit → List ℕ
 record_bytes stream unit = record_head stream unit.marks (length unit.bytes) unit.dts unit.pts ++ unit.bytes
 
--- fewer than `size` bytes of an input were read, and the rest is left
+-- fewer than `size` bytes of an input were read, and the rest remains
 pub record StopsWithin (size : ℕ) (xs : List ℕ) (left : Option (List ℕ)) : Type 0 where
   pub read : ℕ
   pub within : read < size
   pub some : read ≤ length xs
   pub rest : left ≡ Some (drop read xs)
 
--- what a call answered of an input of these bytes, and what is left of them: all is read of a record that is cut, the head as
--- far as the size of one that is too large, and of one that is not read whole no more than itself; memory is asked for when
--- the head of a record is read, and for no refused size
+-- the answer of a call for an input of these bytes, and the bytes that remain: a cut record is read to the end of the input, a too large record up to its
+-- size field, and a record whose read fails no further than its own end; memory is requested after the head of a record is read, and never for a refused size
 abbrev pub ReadsRecord : List ℕ → Option (List ℕ) → Result (Option (ℕ × AccessUnit)) UnitFileError → Type 0
 ReadsRecord xs left (Ok None) = (record_at xs ≡ Ok None) × (left ≡ Some [])
 ReadsRecord xs left (Ok (Some entry)) = (record_at xs ≡ Ok (Some entry)) × (left ≡ Some (after_record xs))
@@ -128,7 +126,7 @@ ReadsRecord xs left (Err Size) = (record_at xs ≡ Err Size) × (left ≡ Some (
 ReadsRecord xs left (Err Device) = StopsWithin (head_size + size_at xs) xs left
 ReadsRecord xs left (Err Memory) = (head_size ≤ length xs) × (size_at xs ≤ max_unit_size) × (left ≡ Some (drop head_size xs))
 
--- a fault of the reader is answered exactly where a call of it failed
+-- the answer is a fault of the reader exactly if a call of it failed
 abbrev pub NamesReader : {V : Type 0} → Result V UnitFileError → ℕ → ℕ → Type 0
 NamesReader (Err Device) old new = Failed old new
 NamesReader (Err Cut) old new = new ≡ old

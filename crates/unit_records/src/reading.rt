@@ -54,10 +54,10 @@ pub fn read_unit<A: Allocator, R: Source>(
     alloc: A,
     from: &mut R,
 ) -> Result<Option<(u8, Unit<A>)>, UnitFileError>
-    // Of an input whose bytes are known: which answer, and what is left.
+    // For an input whose bytes are known: the answer, and the bytes that remain.
     ensures known { (xs : List ℕ) → R.remaining from.old ≡ Some xs → ReadsRecord xs (R.remaining from.new) result }
 
-    // Of any input.
+    // For any input.
     ensures fault { NamesReader result (R.fault_count from.old) (R.fault_count from.new) }
     ensures later { R.fault_count from.old ≤ R.fault_count from.new }
 {
@@ -102,7 +102,7 @@ fn fill<R: Source>(from: &mut R, part: &mut [u8]) -> Result<(), UnitFileError>
     }
 }
 
-// The stream, the byte of marks and the size, or None where no byte is left.
+// Reads the stream, the byte of marks and the size; returns None at the end of the input.
 fn read_start<R: Source>(from: &mut R) -> Result<Option<(u8, u8, usize)>, UnitFileError>
     ensures known { (xs : List ℕ) → R.remaining from.old ≡ Some xs → ReadsStart xs (R.remaining from.new) result }
     ensures fault { NamesReader result (R.fault_count from.old) (R.fault_count from.new) }
@@ -126,7 +126,7 @@ fn read_start<R: Source>(from: &mut R) -> Result<Option<(u8, u8, usize)>, UnitFi
     }
 }
 
-// The DTS and the PTS.
+// Reads the DTS and the PTS.
 fn read_stamps<R: Source>(from: &mut R) -> Result<(u64, u64), UnitFileError>
     ensures known { (xs : List ℕ) → R.remaining from.old ≡ Some xs → ReadsStamps xs (R.remaining from.new) result }
     ensures fault { NamesReader result (R.fault_count from.old) (R.fault_count from.new) }
@@ -142,7 +142,7 @@ fn read_stamps<R: Source>(from: &mut R) -> Result<(u64, u64), UnitFileError>
     }
 }
 
-// So many bytes behind a head, in memory of their own.
+// Reads the `size` bytes behind a head, into memory of their own.
 fn read_bytes<A: Allocator, R: Source>(
     alloc: A,
     from: &mut R,

@@ -1,4 +1,4 @@
-//! Records of access units, taken as their bytes come.
+//! Records of access units, taken as their bytes arrive.
 
 ghost use Rattle.std.specs.Prelude.{◌≡◌, ◌-◌, ◌<◌, ◌≤◌, ◌++◌, [], Err, IfErr, IfOk, IfSome, true, false, length, min, take};
 ghost use Rattle.unit_records.specs.OpenRecords.{ClosesRecord, IsOpen, NamesSize, TakesBytes, come_of};
@@ -13,7 +13,7 @@ use pes_packet::Unit;
 use std::alloc::Global;
 use std::mem;
 
-/// The bytes of a record before PES_private_data and those of its unit.
+/// The size of the head of a record: the bytes before PES_private_data and the unit.
 const HEAD: usize = 21;
 
 /// A record that is not whole yet. Its unit's bytes are put into a room of their size as they arrive.
@@ -83,7 +83,7 @@ impl OpenRecord {
         }
     }
 
-    /// Takes the entry of the record out, if all bytes of a unit of this size have come.
+    /// Takes the entry of the record out, if all bytes of a unit of this size have arrived.
     fn close(&mut self, size: usize) -> Option<(u8, Unit)>
         requires { length self.old.head.items ≡ 21 }
         ensures { ClosesRecord size self.old self.new result }
@@ -108,8 +108,8 @@ impl OpenRecord {
         Some((stream, unit))
     }
 
-    /// Takes the next bytes. Where the record ends among them, it returns how many of them belong to it, with the
-    /// number of its stream and its unit, and no byte of the next record has come; else all of them belong to it.
+    /// Takes the next bytes. If the record ends among them, returns how many of them belong to it, with the number of
+    /// its stream and its unit, and no byte of the next record is taken; otherwise all of them belong to it.
     pub fn take(&mut self, bytes: &[u8]) -> Result<Option<(usize, (u8, Unit))>, UnitFileError>
         ensures taken { IsOpen self.old → TakesBytes (come_of self.old) bytes.now self.new result }
         ensures some { IfOk result (λ ended. IfSome ended (λ whole. 0 < whole.0)) }
@@ -134,7 +134,7 @@ impl OpenRecord {
         }
     }
 
-    /// Returns whether a byte of it has come: then an input that ends here is cut inside a record.
+    /// Returns whether a byte of the record has arrived: then an input that ends here is cut inside a record.
     pub fn is_begun(&self) -> bool
         ensures none { IsOpen self.now → result ≡ false → come_of self.now ≡ [] }
         ensures cut { IsOpen self.now → result ≡ true → record_at (come_of self.now) ≡ Err UnitFileError.Cut }

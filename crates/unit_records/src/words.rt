@@ -49,8 +49,8 @@ pub(crate) fn word_of(marks: Marks, size: u64) -> u32
     }
 }
 
-/// Gives the size in a word, or the word itself where a bit of its highest byte says nothing, or a unit without bytes
-/// has marks: then it is over each size that is read.
+/// Returns the size in a word, or the word itself if a set bit of its highest byte has no meaning, or if a unit
+/// without bytes has marks: then it is over each size that is read.
 #[tactic(auto, unfolding(crate::specs::Records::size_in))]
 pub fn size_in(word: u32) -> usize
     ensures { result ≡ size_in word }
@@ -64,7 +64,7 @@ pub fn size_in(word: u32) -> usize
     }
 }
 
-// The least number of bytes behind the head of a record with these marks.
+// Returns the least number of bytes behind the head of a record with these marks.
 fn least_size(byte: u8) -> u32
     ensures { result ≡ least_size byte }
 {

@@ -10,7 +10,7 @@ use bit_fields::append;
 use pes_packet::Unit;
 use std::alloc::Allocator;
 
-/// The greatest number of bytes of a record before those of its unit.
+/// The greatest number of bytes of a record in front of its unit.
 const HEAD: usize = 37;
 
 /// Returns the record of a unit before its bytes: the number of its stream (1 byte), its marks (1) and its size (3),

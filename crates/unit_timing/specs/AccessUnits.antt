@@ -1,6 +1,6 @@
--- PES packets of several access units, as those of audio often are: each access unit is removed from the main buffer at its
--- own decoding time, the first at the packet's stamp and together with the packet's header, each further one a fixed time
--- after the one before (ISO/IEC 13818-1, 2.4.2.3).
+-- PES packets of several access units, as audio often has: each access unit is removed from the main buffer at its own decoding
+-- time, the first at the packet's stamp and together with the packet's header, each further one a fixed time after the one before
+-- (ISO/IEC 13818-1, 2.4.2.3).
 use Rattle.std.specs.Prelude.{ℕ, ◌+◌, ◌-◌, ◌*◌, ◌<◌, ◌≤◌, min, Bool, cond, nat_lt, List, [], ◌∷◌, length, take, drop, map, count_by, All}
 use Rattle.own_slots.specs.Period.{own}
 use Rattle.unit_timing.specs.declared.framing.Framing.{Framing}
@@ -11,8 +11,8 @@ use Rattle.unit_timing.specs.Plans.{Declaration, KeepsDeclaration, run_packets}
 use Rattle.unit_timing.specs.Conditions.{IsProper, StreamClaim, Share, share_of, bytes_waiting, bytes_across, StreamConditions, StreamSwitchConditions}
 use Rattle.unit_timing.specs.PlanLaws.{in_turn}
 
--- a PES packet and the bytes of its access units in their order, which are those of the packet; its header counts as a part of
--- the first
+-- a PES packet and the sizes of its access units in order: together they are all bytes of the packet; its header is a part of the
+-- first access unit
 pub record FramedPacket : Type 0 where
   pub packet : PesPacket
   pub access_units : List ℕ
@@ -24,7 +24,7 @@ access_units_held rate r x apart due [] left = 0
 access_units_held rate r x apart due (size ∷ sizes) left =
     count_by (is_in_main_buffer rate r x due) (take size left) + access_units_held rate r x apart (due + apart) sizes (drop size left)
 
--- and the bytes of all packets
+-- the bytes of all packets
 unfoldable pub framed_fullness : ℕ → ℕ → ℕ → ℕ → List FramedPacket → List ℕ → ℕ
 framed_fullness rate r x apart [] left = 0
 framed_fullness rate r x apart (p ∷ packets) left =
@@ -33,23 +33,23 @@ framed_fullness rate r x apart (p ∷ packets) left =
 abbrev pub packets_of : List FramedPacket → List PesPacket
 packets_of packets = map (λ p. p.packet) packets
 
--- a packet within what is declared of its access units: at most so many, and each but the first, which has the header too, of at
--- most so many bytes
+-- a packet keeps its declared framing: at most `frames` access units, and each access unit after the first (which has the header
+-- too) has at most `frame_size` bytes
 pub record KeepsFraming (f : Framing) (p : FramedPacket) : Type 0 where
   pub few : length p.access_units ≤ f.frames
   pub small : All (λ size. size ≤ f.frame_size) (drop 1 p.access_units)
 
--- ---- what waits when i access units of a packet have been removed
+-- ---- the bytes that wait when i access units of a packet have been removed
 
 -- the next packet is due an interval after the packet, and so at least this long after the moment
 abbrev pub ahead_of : Declaration → Framing → ℕ → ℕ
 ahead_of s f i = min (s.interval - i * f.frame) s.lead
 
--- the declaration with a lead that is so much shorter
+-- the declaration with a lead that is shorter by `less`
 abbrev pub led : Declaration → ℕ → Declaration
 led s less = record s { lead = s.lead - less }
 
--- the bytes of the packet's other access units, and those of later packets, where these may have come
+-- the bytes of the packet's access units that are not removed yet, and the bytes of later packets, if these may have arrived
 abbrev pub framed_waiting : ℕ → Declaration → Framing → Share → ℕ → ℕ
 framed_waiting rate s f own i =
     (f.frames - i) * f.frame_size + cond (nat_lt (ahead_of s f i) s.lead) (bytes_waiting rate (led s (ahead_of s f i)) own) 0
@@ -60,8 +60,8 @@ framed_across rate s f first second i =
 
 -- ---- the law
 
--- of a stream that keeps the conditions of each stream: the last access unit of a packet is removed before the next packet is
--- due, and what waits finds room in the main buffer whenever i access units of a packet have been removed, and others have not
+-- a stream that keeps the conditions of each stream: the last access unit of a packet is removed before the next packet is due, and
+-- the waiting bytes find room in the main buffer when i access units of a packet have been removed and the rest have not
 pub record FramedConditions (rate : ℕ) (s : Declaration) (f : Framing) (own : Share) : Type 0 where
   pub in_turn : (f.frames - 1) * f.frame ≤ s.interval
   pub fits : (i : ℕ) → 0 < i → i < f.frames → framed_waiting rate s f own i ≤ s.main

@@ -10,12 +10,12 @@ use Rattle.unit_timing.specs.Schedule.{packets_in_slots}
 use Rattle.unit_timing.specs.Deadline.{InTime}
 use Rattle.unit_timing.specs.Transport.{pes_left}
 
--- a unit is due where its stamp lies within a run of n slots
+-- a unit is due if its stamp lies within a run of n slots
 abbrev pub is_due : ℕ → ℕ → PesPacket → Bool
 is_due rate n unit = nat_le (unit.dts * rate) (n * slot_units_at_1bps)
 
--- of the departures of what is written of a stream, from this unit on: all bytes of the unit are there, and none leaves
--- after its stamp
+-- a unit has left: `left`, the departures of the stream's written bytes from this unit on, has all bytes of the unit, and none of
+-- them leaves after the unit's stamp
 abbrev pub has_left : ℕ → ℕ → PesPacket → List ℕ → Bool
 has_left rate r unit left = nat_le unit.size (length left) && list_all (λ d. nat_le (d * byte_units_at_1bps) (unit.dts * rate * r)) (take unit.size left)
 
@@ -34,12 +34,12 @@ first_late rate r n number (unit ∷ units) left =
     cond (is_due rate n unit && not (has_left rate r unit left)) (Some number)
     (first_late rate r n (suc number) units (drop unit.size left))
 
--- none is late exactly where each due unit has left
+-- none is late exactly if each due unit has left
 pub record LateLaw : Type 0 where
   pub none_late : (rate r n number : ℕ) (units : List PesPacket) (left : List ℕ) → AllLeft rate r n units left → first_late rate r n number units left ≡ None
   pub all_left : (rate r n number : ℕ) (units : List PesPacket) (left : List ℕ) → first_late rate r n number units left ≡ None → AllLeft rate r n units left
 
--- where each unit ends in time and the work after an own slot is at most the time kept for it, each due unit leaves, in
+-- if each unit ends in time and the work after an own slot is at most the time kept for it, each due unit leaves, in
 -- a run of any length
 abbrev pub ArrivedLaw : Type 0
 ArrivedLaw = (own : ℕ → Bool) (rate lead r room peak : ℕ) (W : ℕ → ℕ) (units : List PesPacket) (n : ℕ) → 0 < r →

@@ -1,5 +1,5 @@
--- The conditions on a stream's own slots, and on those of a program's tables, in one plan and in two plans in turn.
--- Each compares two whole numbers, which stand here once: as numbers of the declaration and of the own slots.
+-- The conditions on a stream's own slots, and on the own slots of a program's tables, in one plan and in two plans in turn. Each
+-- compares two whole numbers, which are defined here: numbers of the declaration and numbers of the own slots.
 use Rattle.std.specs.Prelude.{ℕ, ◌+◌, ◌-◌, ◌*◌, ◌/◌, ◌<◌, ◌≤◌, max, min, Bool, List, length}
 use Rattle.clock27.specs.Units.{slot_units_at_1bps}
 use Rattle.clock27.specs.Units.{byte_units_at_1bps}
@@ -19,22 +19,22 @@ pub record IsProper (rate : ℕ) (s : Declaration) : Type 0 where
   pub some_drain : 0 < s.drain
   pub some_rows : 0 < allowance_rows s.allowance
 
--- ---- what a plan claims
+-- ---- the claims of a plan
 
--- of a stream's own slots: their spread, the work with which a period begins, the greatest work after an own slot
+-- a plan's claim for a stream's own slots: their spread, the work with which a period begins, the greatest work after an own slot
 pub record StreamClaim : Type 0 where
   pub spread : ℕ
   pub start : ℕ
   pub peak : ℕ
 
--- of the slots of a program's tables: the works of the transport buffer, and those of the system buffer
+-- a plan's claim for the slots of a program's tables: the works of the transport buffer, and the works of the system buffer
 pub record ProgramClaim : Type 0 where
   pub transport_start : ℕ
   pub transport_peak : ℕ
   pub system_start : ℕ
   pub system_peak : ℕ
 
--- a stream's own slots in numbers: how many of a period's slots they are, and what is claimed of them
+-- a stream's own slots in numbers: how many slots of a period they are, and what the plan claims for them
 pub record Share : Type 0 where
   pub count : ℕ
   pub period : ℕ
@@ -46,8 +46,8 @@ share_of claim marks = record { count = per_period marks; period = length marks;
 
 -- ---- in the long run there are slots enough
 
--- the slots that the packets of a group take, or those of the pace, and those in the time of a group, or in one unit of
--- 90 kHz
+-- needed: the slots that the packets of a group (or of the pace) take; given: the own slots in the time of a group (or in one unit
+-- of 90 kHz)
 abbrev pub rate_needed : Declaration → Share → ℕ
 rate_needed s own = steady_packets s.allowance * own.period
 
@@ -86,9 +86,9 @@ abbrev pub lead_across : Declaration → Share → Share → ℕ → ℕ → ℕ
 lead_across s first second late m =
     time_needed s (first.count * second.count) (slots_across first second late (packets_in_row s m)) (max first.peak second.peak)
 
--- ---- what waits for its stamp finds room in the main buffer
+-- ---- the bytes that wait for their stamp find room in the main buffer
 
--- the units that can wait at once, rounded up, and the slots in which their packets come
+-- the units that can wait at once, rounded up, and the slots in which their packets arrive
 abbrev pub waiting_units : Declaration → ℕ
 waiting_units s = (s.lead + (s.interval - 1)) / s.interval
 
@@ -136,7 +136,7 @@ pub record ProgramConditions (rate : ℕ) (claim : ProgramClaim) (marks : List B
   pub transport : HoldsWork rate system_tb_drain tb_size claim.transport_start claim.transport_peak marks
   pub system : HoldsWork rate bsys_drain bsys_size claim.system_start claim.system_peak marks
 
--- and on two plans in turn
+-- the conditions on two plans in turn
 pub record ProgramSwitchConditions (rate : ℕ) (claim : ProgramClaim) (first : List Bool) (next : ProgramClaim) : Type 0 where
   pub transport : work_left rate system_tb_drain claim.transport_start first ≤ next.transport_start
   pub system : work_left rate bsys_drain claim.system_start first ≤ next.system_start

@@ -28,8 +28,8 @@ IsEmptyEachSecond rate r f = (x : ℕ) → EmptySoon rate r f x
 
 -- ---- over slots
 
--- W bounds the work before each slot. There are slots in which the buffer becomes empty: none of them is its own, and the
--- work before it is drained before it ends. One of them is in each window of some slots, which last at most a second
+-- W bounds the work before each slot. There are slots in which the buffer becomes empty: no own slot is among them, and the buffer
+-- drains the work before such a slot by the slot's end. Each window of `window` slots has such a slot, and lasts at most a second
 pub record EmptiesOften (own : ℕ → Bool) (rate drain : ℕ) (W : ℕ → ℕ) : Type 0 where
   pub empties : ℕ → Bool
   pub idle : (s : ℕ) → empties s ≡ true → own s ≡ false
@@ -51,17 +51,17 @@ MultiplexingEmptyLaw = (own : ℕ → Bool) (rate rx rbx room peak : ℕ) (W : �
 
 -- ---- of one plan, and of two in turn
 
--- the slots of a period in which the buffer becomes empty, where the period begins with this work
+-- the slots of a period in which the buffer becomes empty, if the period begins with this work
 unfoldable pub empty_slots : ℕ → ℕ → ℕ → List Bool → List Bool
 empty_slots rate drain work [] = []
 empty_slots rate drain work (mark ∷ marks) = (not mark && nat_lt work (188 * drain)) ∷ empty_slots rate drain (work_step rate drain work mark) marks
 
--- one of them comes in each second of a plan, round the period's end
+-- each second of a plan has such a slot, also across the end of a period
 pub record EmptiesEachSecond (rate drain start : ℕ) (marks : List Bool) : Type 0 where
   pub some : 0 < per_period (empty_slots rate drain start marks)
   pub often : gap (empty_slots rate drain start marks) 1 * slot_seconds_at_1bps ≤ rate
 
--- and the first one of the second plan within a second of the last one of the first
+-- the second plan's first such slot is within a second of the first plan's last one
 pub record EmptiesAcross (rate drain start : ℕ) (first : List Bool) (next_start : ℕ) (second : List Bool) : Type 0 where
   pub often : (position (empty_slots rate drain next_start second) 0 + back (empty_slots rate drain start first) 1) * slot_seconds_at_1bps ≤ rate
 

@@ -28,7 +28,7 @@ VideoEmptied own rate s m units =
 abbrev pub ProgramEmptied : (ℕ → Bool) → ℕ → Type 0
 ProgramEmptied own rate = (slots : List ℕ) → Rises own 0 slots → IsEmptyEachSecond rate 2000000 (λ x. system_tb_fullness rate x slots)
 
--- from the conditions on one plan, where each of the buffers becomes empty in each second
+-- from the conditions on one plan, if each of the buffers becomes empty in each second
 pub record EmptyPlanLaw : Type 0 where
   pub stream : (rate : ℕ) (s : Declaration) (claim : StreamClaim) (marks : List Bool) (units : List PesPacket) →
       IsProper rate s → StreamConditions rate s claim marks → EmptiesEachSecond rate s.drain claim.start marks → StreamEmptied (own marks) rate s units
@@ -38,7 +38,7 @@ pub record EmptyPlanLaw : Type 0 where
   pub program : (rate : ℕ) (claim : ProgramClaim) (marks : List Bool) → 0 < length marks → ProgramConditions rate claim marks →
       EmptiesEachSecond rate system_tb_drain claim.transport_start marks → ProgramEmptied (own marks) rate
 
--- and on two plans in turn, where it does so across the switch too
+-- from the conditions on two plans in turn, if each buffer does so across the switch too
 pub record EmptySwitchLaw : Type 0 where
   pub stream : (rate : ℕ) (s : Declaration) (claim : StreamClaim) (first : List Bool) (next : StreamClaim) (second : List Bool) (periods : ℕ)
       (units : List PesPacket) → IsProper rate s → StreamConditions rate s claim first → StreamConditions rate s next second →

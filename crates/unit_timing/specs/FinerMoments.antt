@@ -1,5 +1,5 @@
--- Moments that are not whole: on a scale k times as fine the moment x is x / k on the first one, and all arrivals and
--- departures are k times as great. Stamps lie where they lay: one of T units of 90 kHz at T * (k * rate) * r / 720,000.
+-- Moments that are not whole: on a scale k times as fine the moment x is x / k on the first scale, and all arrivals and departures
+-- are k times as great. Stamps keep their place: a stamp of T units of 90 kHz is at T * (k * rate) * r / 720,000.
 use Rattle.std.specs.Prelude.{◌≡◌, ℕ, ◌*◌, ◌/◌, ◌<◌, ◌≤◌, List, map}
 use Rattle.clock27.specs.Arrival.{arrivals}
 use Rattle.clock27.specs.Departure.{departures}
@@ -37,7 +37,7 @@ abbrev pub MainWholeMoments : Type 0
 MainWholeMoments = (k rate r x : ℕ) (units : List PesPacket) (left : List ℕ) → 0 < k →
     mb_fullness_at k rate r (k * x) units left ≡ mb_fullness rate r x units left
 
--- so the greatest over all moments is that over the whole ones
+-- so the greatest fullness over all moments is the greatest over the whole moments
 abbrev pub MainPeakMoments : Type 0
 MainPeakMoments = (k rate r n : ℕ) (units : List PesPacket) (left : List ℕ) → 0 < k →
     IsPeak (λ x. mb_fullness rate r x units left) n → IsPeak (λ x. mb_fullness_at k rate r x units left) n

@@ -7,7 +7,7 @@ use Rattle.unit_timing.specs.declared.allowance.Allowance.TheVariants.{Groups, P
 use Rattle.unit_timing.specs.PesPacket.{PesPacket, packets_of_unit, Spaced, next_due, last_packets}
 use Rattle.unit_timing.specs.Allowances.{pace_curve, Allows, KeepsAllowance, allowance_rows}
 
--- after a further unit, where the one before is due at `last`
+-- the level after a further unit, if the unit before it is due at `last`
 abbrev pub next_level : ℕ → ℕ → ℕ → PesPacket → ℕ
 next_level pace level last unit = (level - pace * (unit.dts - last)) + packets_of_unit unit * slot_units_at_1bps
 
@@ -16,30 +16,30 @@ unfoldable pub level_after : ℕ → ℕ → ℕ → List PesPacket → ℕ
 level_after pace level last [] = level
 level_after pace level last (unit ∷ units) = level_after pace (next_level pace level last unit) unit.dts units
 
--- and when the last of them is due
+-- when the last unit is due
 unfoldable pub last_due : ℕ → List PesPacket → ℕ
 last_due last [] = last
 last_due last (unit ∷ units) = last_due unit.dts units
 
--- the greatest level after any of them
+-- the greatest level after any unit
 unfoldable pub greatest_after : ℕ → ℕ → ℕ → List PesPacket → ℕ
 greatest_after pace level last [] = 0
 greatest_after pace level last (unit ∷ units) =
     max (next_level pace level last unit) (greatest_after pace (next_level pace level last unit) unit.dts units)
 
--- the same of all units of a stream, which begins with an empty bucket
+-- the same for all units of a stream, which begins with an empty bucket
 abbrev pub level : ℕ → List PesPacket → ℕ
 level pace units = level_after pace 0 0 units
 
 abbrev pub greatest_level : ℕ → List PesPacket → ℕ
 greatest_level pace units = greatest_after pace 0 0 units
 
--- a further unit has more packets than are allowed after these: with the others of its group, or by the level
+-- a further unit has more packets than are allowed after `units`: together with the last units of its group, or by the level
 abbrev pub is_over : Allowance → List PesPacket → PesPacket → Bool
 is_over (Groups g most) units unit = nat_lt most (last_packets (g - 1) units + packets_of_unit unit)
 is_over (Pace burst pace) units unit = nat_lt (burst * slot_units_at_1bps) (next_level pace (level pace units) (last_due 0 units) unit)
 
--- units keep a pace exactly where its burst covers the greatest level that they make
+-- units keep a pace exactly if its burst covers the greatest level that they make
 pub record BurstLaw : Type 0 where
   pub more : (burst pace apart from : ℕ) (units : List PesPacket) → Spaced apart from units → greatest_level pace units ≤ burst * slot_units_at_1bps →
       Allows packets_of_unit (pace_curve burst pace) units
@@ -47,8 +47,8 @@ pub record BurstLaw : Type 0 where
       greatest_level pace units ≤ burst * slot_units_at_1bps
   pub level_le : (pace : ℕ) (units : List PesPacket) → level pace units ≤ greatest_level pace units
 
--- a further unit of at most n packets keeps what is declared exactly where it is not over; the level goes on from its
--- last value, and the last stamp is known from the least that the next unit may have
+-- a further unit of at most n packets keeps the declaration exactly if it is not over; the level is computed from its last value,
+-- and the last stamp is known from the least stamp that the next unit may have
 pub record AllowanceMoreLaw : Type 0 where
   pub more : (a : Allowance) (n apart from : ℕ) (units : List PesPacket) (unit : PesPacket) → 0 < allowance_rows a → Spaced apart from (units ++ unit ∷ []) →
       KeepsAllowance a n units → packets_of_unit unit ≤ n → is_over a units unit ≡ false → KeepsAllowance a n (units ++ unit ∷ [])

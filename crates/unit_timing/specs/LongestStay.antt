@@ -6,8 +6,8 @@ use Rattle.unit_timing.specs.PesPacket.{PesPacket}
 use Rattle.unit_timing.specs.Schedule.{packets_in_slots}
 use Rattle.unit_timing.specs.Transport.{NoneLeavesEarly}
 
--- of times of the bytes of units, as of their arrivals, none lies more than `wait` units of 90 kHz before the unit's stamp; a
--- moment x of a buffer which is drained at r bits a second lies no earlier where due * R * r ≤ x * 720,000 + wait * R * r
+-- none of the times of the units' bytes, such as their arrivals, lies more than `wait` units of 90 kHz before the unit's stamp; a
+-- moment x of a buffer which is drained at r bits a second lies no earlier if due * R * r ≤ x * 720,000 + wait * R * r
 unfoldable pub WaitsAtMost : ℕ → ℕ → ℕ → List PesPacket → List ℕ → Type 0
 WaitsAtMost wait rate r [] times = Unit {0}
 WaitsAtMost wait rate r (unit ∷ units) times =

@@ -14,8 +14,8 @@ use Rattle.unit_timing.specs.Transport.{NoneLeavesEarly}
 abbrev pub is_in_main_buffer : ℕ → ℕ → ℕ → ℕ → ℕ → Bool
 is_in_main_buffer rate r x due d = nat_le d x && nat_lt (x * byte_units_at_1bps) (due * rate * r)
 
--- the bytes in the main buffer at the moment x: of each unit those that are there; `left` has the departures of all
--- bytes of units that are written, from the first unit on
+-- the bytes in the main buffer at the moment x, unit by unit; `left` has the departures of all bytes of units that are written,
+-- from the first unit on
 unfoldable pub mb_fullness : ℕ → ℕ → ℕ → List PesPacket → List ℕ → ℕ
 mb_fullness rate r x [] left = 0
 mb_fullness rate r x (unit ∷ units) left =
@@ -28,8 +28,8 @@ BySlots = (own : ℕ → Bool) (rate lead r w m : ℕ) (units : List PesPacket) 
     lead * rate ≤ w * slot_units_at_1bps → AtMostPerWindow own w m →
     NoneLeavesEarly r (packets_in_slots own rate lead 0 units (own_slots own 0 n)) left → mb_fullness rate r x units left ≤ 184 * m
 
--- and of units that are due within less than `lead` of one another, of which no more than is allowed come in that time;
--- a unit has at most `each` bytes for each that it counts
+-- a bound from the allowance: the units that are due within less than `lead` of one another count at most `allowed (lead - 1)`; a
+-- unit has at most `each` bytes for each that it counts
 abbrev pub ByCurve : Type 0
 ByCurve = (own : ℕ → Bool) (rate lead r each : ℕ) (f : PesPacket → ℕ) (allowed : ℕ → ℕ) (units : List PesPacket) (n x : ℕ) (left : List ℕ) →
     ((unit : PesPacket) → unit.size ≤ each * f unit) → IsRising allowed → Allows f allowed units →

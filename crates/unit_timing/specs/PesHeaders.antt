@@ -6,14 +6,14 @@ use Rattle.clock27.specs.Departure.{departures}
 use Rattle.clock27.specs.Fullness.{fullness}
 use Rattle.unit_timing.specs.VideoBuffers.{NoLater}
 
--- a list tells of each byte that enters MB whether it is one of a header. Of times of these bytes, those of the payload
+-- `headers` marks each byte that enters MB as a header's or not. Selects the times of the payload bytes
 unfoldable pub of_payload : List Bool → List ℕ → List ℕ
 of_payload [] ts = []
 of_payload (header ∷ headers) [] = []
 of_payload (true ∷ headers) (t ∷ ts) = of_payload headers ts
 of_payload (false ∷ headers) (t ∷ ts) = t ∷ of_payload headers ts
 
--- no more than `most` bytes of headers come in a row, `before` of them before these
+-- at most `most` bytes of headers are in a row, if `before` of them precede these bytes
 unfoldable pub HeadersAtMost : ℕ → ℕ → List Bool → Type 0
 HeadersAtMost most before [] = Unit {0}
 HeadersAtMost most before (true ∷ headers) = (suc before ≤ most) × HeadersAtMost most (suc before) headers
@@ -23,9 +23,9 @@ HeadersAtMost most before (false ∷ headers) = HeadersAtMost most 0 headers
 abbrev pub entered_by : ℕ → ℕ → ℕ
 entered_by x t = cond (nat_le t x) 1 0
 
--- how many bytes MB then holds at the moment x: those of a header from their entry until the byte of payload after them leaves,
--- a byte of payload until it leaves, `step` after it entered or the byte of payload before it left, whichever is later. `prev`
--- is when that one left, and `waiting` are the bytes of a header before these that have entered by x
+-- how many bytes MB then holds at the moment x: a header's bytes from their entry until the byte of payload after them leaves, a
+-- byte of payload until it leaves, `step` after it entered or after the byte of payload before it left, whichever is later. `prev`
+-- is when the byte of payload before left, and `waiting` is the number of bytes of a header before these that have entered by x
 unfoldable pub fullness_with_headers : ℕ → ℕ → ℕ → ℕ → List Bool → List ℕ → ℕ
 fullness_with_headers x step prev waiting [] ts = waiting
 fullness_with_headers x step prev waiting (header ∷ headers) [] = waiting

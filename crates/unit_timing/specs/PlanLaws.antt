@@ -1,4 +1,4 @@
--- From the conditions on one plan, or on two plans in turn, to what is promised.
+-- From the conditions on one plan, or on two plans in turn, to the promises.
 use Rattle.std.specs.Prelude.{ℕ, ◌*◌, ◌<◌, ◌≤◌, max, Bool, List, length}
 use Rattle.own_slots.specs.Period.{own, per_period}
 use Rattle.own_slots.specs.Spread.{spread}

@@ -1,4 +1,4 @@
--- Which own slot of a stream carries which part of which unit.
+-- The own slot of a stream that carries each part of each unit.
 use Rattle.std.specs.Prelude.{◌≡◌, ℕ, ◌+◌, ◌-◌, ◌*◌, max, min, Bool, cond, nat_lt, Option, Some, None, List, [], ◌∷◌, ◌++◌, take, drop}
 use Rattle.clock27.specs.Release.{release}
 use Rattle.own_slots.specs.Slots.{own_before, own_slots}
@@ -9,16 +9,16 @@ pub record Packet : Type 0 where
   pub slot : ℕ
   pub size : ℕ
 
--- the number of the own slot in which a unit begins: none before its release, and none of the first `free`, which are
--- taken
+-- the number of the own slot where a unit begins: none before its release, and none of the first `free`, which are taken
 unfoldable pub first_slot : (ℕ → Bool) → ℕ → ℕ → ℕ → PesPacket → ℕ
 first_slot own rate lead free unit = max free (own_before own (release rate lead unit.dts))
 
--- the payload bytes of packet number j of a unit of `size` bytes: 184, less what stands in front of it, and in the last one the rest
+-- the payload bytes of packet number j of a unit of `size` bytes: 184, less the part of `front` that this packet holds; the last
+-- packet has the remaining bytes
 abbrev pub payload_size : ℕ → ℕ → ℕ → ℕ
 payload_size front size j = min (184 - (front - 184 * j)) (size - (184 * j - front))
 
--- the payload bytes that own slot number i carries, none where it carries no packet of the stream
+-- the payload bytes that own slot number i carries, none if it carries no packet of the stream
 unfoldable pub payload_size_at : (ℕ → Bool) → ℕ → ℕ → ℕ → List PesPacket → ℕ → Option ℕ
 payload_size_at own rate lead free [] i = None
 payload_size_at own rate lead free (unit ∷ units) i =
@@ -27,7 +27,7 @@ payload_size_at own rate lead free (unit ∷ units) i =
     (Some (payload_size unit.front unit.size (i - first_slot own rate lead free unit)))
     (payload_size_at own rate lead (first_slot own rate lead free unit + packets_of_unit unit) units i))
 
--- the packet in slot s, where it carries one
+-- the packet in slot s, if the slot carries one
 abbrev pub packet_in : ℕ → Option ℕ → List Packet
 packet_in s None = []
 packet_in s (Some size) = record { slot = s; size = size } ∷ []
@@ -42,8 +42,8 @@ unfoldable pub cut : ℕ → ℕ → List ℕ → List Packet
 cut front size [] = []
 cut front size (s ∷ slots) = record { slot = s; size = min (184 - front) size } ∷ cut (front - 184) (size - (184 - front)) slots
 
--- the packets of these units, one unit after the other, where `slots` has the own slots from number 0 on as far as the
--- run goes, and the first `free` of them are taken
+-- the packets of these units, one unit after another, if `slots` has the own slots of the run from number 0 on, and the first
+-- `free` of them are taken
 unfoldable pub packets_in_slots : (ℕ → Bool) → ℕ → ℕ → ℕ → List PesPacket → List ℕ → List Packet
 packets_in_slots own rate lead free [] slots = []
 packets_in_slots own rate lead free (unit ∷ units) slots =

@@ -31,7 +31,7 @@ system_tb_fullness rate x slots = fullness x (system_arrivals slots) (system_tb_
 abbrev pub bsys_fullness : ℕ → ℕ → List ℕ → ℕ
 bsys_fullness rate x slots = fullness x (system_tb_left rate slots) (bsys_left rate slots)
 
--- neither overflows, where the work of each by itself fits
+-- neither buffer overflows, if the work of each by itself fits
 abbrev pub SystemLaw : Type 0
 SystemLaw = (own : ℕ → Bool) (rate : ℕ) (slots : List ℕ) (x : ℕ) → 0 < rate → Rises own 0 slots →
     ((room peak : ℕ) (W : ℕ → ℕ) → BoundsWork own rate system_tb_drain room peak W → system_tb_fullness rate x slots ≤ room)

@@ -1,5 +1,5 @@
 -- A video stream whose multiplexing buffer MB and elementary stream buffer EB are known (ISO/IEC 13818-1, 2.4.2.3, the leak
--- method): the conditions on its own slots in one plan and in two plans in turn, and what is promised of it.
+-- method): the conditions on its own slots in one plan and in two plans in turn, and the promise for it.
 use Rattle.std.specs.Prelude.{◌≡◌, ℕ, ◌+◌, ◌*◌, ◌<◌, ◌≤◌, Bool, List, length, map, All}
 use Rattle.clock27.specs.Departure.{departures}
 use Rattle.clock27.specs.Fullness.{fullness}
@@ -22,14 +22,13 @@ use Rattle.unit_timing.specs.Conditions.{IsProper, StreamClaim, Share, share_of,
 use Rattle.unit_timing.specs.Conditions.{bytes_across}
 use Rattle.unit_timing.specs.PlanLaws.{in_turn}
 
--- what is declared of MB: the rate of the leak in bits a second, Rbx, and its size in bytes. The size of EB is the `main` of
--- the stream's declaration, and Rx its `drain`
+-- the declaration of MB: the rate of the leak in bits a second, Rbx, and its size in bytes. The size of EB is the `main` of the
+-- stream's declaration, and Rx its `drain`
 pub record Leak : Type 0 where
   pub rbx : ℕ
   pub mb : ℕ
 
--- what a plan claims of MB, as of a transport buffer: the work with which a period begins, and the greatest work after an own
--- slot
+-- a plan's claim for MB, as for a transport buffer: the work with which a period begins, and the greatest work after an own slot
 pub record LeakClaim : Type 0 where
   pub start : ℕ
   pub peak : ℕ
@@ -43,15 +42,15 @@ pub record IsProperLeak (s : Declaration) (m : Leak) : Type 0 where
 abbrev pub drained : Declaration → ℕ → Declaration
 drained s r = record s { drain = r }
 
--- the stream's own slots, as the lead has to pay for them: after the last of them a unit's last byte waits for the work of MB
+-- the stream's own slots, as the lead has to pay for them: after the last own slot a unit's last byte waits for the work of MB
 -- and for one byte to leave TB
 abbrev pub leak_share : ℕ → StreamClaim → LeakClaim → List Bool → Share
 leak_share rate claim leak marks = record { count = per_period marks; period = length marks; spread = claim.spread; peak = leak.peak + rate }
 
 -- ---- the conditions
 
--- on a video stream's own slots in one plan: those on each stream, but the lead pays for the way through MB; MB's work at the
--- drain Rbx finds room in it; and what waits for its stamp, in MB or EB, fits EB
+-- on a video stream's own slots in one plan: the conditions on each stream, except that the lead pays for the way through MB; MB
+-- has room for its work at the drain Rbx; and the bytes that wait for their stamp, in MB or EB, fit EB
 pub record VideoConditions (rate : ℕ) (s : Declaration) (m : Leak) (claim : StreamClaim) (leak : LeakClaim) (marks : List Bool) : Type 0 where
   pub owned : 0 < per_period marks
   pub spread_claimed : spread marks ≤ claim.spread
@@ -72,19 +71,19 @@ pub record VideoSwitchConditions (rate : ℕ) (s : Declaration) (m : Leak) (clai
       ≤ time_given rate (drained s m.rbx) (per_period first * per_period second) k
   pub elementary_fits : bytes_across rate s (share_of claim first) (share_of next second) ≤ s.main
 
--- ---- what is promised
+-- ---- the promise
 
--- when the bytes of a run's packets go from MB to EB where EB may be full, on a scale 720,000 times as fine, on which stamps
+-- when the bytes of a run's packets go from MB to EB if EB may be full, on a scale 720,000 times as fine, on which stamps
 -- are whole
 abbrev pub video_transfers : ℕ → Declaration → Leak → List PesPacket → List Packet → List ℕ
 video_transfers rate s m units packets =
     transfers (byte_units_at_1bps * (s.drain * rate)) 0 (map (λ t. byte_units_at_1bps * t) (multiplexing_entered rate s.drain m.rbx packets))
     (rooms_of s.main (removed_at rate (s.drain * m.rbx) units))
 
--- of a video stream in runs of any length: at each moment TB holds at most 512 bytes, MB at most its size, EB at most its
--- size, and both together at most EB's, so that EB never is full, and bytes go to it as from a queue alone; each unit that
--- is due is whole in EB by its stamp. MB holds no more of any packets in the stream's own slots, as of those from one of them on, nor where
--- it leaks a little slower (`SlowLeakLaw`)
+-- a video stream in runs of any length: at each moment TB holds at most 512 bytes, MB at most its size, EB at most its size, and
+-- both together at most EB's size, so that EB is never full, and bytes enter it as from a queue alone; each unit that is due is
+-- whole in EB by its stamp. MB also keeps to its size with any packets in the stream's own slots (for example the run's packets
+-- from some packet on), and if it leaks a little slower (`SlowLeakLaw`)
 pub record VideoServed (own : ℕ → Bool) (rate : ℕ) (s : Declaration) (m : Leak) (units : List PesPacket) : Type 0 where
   pub transport : (n x : ℕ) → tb_fullness rate s.drain x (slots_of (run_packets own rate s units n)) ≤ tb_size
   pub multiplexing : (n x : ℕ) → multiplexing_fullness rate s.drain m.rbx x (run_packets own rate s units n) ≤ m.mb

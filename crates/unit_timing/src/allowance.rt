@@ -1,4 +1,4 @@
-//! What a stream declares of the number of its packets.
+//! A stream's declaration of the number of its packets.
 
 ghost use Rattle.std.specs.Prelude.{◌≡◌};
 ghost use Rattle.unit_timing.specs.Allowances.{allowance_rows};
@@ -9,8 +9,8 @@ ghost use Rattle.unit_timing.specs.Allowances.{allowance_rows};
 pub enum Allowance {
     /// Any `units` units in a row have at most `packets` packets.
     Groups { units: u8, packets: u32 },
-    /// Units in a row have at most `burst` packets and those that `pace` bits a second carry in that time, in whole
-    /// packets of 188 bytes: what a leaky bucket lets through.
+    /// Units in a row have at most `burst` packets and, in whole packets of 188 bytes, the packets that `pace` bits a
+    /// second carry in the time between their stamps (a leaky bucket).
     Pace { burst: u32, pace: u32 },
 }
 

@@ -7,7 +7,7 @@ pub fn curves()
     ensures { AllowanceLaw }
 {}
 
-/// States that units keep a pace exactly where its burst covers the greatest level of a bucket that they fill and the
+/// States that units keep a pace exactly if its burst covers the greatest level of a bucket that they fill and the
 /// pace empties.
 pub fn bursts()
     ensures { BurstLaw }

@@ -6,7 +6,7 @@ pub fn due_units()
     ensures { ArrivedLaw }
 {}
 
-/// States that the first late unit is none exactly where each due unit has left, in any order of stamps.
+/// States that the first late unit is none exactly if each due unit has left, in any order of stamps.
 pub fn late_units()
     ensures { LateLaw }
 {}

@@ -1,4 +1,4 @@
-//! What a stream declares of the access units of a PES packet.
+//! A stream's declaration of the access units of a PES packet.
 
 /// The access units of a PES packet that holds several: each is removed from the main buffer at its own decoding time
 /// (ISO/IEC 13818-1, 2.4.2.3).

@@ -7,17 +7,17 @@
 //! which part of a unit, when its bytes leave the transport buffer, and the fullness of each buffer. Each
 //! function of a module here is a law: it does nothing, and its contract states a fact about the definitions.
 //!
-//! - [`allowance`]: what a stream declares of its packets.
+//! - [`allowance`]: a stream's declaration of its packets.
 //! - [`allowances`]: that as a function of time, and as the level of a leaky bucket.
 //! - [`buffers`]: the buffers that have one size for all.
 //! - [`transport`]: the transport buffer never overflows, and each packet leaves in time.
 //! - [`deadlines`]: from the pace of the own slots to the deadline of each unit.
 //! - [`arrived`]: each due unit has left the transport buffer whole by its stamp.
 //! - [`main_buffer`]: the fullness of the main buffer.
-//! - [`framing`]: what a stream declares of the access units of a PES packet.
-//! - [`access_units`]: the main buffer where each access unit of a PES packet is removed at its own time.
+//! - [`framing`]: a stream's declaration of the access units of a PES packet.
+//! - [`access_units`]: the main buffer when each access unit of a PES packet is removed at its own time.
 //! - [`moments`]: moments that are not whole.
-//! - [`multiplexing_buffer`]: what a video stream declares of its multiplexing buffer.
+//! - [`multiplexing_buffer`]: a video stream's declaration of its multiplexing buffer.
 //! - [`system_buffers`]: the two buffers of a program's tables.
 //! - [`video_buffers`]: the multiplexing buffer and the elementary stream buffer of a video stream.
 //! - [`empty_buffers`]: transport and multiplexing buffers that are empty at least once a second.

@@ -1,15 +1,7 @@
-pub mod HtmlTexts
-pub mod PageLabels
-pub mod Cells
-pub mod RowCells
-pub mod MarkCells
-pub mod SummaryCells
-pub mod InputCells
-pub mod RowTexts
-pub mod Rows
 pub mod Services
 pub mod Trees
 pub mod Values
 pub mod Pages
 pub mod SummaryText
+pub mod FaultTables
 pub mod PageText

@@ -1,28 +1,33 @@
 -- The text of a page.
 use Rattle.std.specs.Prelude.{ℕ, List, [], ◌∷◌, ◌++◌, codes, decimal, flat_map}
-use Rattle.page_charts.specs.declared.frame.ChartUnit.{ChartUnit}
-use Rattle.page_charts.specs.declared.frame.ChartUnit.TheVariants.{BitRate, Bytes, Time, Nanoseconds, Offset}
-use Rattle.page_charts.specs.declared.pid_curves.PidCurve.{PidCurve}
+use Rattle.page_curves.specs.declared.frame.ChartUnit.{ChartUnit}
+use Rattle.page_curves.specs.declared.frame.ChartUnit.TheVariants.{BitRate, Bytes, Time, Nanoseconds, Offset}
+use Rattle.page_curves.specs.declared.pid_curves.PidCurve.{PidCurve}
 use Rattle.page_charts.specs.Charts.{chart}
-use Rattle.page_charts.specs.Frames.{frame}
-use Rattle.page_charts.specs.PidCurves.{greatest_value}
+use Rattle.page_curves.specs.Frames.{frame}
+use Rattle.page_curves.specs.PidCurves.{greatest_value}
 use Rattle.view_page.specs.declared.page.Page.{Page}
-use Rattle.view_page.specs.declared.page_heads.TheConstants.{APART, BACK, BUFFERS, CHECKS, CLOCKS, FAULTS, FRONT, MAINS, PIDS, RATES, SLACKS, STREAMS, STRIPS}
-use Rattle.view_page.specs.declared.page_heads.TheConstants.{DRIFTS, INACCURACIES, INTERVALS, SERVICES, SYSTEMS, TABLES, TRANSPORTS, TREE}
-use Rattle.page_charts.specs.PidLabels.{LabelsState}
+use Rattle.view_page.specs.declared.page_heads.TheConstants.{APART, BACK, BUFFERS, CHECKS, CLOCKS, FAULTS, FRONT, LINKS, MAINS, PIDS, RATES}
+use Rattle.view_page.specs.declared.page_heads.TheConstants.{DRIFTS, INACCURACIES, INTERVALS, SERVICES, SLACKS, STREAMS, STRIPS, SYSTEMS, TABLES, TRANSPORTS, TREE}
+use Rattle.page_curves.specs.PidLabels.{LabelsState}
 use Rattle.page_charts.specs.Stacks.{stack}
+use Rattle.fault_pictures.specs.Links.{section_link}
 use Rattle.fault_pictures.specs.TracePictures.{pictures_text}
 use Rattle.page_charts.specs.StripTables.{table as strip_table}
-use Rattle.view_page.specs.Cells.{carried_cell}
-use Rattle.view_page.specs.MarkCells.{marks_text}
-use Rattle.view_page.specs.SummaryCells.{kinds_text}
+use Rattle.view_rows.specs.Cells.{carried_cell}
+use Rattle.view_rows.specs.MarkCells.{marks_text}
+use Rattle.view_rows.specs.SummaryCells.{kinds_text}
+use Rattle.view_page.specs.FaultTables.{fault_row}
 use Rattle.view_page.specs.SummaryText.{summary}
 use Rattle.view_page.specs.Trees.{tree}
-use Rattle.view_page.specs.RowTexts.{RowTexts, StreamText}
+use Rattle.view_rows.specs.RowTexts.{RowTexts, StreamText}
 
 -- texts that are always the same
 unfoldable pub front_text : List ℕ
 front_text = FRONT.now
+
+unfoldable pub links_text : List ℕ
+links_text = LINKS.now
 
 unfoldable pub strips_text : List ℕ
 strips_text = STRIPS.now
@@ -88,7 +93,7 @@ back_text = BACK.now
 unfoldable pub strips : Page → List ℕ
 strips p = strips_text ++ strip_table (frame Bytes p.values.windows p.millis 0) p.labels p.values.transports.curves.items p.values.mains.curves.items
 
--- a picture of curves in one frame, up to the greatest value of all; the colour of a PID is that of its bit rate
+-- a picture of curves in one frame, up to the greatest value of all; the colour of a PID is the same as in the picture of bit rates
 unfoldable pub one_chart : Page → List ℕ → ChartUnit → List PidCurve → List ℕ
 one_chart p name unit curves = chart name (frame unit p.values.windows p.millis (greatest_value curves)) p.labels p.values.rates.curves.items curves
 
@@ -98,7 +103,7 @@ buffer_chart p name entry = one_chart p name Bytes (entry ∷ [])
 unfoldable pub rates : Page → List ℕ
 rates p = rates_text ++ one_chart p (codes "bit rate by PID over time") BitRate p.values.rates.curves.items
 
--- the bit rates of programs, each on those after it
+-- the bit rates of programs, each stacked on the programs after it
 unfoldable pub services : Page → List ℕ
 services p =
     services_text
@@ -146,20 +151,26 @@ pictures p = strips p ++ (pictures_text p.labels p.traces ++ (program_list p ++ 
 abbrev pub row_head : ℕ → List ℕ
 row_head pid = codes "<tr><td>" ++ decimal pid
 
--- the row of a stream, with what is known at the end of what it carries
+-- the row of a stream, with its label as known at the end
 unfoldable pub stream_row : LabelsState → StreamText → List ℕ
 stream_row labels r = row_head r.pid ++ (carried_cell labels r.pid ++ (r.cells ++ codes "\n"))
 
 unfoldable pub figures : RowTexts → List ℕ
 figures r = (buffers_text ++ r.buffers) ++ ((marks_text ++ r.marks) ++ ((systems_text ++ r.systems) ++ (clocks_text ++ r.clocks)))
 
-unfoldable pub measures : LabelsState → RowTexts → List ℕ
-measures labels r =
-    (checks_text ++ r.checks)
-    ++ ((kinds_text ++ r.kinds) ++ ((faults_text ++ r.faults) ++ ((streams_text ++ flat_map (stream_row labels) r.streams) ++ figures r)))
+unfoldable pub fault_tables : Page → List ℕ
+fault_tables p = (kinds_text ++ flat_map (fault_row p.traces) p.rows.kinds) ++ (faults_text ++ flat_map (fault_row p.traces) p.rows.faults)
+
+unfoldable pub measures : Page → List ℕ
+measures p =
+    (checks_text ++ p.rows.checks) ++ (fault_tables p ++ ((streams_text ++ flat_map (stream_row p.labels) p.rows.streams) ++ figures p.rows))
 
 unfoldable pub lists : RowTexts → List ℕ
 lists r = (tables_text ++ r.tables) ++ ((pids_text ++ r.pids) ++ (apart_text ++ r.apart))
 
+-- the begin of the page, with a link to the pictures of buffers if there are any
+unfoldable pub front : Page → List ℕ
+front p = front_text ++ (section_link p.traces ++ links_text)
+
 abbrev pub page_text : Page → List ℕ
-page_text p = front_text ++ (summary p ++ (pictures p ++ (measures p.labels p.rows ++ (lists p.rows ++ back_text))))
+page_text p = front p ++ (summary p ++ (pictures p ++ (measures p ++ (lists p.rows ++ back_text))))

@@ -9,12 +9,12 @@ use Rattle.events.specs.declared.event.Event.TheVariants.{Multiplexing, Elementa
 use Rattle.events.specs.declared.event.Event.TheVariants.{Summary}
 use Rattle.events.specs.declared.event.ReportEnd.{ReportEnd}
 use Rattle.view_page.specs.declared.page.Page.{Page}
-use Rattle.page_charts.specs.PidLabels.{LabelsState, no_labels}
-use Rattle.view_page.specs.PageLabels as labels
+use Rattle.page_curves.specs.PidLabels.{LabelsState, no_labels}
+use Rattle.view_rows.specs.PageLabels as labels
 use Rattle.fault_pictures.specs.PictureTexts.{PictureTexts}
 use Rattle.fault_pictures.specs.TracePictures as pictures
-use Rattle.view_page.specs.RowTexts.{RowTexts}
-use Rattle.view_page.specs.Rows as rows
+use Rattle.view_rows.specs.RowTexts.{RowTexts}
+use Rattle.view_rows.specs.Rows as rows
 use Rattle.view_page.specs.Services as services
 use Rattle.view_page.specs.Services.{AreServices, KeptServices}
 use Rattle.view_page.specs.Values as values
@@ -99,7 +99,7 @@ end_after end (Summary e) = end
 abbrev pub with_end : PageState → Event → PageState
 with_end s event = record s { end = end_after s.end event }
 
--- after an event: its row has what was known before it
+-- after an event: its row uses the labels known before it
 abbrev pub after_event : PageState → TimedEvent → PageState
 after_event s e = record {
   millis = s.millis;

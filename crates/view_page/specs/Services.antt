@@ -10,14 +10,14 @@ use Rattle.events.specs.declared.event.Event.TheVariants.{Multiplexing, Elementa
 use Rattle.events.specs.declared.event.Event.TheVariants.{Summary}
 use Rattle.events.specs.Windows.{WindowView}
 use Rattle.events.specs.declared.pid_name.PidName.TheVariants.{Other}
-use Rattle.page_charts.specs.Curves.{sample}
-use Rattle.page_charts.specs.PidCurves.{AreCurves, KeptCurve, opened, with_sample}
+use Rattle.page_curves.specs.Curves.{sample}
+use Rattle.page_curves.specs.PidCurves.{AreCurves, KeptCurve, opened, with_sample}
 use Rattle.view_page.specs.declared.services.ProgramRate.{ProgramRate}
 use Rattle.view_page.specs.declared.services.ServiceCurves.{ServiceCurves}
 use Rattle.view_page.specs.declared.services.Services.{Services}
-use Rattle.view_page.specs.Cells.{short}
+use Rattle.view_rows.specs.Cells.{short}
 
--- the rate of each program, and that rate with those of all programs after it
+-- the rate of each program, and the sum of its rate and the rates of all programs after it
 pub record KeptServiceCurves : Type 0 where
   pub rates : List KeptCurve
   pub sums : List KeptCurve
@@ -77,7 +77,7 @@ unfoldable pub total_from : ℕ → ℕ → List (ℕ × ProgramRate) → ℕ
 total_from number sum [] = sum
 total_from number sum (e ∷ more) = total_from number (plus sum (rate_in number (Some e.1))) more
 
--- each program with those after it, whose rates have this sum with its own
+-- a program and the programs after it, whose rates together have the sum `left`
 unfoldable pub settled : ℕ → ℕ → List (ℕ × ProgramRate) → KeptServiceCurves → KeptServiceCurves
 settled number left [] kept = kept
 settled number left (e ∷ more) kept =

@@ -1,27 +1,27 @@
--- The head of a page: what was read, how long it is and at what rate it arrives, and what it comes to.
+-- The head of a page: the input, its length and rate of arrival, and its totals.
 use Rattle.std.specs.Prelude.{ℕ, ◌*◌, ◌/◌, max, Bool, if◌then◌else◌, List, ◌++◌, codes, decimal, length, Option, Some, None}
 use Rattle.event_lines.specs.ReportLines.{seconds_text}
 use Rattle.events.specs.declared.event.ReportEnd.{ReportEnd}
-use Rattle.page_charts.specs.Numbers.{grouped}
-use Rattle.page_charts.specs.PidCurves.{greatest_value}
-use Rattle.view_page.specs.Cells.{short}
+use Rattle.page_curves.specs.Numbers.{grouped}
+use Rattle.page_curves.specs.PidCurves.{greatest_value}
+use Rattle.view_rows.specs.Cells.{short}
 use Rattle.view_page.specs.declared.page.Page.{Page}
 
--- what was read
+-- packets read, packets refused, and bytes after the last packet
 unfoldable pub counts : ReportEnd → List ℕ
 counts end = codes "<p>" ++ (grouped end.packets ++ (codes " packets, " ++ (grouped end.refused ++ (codes " refused, " ++ (grouped end.left
     ++ codes " bytes after the last.</p>\n")))))
 
 -- 1. The length of a stream, and its rate
 
--- packets of 1,504 bits that arrive in so many ticks of 27 MHz, in bits a second, rounded down
+-- packets of 1,504 bits that arrive in a number of ticks of 27 MHz, in bits a second, rounded down
 abbrev pub mean_rate : ℕ → ℕ → ℕ
 mean_rate packets ticks = short (packets * 40608000000 / max ticks 1)
 
 unfoldable pub given : ℕ → List ℕ
 given rate = codes " s, at the given rate of " ++ (grouped rate ++ codes " bit/s.</p>\n")
 
--- by what clock moments go, if no rate is given
+-- the clock of moments, if no rate is given
 unfoldable pub clock_name : Bool → List ℕ
 clock_name stamps = if stamps then codes " s by the arrival time stamps. Bit rate: " else codes " s by the clock references. Bit rate: "
 
@@ -34,7 +34,7 @@ most_text most = grouped most ++ codes " bit/s in a window.</p>\n"
 unfoldable pub both_rates : ℕ → ℕ → List ℕ
 both_rates mean most = mean_text mean ++ most_text most
 
--- the greatest rate of a window is that of all programs, and of what is in no program
+-- the greatest rate of a window covers all programs, and the PIDs of no program
 unfoldable pub measured : Page → ℕ → List ℕ
 measured p ticks = clock_name p.stamps ++ both_rates (mean_rate p.end.packets ticks) (greatest_value p.services.curves.sums.curves.items)
 

@@ -1,7 +1,7 @@
 -- All programs and their PIDs as a list.
 use Rattle.std.specs.Prelude.{ℕ, ◌==◌, if◌then◌else◌, List, [], ◌++◌, codes, flat_map}
 use Rattle.page_charts.specs.Branches.{branch}
-use Rattle.page_charts.specs.PidLabels.{LabelsState}
+use Rattle.page_curves.specs.PidLabels.{LabelsState}
 use Rattle.view_page.specs.declared.services.ProgramRate.{ProgramRate}
 
 -- 0 is no program

@@ -14,13 +14,13 @@ use Rattle.events.specs.declared.event.StreamBegin.{StreamBegin}
 use Rattle.events.specs.declared.event.UnitFigures.{UnitFigures}
 use Rattle.events.specs.Windows.{WindowView}
 use Rattle.unit_timing.specs.Buffers.{tb_size}
-use Rattle.page_charts.specs.Curves.{sample}
+use Rattle.page_curves.specs.Curves.{sample}
 use Rattle.events.specs.declared.pid_name.PidName.{PidName}
-use Rattle.page_charts.specs.Scale.{offset}
-use Rattle.page_charts.specs.PidCurves.{AreCurves, KeptCurve, kept_name, opened, with_sample}
+use Rattle.page_curves.specs.Scale.{offset}
+use Rattle.page_curves.specs.PidCurves.{AreCurves, KeptCurve, kept_name, opened, with_sample}
 use Rattle.events.specs.PidNames.{of_pid}
 use Rattle.view_page.specs.declared.values.Values.{Values}
-use Rattle.view_page.specs.Cells.{short}
+use Rattle.view_rows.specs.Cells.{short}
 
 -- the number of windows; bit rates by PID, the most bytes in the transport buffer of a stream, the most and the least in its main buffer,
 -- and the least slack of its units in microseconds; the greatest interval of the clock references of a PID in microseconds, their greatest
@@ -50,7 +50,7 @@ pub record AreValues (values : Values) (kept : KeptValues) : Type 0 where
 abbrev pub no_values : KeptValues
 no_values = record { windows = 0; rates = []; transports = []; mains = []; slacks = []; intervals = []; inaccuracies = []; drifts = []; greatest_drift = 0 }
 
--- a PID is called by its coding where it is a stream with buffers
+-- the name of a PID is its coding if it is a stream with buffers
 unfoldable pub name_or : Option PidName → ℕ → PidName
 name_or None pid = of_pid pid
 name_or (Some name) pid = name
@@ -73,28 +73,28 @@ with_stream v e = record v {
   slacks = opened e.pid e.coding 0 v.slacks;
 }
 
--- of a main buffer two values
+-- two values of a main buffer
 abbrev pub with_main : KeptValues → HeldFigures → List KeptCurve
 with_main v e = with_sample e.pid (sample e.number e.main_least) (with_sample e.pid (sample e.number e.main) v.mains)
 
--- `held`: what its buffers held in a window
+-- `held`: the bytes in its buffers in a window
 abbrev pub with_fullness : KeptValues → HeldFigures → KeptValues
 with_fullness v e = record v {
   transports = with_sample e.pid (sample e.number (short e.transport)) v.transports;
   mains = with_main v e;
 }
 
--- a window in which no byte came says nothing: a byte that comes is in the transport buffer
+-- a window without a byte is skipped: a byte that comes is in the transport buffer
 abbrev pub with_held : KeptValues → HeldFigures → KeptValues
 with_held v e = if e.transport == 0 then v else with_fullness v e
 
--- `units`: the least slack of its units in a window, cut down to microseconds
+-- `units`: the least slack of its units in a window, rounded down to microseconds
 abbrev pub with_units : KeptValues → UnitFigures → KeptValues
 with_units v e = record v { slacks = with_sample e.pid (sample e.number (short e.slack / 27)) v.slacks }
 
--- `clock_window`: the greatest interval of a PID's clock references, rounded down to microseconds, beside 100 ms, their greatest inaccuracy
--- beside 500 ns, from the first one on that is known, and how far the clock is ahead or behind at the last of them, in nanoseconds; a window
--- in which no reference follows another one says nothing
+-- `clock_window`: the greatest interval of a PID's clock references, rounded down to microseconds, with the limit 100 ms, their greatest inaccuracy with
+-- the limit 500 ns, from the first known one on, and how far the clock is ahead or behind at the last reference, in nanoseconds; a window where no
+-- reference follows another one is skipped
 abbrev pub with_interval : KeptValues → PidName → ClockFigures → KeptValues
 with_interval v name e = record v { intervals = with_sample e.pid (sample e.number (short e.interval / 27)) (opened e.pid name 100000 v.intervals) }
 

@@ -3,15 +3,14 @@ ghost use Rattle.std.specs.Prelude.{◌≡◌, ◌++◌, OnOk, string_bytes};
 ghost use Rattle.view_page.specs.Pages.{IsPage, PageState, after_event, after_events, no_events, with_end};
 ghost use Rattle.view_page.specs.PageText.{page_text};
 
-use crate::page_labels::take_label;
 use crate::page_text::write_page;
-use crate::rows::Rows;
 use crate::services::Services;
 use crate::values::Values;
 use events::{Event, ReportEnd, TimedEvent};
 use fault_pictures::TracePictures;
-use page_charts::PidLabels;
+use page_curves::PidLabels;
 use std::alloc::{AllocError, Global};
+use view_rows::{Rows, take_label};
 
 /// A page of a stream whose windows have `millis` milliseconds and whose moments go by a given rate in bits a second,
 /// otherwise by stamps or by its clock references; with its events so far.

@@ -1,8 +1,8 @@
-//! What of a page is always the same: its form, and the heads of its parts.
+//! The constant texts of a page: its form, and the heads of its parts.
 ghost use Rattle.std.specs.Prelude.{◌≡◌};
 ghost use Rattle.view_page.specs.PageText as spec;
 
-/// What stands before everything: the form of the page, for light and dark. Curves differ by colour and by dashes.
+/// The begin of the page with its form, for light and dark. Curves differ by colour and by dashes.
 const FRONT: &str = "<!doctype html>
 <html lang=\"en\"><head><meta charset=\"utf-8\"><meta name=\"viewport\" content=\"width=device-width\"><title>Transport stream</title><style>
 :root{color-scheme:light dark;--ink:#1a222d;--soft:#5a6574;--line:#dde2e9;--paper:#fff;--bad:#c3122b;
@@ -25,14 +25,17 @@ nav a{color:inherit;margin-right:1.2em;display:inline-block}caption{text-align:l
 .s12{--c:var(--s4);stroke-dasharray:20 20}.s13{--c:var(--s5);stroke-dasharray:20 60}.s14{--c:var(--s6);stroke-dasharray:200 30}.s15{--c:var(--s7);stroke-dasharray:80 80}
 .range{stroke-dasharray:none}.area{fill:var(--c);stroke:var(--paper);stroke-width:8;stroke-dasharray:none}.key{color:var(--ink)}.key span{display:inline-block;margin-right:1.4em}.sample{width:3em;height:.6em}
 table{border-collapse:collapse;font-variant-numeric:tabular-nums}th,td{padding:.15em .9em .15em 0;text-align:right;border-bottom:1px solid var(--line)}
-th{font-weight:500;vertical-align:bottom}.word{text-align:left}.bad{color:var(--bad);font-weight:600}.wide{overflow-x:auto}table:not(:has(td)){display:none}.tall{max-height:28em;overflow-y:auto}
+th{font-weight:500;vertical-align:bottom}td{white-space:nowrap}.word{text-align:left;white-space:normal}.bad{color:var(--bad);font-weight:600}.wide{overflow-x:auto}table:not(:has(td)){display:none}.tall{max-height:28em;overflow-y:auto}
 .bar{width:12em;height:.8em}.fill{stroke:var(--s0);stroke-width:7}.bar .over{stroke-width:7}.mark{stroke:var(--ink);stroke-width:2}
-details{margin:.3em 0 0 5em}.more{margin-left:0}.tree{columns:17em;list-style:none;padding:0;margin:0}.tree ul{list-style:none;padding-left:1.2em;margin:0;color:var(--soft)}.tree>li{break-inside:avoid}.tree>li:not(:has(li)){display:none}@media(max-width:45em){.chart text{font-size:240px}.axis text{font-size:110px}.strips,.strips tbody,.strips tr{display:block}.strips td,.strips th{display:inline-block;text-align:left}.strips tr>:nth-child(5){display:block;width:100%}}
+details{margin:.3em 0 0 5em}.more{margin-left:0}.tree{columns:17em;list-style:none;padding:0;margin:0}.tree ul{list-style:none;padding-left:1.2em;margin:0;color:var(--soft)}.tree>li{break-inside:avoid}.tree>li:not(:has(li)){display:none}@media(max-width:45em){.chart{margin-left:1.2em;width:calc(100% - 1.2em)}.chart text{font-size:240px}.chart .mid{transform:translateY(120px)}.axis text{font-size:110px}.strips,.strips tbody,.strips tr{display:block}.strips td,.strips th{display:inline-block;text-align:left}.strips tr>:nth-child(5){display:block;width:100%}}
 @media print{details,nav{display:none}.tall{max-height:none}.wide,.tall{overflow:visible}tr,.chart{break-inside:avoid}h2{break-after:avoid}table{font-size:.8em}th,td{padding-right:.5em}}
 </style></head><body>
 <h1>Transport stream</h1>
-<nav><a href=#over-time>Buffers over time</a><a href=#programs>Programs</a><a href=#services>Services</a><a href=#rates>Bit rates</a><a href=#checks>Checks</a><a href=#kinds>Faults</a><a href=#streams>Streams</a><a href=#clocks>Clock references</a><a href=#tables>Tables</a></nav>
-";
+<nav><a href=#over-time>Buffers over time</a>";
+
+/// The rest of the links, and the end of their list.
+const LINKS: &str =
+    "<a href=#programs>Programs</a><a href=#services>Services</a><a href=#rates>Bit rates</a><a href=#checks>Checks</a><a href=#kinds>Faults</a><a href=#streams>Streams</a><a href=#clocks>Clock references</a><a href=#tables>Tables</a></nav>\n";
 
 const STRIPS: &str =
     "<h2 id=over-time>Buffers over time</h2><p class=\"soft\">The most bytes in each buffer, by window: the stronger the colour, the fuller; red and higher: over its size; not drawn: no byte came.</p>\n";
@@ -91,7 +94,15 @@ const APART: &str = "</table><table aria-label=\"other findings\">\n";
 
 const BACK: &str = "</table></div>\n</body></html>\n";
 
-/// Returns what stands before everything.
+/// Returns the links after the first links of the page.
+#[tactic(auto, unfolding(crate::specs::PageText::links_text))]
+pub(crate) fn links_text() -> &'static str
+    ensures { result.now ≡ spec.links_text }
+{
+    LINKS
+}
+
+/// Returns the begin of the page.
 #[tactic(auto, unfolding(crate::specs::PageText::front_text))]
 pub(crate) fn front_text() -> &'static str
     ensures { result.now ≡ spec.front_text }
@@ -251,7 +262,7 @@ pub(crate) fn apart_text() -> &'static str
     APART
 }
 
-/// Returns what stands after everything.
+/// Returns the end of the page.
 #[tactic(auto, unfolding(crate::specs::PageText::back_text))]
 pub(crate) fn back_text() -> &'static str
     ensures { result.now ≡ spec.back_text }

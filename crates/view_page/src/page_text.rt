@@ -2,25 +2,22 @@
 ghost use Rattle.std.specs.Prelude.{◌≡◌, ◌++◌, OnOk, codes, flat_map, string_bytes};
 ghost use Rattle.view_page.specs.PageText as spec;
 
-use crate::cells::write_carried;
-use crate::mark_cells::marks_text;
+use crate::fault_tables::write_fault_table;
 use crate::page::Page;
 use crate::page_heads::{
     apart_text, back_text, buffers_text, checks_text, clocks_text, drifts_text, faults_text,
-    front_text, inaccuracies_text, intervals_text, mains_text, pids_text, rates_text,
+    front_text, inaccuracies_text, intervals_text, links_text, mains_text, pids_text, rates_text,
     services_text, slacks_text, streams_text, strips_text, systems_text, tables_text,
     transports_text, tree_text,
 };
-use crate::rows::{Rows, StreamRow};
-use crate::summary_cells::kinds_text;
 use crate::summary_text::write_summary;
 use crate::tree::write_tree;
-use page_charts::{
-    ChartUnit, Frame, PidCurve, PidLabels, greatest_value, write_chart, write_stack, write_strips,
-};
+use page_charts::{write_chart, write_stack, write_strips};
+use page_curves::{ChartUnit, Frame, PidCurve, PidLabels, greatest_value};
 use std::alloc::AllocError;
 use std::fmt::Write;
 use std::slice;
+use view_rows::{Rows, StreamRow, kinds_text, marks_text, write_carried};
 
 // A picture of curves in one frame.
 #[tactic(auto, unfolding(crate::specs::PageText::one_chart))]
@@ -203,7 +200,7 @@ fn write_drift_chart(
     write_chart(text, name, &frame, &page.labels, order, curves)
 }
 
-// The same, after a heading.
+// The picture of the drift of program clocks, after a heading.
 #[tactic(auto, unfolding(crate::specs::PageText::drifts))]
 fn write_drifts(text: &mut String, page: &Page) -> Result<(), AllocError>
     ensures { OnOk result (string_bytes text.new ≡ string_bytes text.old ++ spec.drifts page.now) }
@@ -329,16 +326,24 @@ fn write_figures(text: &mut String, rows: &Rows) -> Result<(), AllocError>
     write_table(text, clocks_text(), &rows.clocks)
 }
 
-// The tables of what is measured.
-#[tactic(auto, unfolding(crate::specs::PageText::measures))]
-fn write_measures(text: &mut String, labels: &PidLabels, rows: &Rows) -> Result<(), AllocError>
-    ensures { OnOk result (string_bytes text.new ≡ string_bytes text.old ++ spec.measures labels.now rows.now) }
+// The tables of faults.
+#[tactic(auto, unfolding(crate::specs::PageText::fault_tables))]
+fn write_fault_tables(text: &mut String, page: &Page) -> Result<(), AllocError>
+    ensures { OnOk result (string_bytes text.new ≡ string_bytes text.old ++ spec.fault_tables page.now) }
 {
-    write_table(text, checks_text(), &rows.checks)?;
-    write_table(text, kinds_text(), &rows.kinds)?;
-    write_table(text, faults_text(), &rows.faults)?;
-    write_streams(text, labels, &rows.streams)?;
-    write_figures(text, rows)
+    write_fault_table(text, kinds_text(), &page.traces, &page.rows.kinds)?;
+    write_fault_table(text, faults_text(), &page.traces, &page.rows.faults)
+}
+
+// The tables of checks, faults, streams and buffers.
+#[tactic(auto, unfolding(crate::specs::PageText::measures))]
+fn write_measures(text: &mut String, page: &Page) -> Result<(), AllocError>
+    ensures { OnOk result (string_bytes text.new ≡ string_bytes text.old ++ spec.measures page.now) }
+{
+    write_table(text, checks_text(), &page.rows.checks)?;
+    write_fault_tables(text, page)?;
+    write_streams(text, &page.labels, &page.rows.streams)?;
+    write_figures(text, &page.rows)
 }
 
 // The tables of tables and PIDs.
@@ -351,14 +356,24 @@ fn write_lists(text: &mut String, rows: &Rows) -> Result<(), AllocError>
     write_table(text, apart_text(), &rows.apart)
 }
 
+// The begin of the page: its form, and the links to its parts.
+#[tactic(auto, unfolding(crate::specs::PageText::front))]
+fn write_front(text: &mut String, page: &Page) -> Result<(), AllocError>
+    ensures { OnOk result (string_bytes text.new ≡ string_bytes text.old ++ spec.front page.now) }
+{
+    text.push_str(front_text())?;
+    page.traces.write_section_link(text)?;
+    text.push_str(links_text())
+}
+
 /// Appends a page.
 pub(crate) fn write_page(text: &mut String, page: &Page) -> Result<(), AllocError>
     ensures { OnOk result (string_bytes text.new ≡ string_bytes text.old ++ spec.page_text page.now) }
 {
-    text.push_str(front_text())?;
+    write_front(text, page)?;
     write_summary(text, page)?;
     write_pictures(text, page)?;
-    write_measures(text, &page.labels, &page.rows)?;
+    write_measures(text, page)?;
     write_lists(text, &page.rows)?;
     text.push_str(back_text())
 }

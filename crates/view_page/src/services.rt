@@ -4,14 +4,14 @@ ghost use Rattle.std.specs.Map.{lookup};
 ghost use Rattle.view_page.specs.Services as spec;
 ghost use Rattle.view_page.specs.Services.{AreServiceCurves, AreServices, KeptServiceCurves, KeptServices};
 
-use crate::cells::short;
 use events::{Event, PidName, WindowFigures};
 use indexmap::IndexMap;
-use page_charts::PidCurves;
+use page_curves::PidCurves;
 use std::alloc::{AllocError, Global};
 use std::hash::{BuildHasherDefault, FoldHasher};
+use view_rows::short;
 
-/// The bit rate of a program in the last window that it had a packet in.
+/// The bit rate of a program in the last window with a packet of it.
 #[derive(Clone, Copy)]
 pub struct ProgramRate {
     pub number: u64,
@@ -21,7 +21,7 @@ pub struct ProgramRate {
 /// The rates of programs, in the order of the first line of each.
 pub type ProgramRates = IndexMap<u16, ProgramRate, BuildHasherDefault<FoldHasher>, Global>;
 
-/// Curves by the number of a program: its bit rate by window, and that rate with the rates of all programs after it.
+/// Curves by the number of a program: its bit rate by window, and its rate with the rates of all programs after it.
 #[derive(Drop)]
 pub struct ServiceCurves {
     pub rates: PidCurves,
@@ -76,7 +76,7 @@ fn rate_before(programs: &ProgramRates, number: u64, program: u16) -> u64
     rate_in(number, programs.get(&program).copied())
 }
 
-// The rate of the program of a PID with that of the PID.
+// The rate of the program of a PID, the rate of the PID added.
 fn rate_after(programs: &ProgramRates, window: &WindowFigures) -> ProgramRate
     ensures { result ≡ spec.rate_after programs.now.entries window.now }
 {
@@ -97,7 +97,7 @@ fn take_rate(programs: &mut ProgramRates, window: &WindowFigures) -> Result<(), 
 }
 
 impl ServiceCurves {
-    // The rate of a program in a window, and that rate with those after it.
+    // The rate of a program in a window, and the sum of this rate and all rates after it.
     fn take(&mut self, number: u64, program: u16, rate: u64, sum: u64) -> Result<(), AllocError>
         ensures { (kept : KeptServiceCurves) → AreServiceCurves self.old kept →
             OnOk result (AreServiceCurves self.new (spec.with_program number program rate sum kept)) }

@@ -1,14 +1,14 @@
-//! What was read of a stream, how long it is, at what rate it arrives, and what it comes to.
+//! The head of a page: what was read, the length and rate of the stream, and the verdict.
 ghost use Rattle.std.specs.Prelude.{◌≡◌, ◌++◌, OnOk, string_bytes};
 ghost use Rattle.view_page.specs.SummaryText as spec;
 
-use crate::cells::short;
 use crate::page::Page;
 use event_lines::write_seconds;
 use events::ReportEnd;
-use page_charts::{greatest_value, write_grouped};
+use page_curves::{greatest_value, write_grouped};
 use std::alloc::AllocError;
 use std::fmt::Write;
+use view_rows::short;
 
 /// The bits of a packet, times the ticks of a second.
 const PACKET_BITS: u128 = 1_504 * 27_000_000;
@@ -27,7 +27,7 @@ fn write_counts(text: &mut String, end: ReportEnd) -> Result<(), AllocError>
     text.push_str(" bytes after the last.</p>\n")
 }
 
-// The bit rate of so many packets that arrive in these ticks, rounded down.
+// The bit rate of packets that arrive in a number of ticks, rounded down.
 fn mean_rate(packets: u64, ticks: u128) -> u64
     ensures { result ≡ spec.mean_rate packets ticks }
 {
@@ -167,7 +167,7 @@ fn write_extent(
     write_stream_count(text, millis, streams)
 }
 
-/// Appends what was read, how long it is, and what it comes to.
+/// Appends what was read, the length and rate of the stream, and the verdict.
 #[tactic(auto, unfolding(crate::specs::SummaryText::summary))]
 pub(crate) fn write_summary(text: &mut String, page: &Page) -> Result<(), AllocError>
     ensures { OnOk result (string_bytes text.new ≡ string_bytes text.old ++ spec.summary page.now) }

@@ -3,7 +3,8 @@ ghost use Rattle.std.specs.Prelude.{◌≡◌, ◌++◌, OnOk, flat_map, string_
 ghost use Rattle.view_page.specs.Trees as spec;
 
 use crate::services::ProgramRates;
-use page_charts::{PidLabels, write_branch};
+use page_charts::write_branch;
+use page_curves::PidLabels;
 use std::alloc::AllocError;
 
 // A program and its PIDs; 0 is none.

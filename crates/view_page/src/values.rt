@@ -3,12 +3,12 @@ ghost use Rattle.std.specs.Prelude.{◌≡◌, OnOk};
 ghost use Rattle.view_page.specs.Values as spec;
 ghost use Rattle.view_page.specs.Values.{AreValues, KeptValues};
 
-use crate::cells::short;
 use events::{
     ClockFigures, Event, HeldFigures, PidName, RuleEvent, StreamBegin, UnitFigures, WindowFigures,
 };
-use page_charts::{PidCurves, offset};
+use page_curves::{PidCurves, offset};
 use std::alloc::{AllocError, Global};
+use view_rows::short;
 
 /// The size of a transport buffer in bytes (ISO/IEC 13818-1, 2.4.2.3).
 const TRANSPORT_BYTES: u64 = 512;

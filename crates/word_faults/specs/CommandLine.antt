@@ -4,10 +4,9 @@ use Rattle.std.specs.Prelude.{ℕ, Bool, List, Option}
 abbrev pub Text : Type 0
 Text = List ℕ
 
--- the options by their names with both hyphens, and whether a value follows: none where there is no such option; the values
--- that an option takes; words that are no options, and `--` where names of files may follow it; those beside which nothing may
--- stand; the option that has to be given, where there is one; the option that may not stand beside one, an empty word for none; the line
--- that says what an option takes; and the word that may be meant by one that is not known
+-- whether a value follows an option, by its name with both hyphens (none if there is no such option); the values that an option takes; words beside options,
+-- and `--` if names of files may follow it; words that allow no other word; the option that has to be given, if any; the option that an option excludes (empty:
+-- no option); the line that says what an option takes; and the known word that an unknown word may mean
 pub record CommandLine : Type 0 where
   pub takes_value : Text → Option Bool
   pub reads : Text → Text → Bool

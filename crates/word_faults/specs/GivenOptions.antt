@@ -10,8 +10,7 @@ use Rattle.word_faults.specs.OptionRows.{OptionRow, kind_named}
 use Rattle.word_faults.specs.declared.option_row.ValueKind.{ValueKind}
 use Rattle.word_faults.specs.declared.option_row.ValueKind.TheVariants.{Flag, Alone, Word, Number, Scaled, Numbers}
 
--- 1. The command line as it is declared to `clap`: the options of the rows, and a word beside them; a word beside which nothing may stand
--- is none of them
+-- 1. The command line as it is declared to `clap`: the options of the rows, and a word beside them; a word that allows no other word is not declared
 
 abbrev pub option_by : App → ValueKind → Text → App
 option_by app Flag name = with_rule app (flag_rule name)
@@ -36,13 +35,13 @@ app_of_options program rows = with_options (top_app program) rows
 abbrev pub subcommand_by : Text → List OptionRow → App
 subcommand_by name rows = with_options (new_app name) rows
 
--- 2. What words give to them
+-- 2. The values that words give to options
 
 unfoldable pub unless_faulty : Kinds → List Row → Option (List Row)
 unless_faulty [] given = Some given
 unless_faulty (k ∷ ks) given = None
 
--- none where the words are a usage error
+-- none if the words are a usage error
 abbrev pub given_options : Text → List OptionRow → List Text → Option (List Row)
 given_options program rows words = unless_faulty (fault_of (app_of_options program rows) words) (matches_of (app_of_options program rows) words)
 
@@ -62,7 +61,7 @@ abbrev pub scaled_if : Scale → ℕ → ℕ → Option Text → Option (Option 
 scaled_if scale least greatest None = Some None
 scaled_if scale least greatest (Some text) = option_map Some (scaled_in scale least greatest text)
 
--- the number of an option of this kind: the default where it is not given, none where the text is no number of the range
+-- the number of an option of this kind: the default if it is not given, none if the text is no number of the range
 unfoldable pub number_by : Option ValueKind → Option Text → Option ℕ
 number_by (Some (Number least greatest default)) text = plain_or least greatest default text
 number_by (Some (Scaled scale least greatest default)) text = scaled_or scale least greatest default text
@@ -109,7 +108,7 @@ number_if rows name given = number_if_by (kind_named rows name) (first_of name g
 
 -- 4. Lists of numbers
 
--- none where a part is no number of the range
+-- none if a part is no number of the range
 unfoldable pub numbers_by : Option ValueKind → Option Text → Option (List ℕ)
 numbers_by (Some (Numbers greatest)) text = number_list greatest text
 numbers_by kind text = None

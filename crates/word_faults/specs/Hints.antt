@@ -11,7 +11,7 @@ use Rattle.word_faults.specs.declared.option_row.ValueKind.TheVariants.{Flag, Al
 
 -- 1. What an option takes
 
--- its range or its form, after a space; of a list the range of each number
+-- its range or its form, after a space; for a list the range of each number
 unfoldable pub taken_text : ValueKind → Text → Text
 taken_text Flag form = codes " no value"
 taken_text Alone form = codes " no value"
@@ -19,7 +19,7 @@ taken_text Word form = codes " no value"
 taken_text (Numbers greatest) form = codes " " ++ (form ++ (codes ", each " ++ range_text 0 greatest))
 taken_text kind form = value_text kind form
 
--- in what its numbers count, and the end of the line
+-- the unit of its numbers, and the end of the line
 unfoldable pub unit_text : Text → Text
 unit_text [] = codes "\n"
 unit_text (b ∷ unit) = codes ", in " ++ ((b ∷ unit) ++ codes "\n")
@@ -28,13 +28,13 @@ unfoldable pub takes_by : Text → Option OptionRow → Text
 takes_by word None = []
 takes_by word (Some row) = word ++ (codes " takes" ++ (taken_text row.value row.form ++ unit_text row.unit))
 
--- nothing where there is no option of this word
+-- nothing if there is no option of this word
 abbrev pub takes_line : List OptionRow → Text → Text
 takes_line rows word = takes_by word (row_of rows word)
 
 -- 2. The word that may be meant
 
--- how many edits make one word of another: a character is put in, left out or replaced, or two neighbours are exchanged
+-- how many edits turn a word into another: a character is put in, left out or replaced, or two neighbours are exchanged
 abbrev pub edits_of : Text → Text → ℕ
 edits_of word other = (osa_table (chars word) (chars other)).last_row (length (chars other))
 
@@ -42,7 +42,7 @@ edits_of word other = (osa_table (chars word) (chars other)).last_row (length (c
 abbrev pub is_near : Text → Text → Bool
 is_near word other = nat_le (edits_of word other) (length word / 3)
 
--- the nearer of two, the first of two that are as near
+-- the nearer of two words, the first word if both are as near
 unfoldable pub nearer : Text → Option Text → Text → Option Text
 nearer word None other = if is_near word other then Some other else None
 nearer word (Some best) other = if nat_lt (edits_of word other) (edits_of word best) then Some other else Some best
@@ -54,7 +54,7 @@ nearest_from word best (other ∷ others) = nearest_from word (nearer word best 
 abbrev pub nearest : List Text → Text → Option Text
 nearest others word = nearest_from word None others
 
--- a near word, or else the word itself as the name of a file, if names of files may follow `--`
+-- a near word; otherwise, if names of files may follow `--`, the word itself as the name of a file
 unfoldable pub meant_line : Option Text → Bool → Text → Text
 meant_line (Some other) files word = codes "did you mean " ++ (other ++ codes "?\n")
 meant_line None true word = codes "did you mean -- " ++ (word ++ codes "?\n")

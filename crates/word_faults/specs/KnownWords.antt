@@ -12,12 +12,12 @@ use Rattle.word_faults.specs.declared.known_words.KnownWords.{KnownWords}
 abbrev pub is_among : List Text → Text → Bool
 is_among words word = list_any (λ known. bytes_eq known word) words
 
--- the value of the option of a word, but of one that is barred
+-- the value of the option of a word, except the barred option
 abbrev pub kind_but : Option Text → List OptionRow → Text → Option ValueKind
 kind_but None rows word = kind_of rows word
 kind_but (Some barred) rows word = if bytes_eq barred word then None else kind_of rows word
 
--- the words that may be meant by one that is not known: of the options but one that is barred, those beside them, those that stand alone
+-- the words that an unknown word may mean: the options except the barred one, the words beside options, the words that allow no other
 abbrev pub unless_barred : Option Text → Text → List Text
 unless_barred None word = word ∷ []
 unless_barred (Some barred) word = if bytes_eq barred word then [] else word ∷ []
@@ -36,8 +36,8 @@ meant_words barred rows words alone = flat_map (word_of barred) rows ++ (words +
 abbrev pub is_name : Bool → Text → Bool
 is_name names word = names && not (bytes_eq word (codes "--"))
 
--- the options of a table, but one that is barred; whether the name of a file may stand beside them, words that may, and those beside which
--- nothing may stand; and the word of the option that has to be given
+-- a command line by the options of a table except the barred one; whether the name of a file is allowed beside them, the words that are, the words that allow
+-- no other word, and the word of the option that has to be given
 abbrev pub known_with : Bool → Option Text → List OptionRow → List Text → List Text → Option Text → CommandLine
 known_with names barred rows words alone required = record {
   takes_value = λ option. takes_value (kind_but barred rows option);
@@ -50,11 +50,11 @@ known_with names barred rows words alone required = record {
   near = λ word. nearest (meant_words barred rows words alone) word;
 }
 
--- the same where no name of a file may
+-- the same if no name of a file is allowed
 abbrev pub known_but : Option Text → List OptionRow → List Text → List Text → Option Text → CommandLine
 known_but barred rows words alone required = known_with false barred rows words alone required
 
--- the same where no option is barred
+-- the same if no option is barred
 abbrev pub known_by : List OptionRow → List Text → List Text → Option Text → CommandLine
 known_by rows words alone required = known_but None rows words alone required
 

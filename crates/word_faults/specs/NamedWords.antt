@@ -9,8 +9,7 @@ use Rattle.word_faults.specs.declared.word_fault.Reason.TheVariants.{Unknown, Tw
 abbrev pub IsMissing : CommandLine → List Text → Type 0
 IsMissing c words = (option : Text) × (c.required ≡ Some option) × (is_given option words ≡ false)
 
--- the word at this place is one of the words, and the next too where the line names it; but an option that has to be given is none
--- of them
+-- the word at this place is among the words, and so is the next word if the line names it; a missing option is not among the words
 unfoldable pub NamesWords : CommandLine → List Text → ℕ → Reason → Type 0
 NamesWords c words place Unknown = place < length words
 NamesWords c words place Twice = place < length words

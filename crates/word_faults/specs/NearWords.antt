@@ -1,10 +1,10 @@
--- The word that may be meant by one that is not known is the nearest of those that are.
+-- The word that an unknown word may mean is the nearest known word.
 use Rattle.std.specs.Prelude.{◌≡◌, true, false, nat_le, List, ◌∷◌, ◌++◌, Option, Some, None}
 use Rattle.std.specs.List.{list_all, list_any}
 use Rattle.word_faults.specs.CommandLine.{Text}
 use Rattle.word_faults.specs.Hints.{edits_of, is_near, nearest}
 
--- a word is one of these
+-- a word is among `others`
 pub record IsAmong (others : List Text) (word : Text) : Type 0 where
   pub before : List Text
   pub after : List Text

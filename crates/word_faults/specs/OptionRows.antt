@@ -28,7 +28,7 @@ constant_view row = record { name = row.name.now; value = row.value; form = row.
 
 -- 1. The option of a word
 
--- what follows two hyphens
+-- the name after two hyphens
 abbrev pub name_in : Text → Option Text
 name_in word = if starts_with nat_eq word (codes "--") then Some (drop 2 word) else None
 
@@ -43,9 +43,9 @@ kind_of rows word = option_and_then (kind_named rows) (name_in word)
 abbrev pub row_of : List OptionRow → Text → Option OptionRow
 row_of rows word = option_and_then (λ name. find (λ row. bytes_eq row.name name) rows) (name_in word)
 
--- 2. What stands with it
+-- 2. The values of an option, and the option that it excludes
 
--- the option that may not stand beside it, by its word; an empty word is none
+-- the word of the option that an option excludes; empty if there is none
 abbrev pub apart_by : Option OptionRow → Text
 apart_by None = []
 apart_by (Some row) = row.apart
@@ -53,7 +53,7 @@ apart_by (Some row) = row.apart
 unfoldable pub apart_of : List OptionRow → Text → Text
 apart_of rows word = apart_by (row_of rows word)
 
--- a value follows the option: none where there is no option, or a word that is none
+-- whether a value follows the option: none if there is no option, or if the row allows no other word or is a word beside options
 abbrev pub takes_value : Option ValueKind → Option Bool
 takes_value None = None
 takes_value (Some Flag) = Some false

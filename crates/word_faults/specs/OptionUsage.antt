@@ -38,7 +38,7 @@ row_text row = text_by row.value row
 abbrev pub usage_by : Text → List OptionRow → Text
 usage_by front rows = front ++ flat_map row_text rows
 
--- an option in the line of a subcommand: in brackets where it need not be given
+-- an option in the line of a subcommand: in brackets if it need not be given
 abbrev pub is_required : Option Text → Text → Bool
 is_required None word = false
 is_required (Some required) word = bytes_eq required word

@@ -5,7 +5,7 @@ use Rattle.word_faults.specs.CommandLine.{CommandLine, Text}
 use Rattle.word_faults.specs.UsageReport.{asks_version}
 use Rattle.word_faults.specs.WordFaults.{first_fault, is_dashed, is_file_mark, is_option, value_in, wants_value}
 
--- the options before `--`, each with its value, where the next word is a value or not
+-- the options before `--`, each with its value; `is_value` if the next word is a value
 unfoldable pub options_from : CommandLine → Bool → List Text → List Text
 options_from c is_value [] = []
 options_from c true (w ∷ rest) = w ∷ options_from c false rest
@@ -16,7 +16,7 @@ options_from c false (w ∷ rest) =
 abbrev pub option_words : CommandLine → List Text → List Text
 option_words c words = options_from c false words
 
--- the words beside them, and all words after `--`
+-- the words beside the options, and all words after `--`
 unfoldable pub names_from : CommandLine → Bool → List Text → List Text
 names_from c is_value [] = []
 names_from c true (w ∷ rest) = names_from c false rest

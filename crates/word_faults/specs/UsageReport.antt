@@ -1,4 +1,4 @@
--- What is told where the words are a usage error, and what `--version` prints.
+-- The report of a usage error, and the output of `--version`.
 use Rattle.std.specs.Prelude.{◌≡◌, ◌⊎◌, ◌+◌, ◌&&◌, ◌||◌, ℕ, Bool, true, false, not, List, [], ◌∷◌, ◌++◌, Option, Some, None, codes, slice_get, unwrap_or}
 use Rattle.std.specs.Str.{bytes_eq}
 use Rattle.devices.specs.Devices.{Device, HasFailed, IsClean, IsUntouched, Takes}
@@ -19,7 +19,7 @@ use Rattle.word_faults.specs.declared.word_fault.Reason.TheVariants.{Unknown, Tw
 abbrev pub word_at : List Text → ℕ → Text
 word_at words place = unwrap_or (slice_get words place) []
 
--- the word at a place, the one after it, the option that has to be given, and the one that may not stand beside the first
+-- the line of a fault: by the word at a place, the next word, the option that has to be given, and the option that the first word excludes
 unfoldable pub reason_line : Reason → Text → Text → Text → Text → Text
 reason_line Unknown word next required other = word ++ codes ": not known\n"
 reason_line Twice word next required other = word ++ codes ": given twice\n"
@@ -108,10 +108,9 @@ abbrev pub Prints : Text → Device → Device → Device → ℕ → Type 0
 Prints text input output faults status =
     Printed text input output faults status ⊎ (FailsToPrint text input output faults status ⊎ LacksMemory input output faults status)
 
--- 3. The answer of a program that people type to words that ask for nothing that it does
+-- 3. The answer of a program that people type, to words that ask for none of its work
 
--- the version alone, or help, is an answer on standard output; for all other words the first that cannot be taken is told, what to type
--- instead, and the usage
+-- the version alone, and help, are answers on standard output; otherwise the report is the first word that cannot be taken, what to type instead, and the usage
 pub record AnswersWords (program : Text) (c : CommandLine) (words : List Text) (usage : Text) (input output faults : Device) (status : ℕ) : Type 0 where
   pub version : asks_version words ≡ true → Prints (version_text program) input output faults status
   pub help : asks_version words ≡ false → wants_help c words ≡ true → Prints usage input output faults status

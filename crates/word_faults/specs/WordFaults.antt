@@ -30,7 +30,7 @@ is_help word = bytes_eq word (codes "--help") || bytes_eq word (codes "-h")
 
 -- 2. A word after other words
 
--- an option stands among these words
+-- an option is among these words
 abbrev pub is_option : Text → Text → Bool
 is_option option word = is_dashed word && bytes_eq (option_in word) option
 
@@ -60,25 +60,25 @@ option_reason c (Some takes) before option value rest =
     if is_given option before then Some Twice
     else (if is_given (c.apart option) before then Some Apart else known_reason c takes option value rest)
 
--- one word alone may stand beside the options, where the program knows it
+-- one word is allowed beside the options, if the program knows it
 abbrev pub word_reason : CommandLine → Bool → Text → Option Reason
 word_reason c has_word word = if c.is_word word && not has_word then None else Some Unknown
 
--- the one word of a command line that asks for the version, or for what takes nothing else
+-- a word that has to be the only one: the version, or a word that allows no other
 abbrev pub is_alone : CommandLine → Text → Bool
 is_alone c word = bytes_eq word (codes "--version") || c.stands_alone word
 
 abbrev pub alone_reason : List Text → List Text → Option Reason
 alone_reason before rest = if length before == 0 && length rest == 0 then None else Some Alone
 
--- `--`, where the program knows it: the words after it are names of files, one at least
+-- `--`, if the program knows it: the words after it are names of files, at least one
 abbrev pub is_file_mark : CommandLine → Text → Bool
 is_file_mark c word = bytes_eq word (codes "--") && c.is_word word
 
 abbrev pub files_reason : List Text → Option Reason
 files_reason rest = if length rest == 0 then Some NoValue else None
 
--- why a word that is no value cannot be taken, after these words and before those
+-- why a word that is no value cannot be taken, after `before` and before `rest`
 abbrev pub reason_at : CommandLine → Bool → List Text → Text → List Text → Option Reason
 reason_at c has_word before word rest =
     if is_help word then Some Help
@@ -87,7 +87,7 @@ reason_at c has_word before word rest =
     else (if is_dashed word then option_reason c (c.takes_value (option_in word)) before (option_in word) (value_in word) rest
     else word_reason c has_word word)))
 
--- a value is to come after this word
+-- a value has to follow this word
 abbrev pub is_open : Option Bool → Option Text → Bool
 is_open (Some true) None = true
 is_open takes value = false
@@ -95,13 +95,13 @@ is_open takes value = false
 abbrev pub wants_value : CommandLine → Text → Bool
 wants_value c word = is_dashed word && is_open (c.takes_value (option_in word)) (value_in word)
 
--- 3. The first of all words
+-- 3. The first fault of all words
 
 abbrev pub fault_or : ℕ → Option Reason → Option WordFault → Option WordFault
 fault_or place None later = later
 fault_or place (Some reason) later = Some (record { place = place; reason = reason })
 
--- where the words before are taken, one that is no option among them or not, and the next word is a value or not; names of files
+-- the first fault after the words `before`, which are taken: `has_word`, if any of them is no option; `is_value`, if the next word is a value; names of files
 -- are taken as they are
 unfoldable pub fault_from : CommandLine → List Text → Bool → Bool → List Text → Option WordFault
 fault_from c before has_word is_value [] = None
@@ -111,7 +111,7 @@ fault_from c before has_word false (w ∷ rest) =
     (if is_file_mark c w then None
     else fault_from c (before ++ w ∷ []) (has_word || not (is_dashed w)) (wants_value c w) rest)
 
--- the option that has to be given is not
+-- the required option is not given
 abbrev pub missing : Option Text → List Text → Option WordFault
 missing None words = None
 missing (Some option) words = if is_given option words then None else Some (record { place = length words; reason = Missing })
@@ -125,7 +125,7 @@ first_fault c words = otherwise (fault_from c [] false false words) (missing c.r
 
 -- 4. The word beside the options
 
--- the first word that is neither an option nor a value, nor the name of a file, where the next word is a value or not
+-- the first word that is neither an option nor a value, nor the name of a file; `is_value` if the next word is a value
 unfoldable pub word_from : CommandLine → Bool → List Text → Option Text
 word_from c is_value [] = None
 word_from c true (w ∷ rest) = word_from c false rest

@@ -22,14 +22,14 @@ pub struct Names<Text> {
 /// Both names in a constant.
 pub type ShortName = Names<&'static str>;
 
-// The first short name that is this word.
+// Returns the first short name that is this word.
 fn short_of<'w>(shorts: &'w [ShortName], word: &str) -> Option<&'w ShortName>
     ensures { option_map (λ s. s.now) result ≡ find (λ s. bytes_eq s.short.now word.now) shorts.now }
 {
     shorts.iter().find(|known| known.short == word)
 }
 
-// The long name of an option that is given by its short one; other words stay as they are.
+// Returns the long name of an option that is given by its short one; other words stay as they are.
 fn long_word<'a>(shorts: &[ShortName], word: &'a str) -> &'a str
     ensures { result.now ≡ spec.long_word (map spec.short_view shorts.now) word.entry.now }
 {
@@ -71,7 +71,7 @@ pub fn command_of<'a>(known: KnownWords, words: &[&'a str]) -> Option<&'a str>
     }
 }
 
-// The names after a subcommand, if there is one.
+// Returns the names after a subcommand, if there is one.
 fn names_after<'w, 'a>(command: Option<&str>, names: &'w [&'a str]) -> &'w [&'a str]
     ensures { map (λ s. s.now) result.now
         ≡ spec.names_after (option_map (λ s. s.now) command.entry) (map (λ s. s.now) names.now) }

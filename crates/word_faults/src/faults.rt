@@ -17,7 +17,7 @@ pub(crate) fn is_dashed(word: &str) -> bool
     }
 }
 
-/// Returns the option of a word, and the value that stands with it.
+/// Returns the option of a word, and its value after `=`, if it has one.
 pub(crate) fn split_word(word: &str) -> (&str, Option<&str>)
     ensures option { result.0.now ≡ spec.option_in word.now }
     ensures value { option_map (λ s. s.now) result.1 ≡ spec.value_in word.now }
@@ -28,7 +28,7 @@ pub(crate) fn split_word(word: &str) -> (&str, Option<&str>)
     }
 }
 
-// A call for help.
+// Returns whether a word asks for help.
 fn is_help(word: &str) -> bool
     ensures { result ≡ spec.is_help word.now }
 {
@@ -42,7 +42,7 @@ pub(crate) fn is_option(option: &str, word: &str) -> bool
     is_dashed(word) && split_word(word).0 == option
 }
 
-// Whether an option stands among words.
+// Returns whether an option is among words.
 fn is_given(option: &str, words: &[&str]) -> bool
     ensures { result ≡ spec.is_given option.now (map (λ s. s.now) words.now) }
 {
@@ -54,7 +54,7 @@ fn is_given(option: &str, words: &[&str]) -> bool
     false
 }
 
-// Why the words after an option are not its value.
+// Returns why the words after an option are not its value.
 fn next_reason(
     alloc: Global,
     known: KnownWords,
@@ -76,7 +76,7 @@ fn next_reason(
     }
 }
 
-// Why an option that takes a value has none.
+// Returns why an option that takes a value has none.
 fn value_reason(
     alloc: Global,
     known: KnownWords,
@@ -97,7 +97,7 @@ fn value_reason(
     }
 }
 
-// Why an option that is known cannot be taken.
+// Returns why an option that is known cannot be taken.
 fn known_reason(
     alloc: Global,
     known: KnownWords,
@@ -118,7 +118,7 @@ fn known_reason(
     }
 }
 
-// Why an option cannot be taken.
+// Returns why an option cannot be taken.
 fn option_reason(
     alloc: Global,
     known: KnownWords,
@@ -139,14 +139,14 @@ fn option_reason(
     }
 }
 
-// Whether a word takes nothing else beside it.
+// Returns whether a word allows no other word.
 fn is_alone(known: KnownWords, word: &str) -> bool
     ensures { result ≡ spec.is_alone (known_of known) word.now }
 {
     word == "--version" || known.stands_alone(word)
 }
 
-// Why a word cannot be taken that takes nothing else beside it.
+// Returns why a word that allows no other word cannot be taken.
 fn alone_reason(before: &[&str], rest: &[&str]) -> Option<Reason>
     ensures { result ≡ spec.alone_reason (map (λ s. s.now) before.now) (map (λ s. s.now) rest.now) }
 {
@@ -164,7 +164,7 @@ pub(crate) fn is_file_mark(known: KnownWords, word: &str) -> bool
     word == "--" && known.is_word(word)
 }
 
-// Why the words after a word are no names of files.
+// Returns why the words after a word are no names of files.
 fn files_reason(rest: &[&str]) -> Option<Reason>
     ensures { result ≡ spec.files_reason (map (λ s. s.now) rest.now) }
 {
@@ -175,7 +175,7 @@ fn files_reason(rest: &[&str]) -> Option<Reason>
     }
 }
 
-// Why a word that is no value cannot be taken.
+// Returns why a word that is no value cannot be taken.
 fn reason_at(
     alloc: Global,
     known: KnownWords,
@@ -213,7 +213,7 @@ pub(crate) fn wants_value(known: KnownWords, word: &str) -> bool
     known.takes_value(option) == Some(true) && value.is_none()
 }
 
-// The first word that cannot be taken.
+// Returns the first word that cannot be taken.
 #[tactic(auto, unfolding(crate::specs::WordFaults::fault_from))]
 fn first_word(
     alloc: Global,
@@ -243,7 +243,7 @@ fn first_word(
     Ok(None)
 }
 
-// The option that has to be given is not.
+// Returns the fault of a required option that is not given.
 fn missing(required: Option<&str>, words: &[&str]) -> Option<WordFault>
     ensures { result ≡ spec.missing (option_map (λ s. s.now) required.entry) (map (λ s. s.now) words.now) }
 {

@@ -60,7 +60,7 @@ fn write_value(text: &mut String, kind: ValueKind, form: &str) -> Result<(), All
     }
 }
 
-// Appends in what numbers count, and the end of the line.
+// Appends the unit of numbers, and the end of the line.
 #[tactic(auto, unfolding(crate::specs::Hints::unit_text))]
 fn write_unit(text: &mut String, unit: &str) -> Result<(), AllocError>
     ensures { OnOk result (string_bytes text.new ≡ string_bytes text.old ++ spec.unit_text unit.now) }
@@ -90,14 +90,14 @@ pub(crate) fn write_takes(
     write_unit(text, row.unit)
 }
 
-// How many edits make one word of another.
+// Returns how many edits turn a word into another.
 fn edits_of(alloc: Global, word: &str, other: &str) -> Result<usize, AllocError>
     ensures { IfOk result (λ n. n ≡ spec.edits_of word.now other.now) }
 {
     osa_distance(alloc, word, other)
 }
 
-// The nearer of two words, the first of two that are as near.
+// Returns the nearer of two words, the first word if both are as near.
 #[tactic(auto, unfolding(crate::specs::Hints::nearer))]
 fn nearer<'a>(
     alloc: Global,
@@ -155,8 +155,8 @@ fn write_meant(
     }
 }
 
-/// Appends the line with the word of these that is nearest to one, if one is near; or else with the word as the name of
-/// a file, if it may be.
+/// Appends the line with the word nearest to the unknown word, if one is near; otherwise with the unknown word as the
+/// name of a file, if it may be.
 pub(crate) fn write_nearest(
     alloc: Global,
     text: &mut String,
@@ -171,7 +171,7 @@ pub(crate) fn write_nearest(
     write_meant(text, near, files, word)
 }
 
-// A word after these characters.
+// Returns a word after these characters.
 fn word_after(alloc: Global, front: &str, word: &str) -> Result<String, AllocError>
     ensures { IfOk result (λ s. string_bytes s ≡ front.now ++ word.now) }
 {
@@ -181,7 +181,7 @@ fn word_after(alloc: Global, front: &str, word: &str) -> Result<String, AllocErr
     Ok(text)
 }
 
-// Appends the word of an option, but of this one.
+// Appends the word of an option, unless it is this option.
 #[tactic(auto, unfolding(crate::specs::KnownWords::word_by))]
 fn push_option(
     alloc: Global,
@@ -214,8 +214,8 @@ fn push_copies(alloc: Global, words: &mut Vec<String>, others: &[&str]) -> Resul
     Ok(())
 }
 
-/// Returns the words that may be meant: of the options but one that is barred, those beside them, those that stand
-/// alone.
+/// Returns the words that may be meant: the options except the barred one, the words beside options, and the words that
+/// take no other.
 #[tactic(auto, unfolding(crate::specs::KnownWords::meant_words))]
 pub(crate) fn meant_words(
     alloc: Global,

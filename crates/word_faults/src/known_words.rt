@@ -15,19 +15,19 @@ use std::alloc::{AllocError, Global};
 pub struct KnownWords {
     /// The options.
     pub options: &'static [OptionRow],
-    /// The words that may stand beside options; of `--`, names of files may follow it.
+    /// The words that are allowed beside options; after `--`, if listed, come names of files.
     pub words: &'static [&'static str],
-    /// Whether one more word may stand beside the options: the name of a file.
+    /// Whether one more word is allowed beside the options: the name of a file.
     pub names: bool,
-    /// The words that are no options of the table, and beside which nothing may stand.
+    /// The words that have no row in the table and allow no other word.
     pub alone: &'static [&'static str],
     /// The word of the option that has to be given.
     pub required: Option<&'static str>,
-    /// The word of an option that may not stand beside these words: it is not known then.
+    /// The word of an option that these words exclude: it is treated as unknown.
     pub barred: Option<&'static str>,
 }
 
-// Whether a value follows an option of this kind; none where there is no such option.
+// Returns whether a value follows an option of this kind; none if there is no such option.
 fn takes_value(kind: Option<ValueKind>) -> Option<bool>
     ensures { result ≡ takes_value kind }
 {
@@ -38,7 +38,7 @@ fn takes_value(kind: Option<ValueKind>) -> Option<bool>
     }
 }
 
-// Whether a text is a value of an option of this kind.
+// Returns whether a text is a value of an option of this kind.
 fn reads(alloc: Global, kind: Option<ValueKind>, text: &str) -> Result<bool, AllocError>
     ensures { IfOk result (λ b. b ≡ reads kind text.now) }
 {
@@ -48,7 +48,7 @@ fn reads(alloc: Global, kind: Option<ValueKind>, text: &str) -> Result<bool, All
     }
 }
 
-// Whether a word is one beside which nothing may stand, by the table.
+// Returns whether a word allows no other word, by the table.
 fn is_alone(kind: Option<ValueKind>) -> bool
     ensures { result ≡ is_alone kind }
 {
@@ -64,21 +64,21 @@ fn is_one_of(words: &[&str], word: &str) -> bool
     words.iter().any(|known| *known == word)
 }
 
-// Whether a word is one of these.
+// Returns whether a word is among `words`.
 fn is_among(words: &[&str], word: &str) -> bool
     ensures { result ≡ spec.is_among (map (λ s. s.now) words.now) word.now }
 {
     is_one_of(words, word)
 }
 
-// Whether a word may be the name of a file.
+// Returns whether a word may be the name of a file.
 fn is_name(names: bool, word: &str) -> bool
     ensures { result ≡ spec.is_name names word.now }
 {
     names && word != "--"
 }
 
-// The value of the option of a word, but of this one.
+// Returns the value of the option of a word, unless it is this option.
 fn kind_but(barred: Option<&'static str>, options: &[OptionRow], word: &str) -> Option<ValueKind>
     ensures { result
         ≡ spec.kind_but (option_map (λ s. s.now) barred.entry) (map view options.now) word.now }
@@ -104,14 +104,14 @@ impl KnownWords {
         reads(alloc, kind_but(self.barred, self.options, option), value)
     }
 
-    /// Returns whether the word may stand beside the options; of `--`, whether names of files may follow it.
+    /// Returns whether the word is allowed beside the options; for `--`, whether names of files may follow it.
     pub(crate) fn is_word(self, word: &str) -> bool
         ensures { result ≡ (spec.known_of self).is_word word.now }
     {
         is_name(self.names, word) || is_among(self.words, word)
     }
 
-    /// Returns the word of the option that may not stand beside this one; an empty one if each may.
+    /// Returns the word of the option that this option excludes; empty if there is none.
     pub(crate) fn apart(self, option: &str) -> &'static str
         ensures { result.now ≡ (spec.known_of self).apart option.now }
     {
@@ -126,8 +126,8 @@ impl KnownWords {
         write_takes(text, self.options, option)
     }
 
-    /// Appends the line with the word that may be meant by this one, or with this one as the name of a file; nothing if
-    /// there is none.
+    /// Appends the line with the known word that this word may mean, or with this word as the name of a file; nothing
+    /// if neither applies.
     pub(crate) fn write_near(
         self,
         alloc: Global,
@@ -142,7 +142,7 @@ impl KnownWords {
         write_nearest(alloc, text, &words, files, word)
     }
 
-    /// Returns whether nothing may stand beside the word.
+    /// Returns whether the word allows no other word.
     pub(crate) fn stands_alone(self, word: &str) -> bool
         ensures { result ≡ (spec.known_of self).stands_alone word.now }
     {

@@ -2,7 +2,7 @@
 ghost use Rattle.word_faults.specs.NamedWords.{FaultsNameWords};
 ghost use Rattle.word_faults.specs.NearWords.{HintsAreNearest};
 
-/// States that a fault line names words that are really there, and an option that has to be given only where it is not.
+/// States that a fault line names words that are really there, and a required option only if it is missing.
 pub fn faults_name_words()
     ensures { FaultsNameWords }
 {}

@@ -1,20 +1,16 @@
 //! The options of a program as a table, and the first word of a command line that cannot be taken, in words.
 //!
-//! A program has a table of options (`OptionRow`): each row is the name of an option, its value (`ValueKind`: a flag,
-//! a number with its range and its default, a list), and its line of the usage. From the table come the values that
-//! are read (`given_options`, `number_of`, `number_if`, `numbers_of`: `specs/GivenOptions`), what the program knows
-//! of a word (`KnownWords`: `specs/OptionRows`, `specs/KnownWords`), and the usage text (`specs/OptionUsage`).
+//! `OptionRow`: the name of an option, its value (`ValueKind`) and its line of the usage. The table gives the values
+//! that are read (`given_options`, `number_of`, `number_if`, `numbers_of`), the words that the program knows
+//! (`KnownWords`), and the usage text (`specs/GivenOptions`, `specs/OptionRows`, `specs/KnownWords`,
+//! `specs/OptionUsage`, `specs/CommandLine`).
 //!
-//! What is known of a word (`specs/CommandLine`) is whether it is an option, whether that takes a value, and which, and
-//! words beside options. `first_fault` finds the first word that is not known, is given twice, lacks its value, has one
-//! that its option does not take, or stands beside others where it takes none; `word_beside` finds the word beside the
-//! options (`specs/WordFaults`). `usage_report` is the line that says what is wrong, with the usage after it, and
-//! `answer_other_words` reports it, or prints the version for `--version` alone (`specs/UsageReport`). The words that
-//! the line names are really there (`faults_name_words`: `specs/NamedWords`). `answer_words` also answers calls for
-//! help, and says what to type: what an option takes, or the nearest known word (`specs/Hints`; `hints_are_nearest`:
-//! `specs/NearWords`). `sorting` tells options with their values from the words beside them (`specs/SortedWords`);
-//! `sorted_command` puts a subcommand before the options and the names of files after them, and `long_words` puts long
-//! names of options for short ones (`specs/Commands`).
+//! `first_fault` finds the first word that is unknown, is given twice, lacks its value, has a wrong value, or must be
+//! given alone and is not; `word_beside` the word beside the options (`specs/WordFaults`). `answer_other_words` reports
+//! the fault with the usage, or prints the version (`specs/UsageReport`, `faults_name_words`: `specs/NamedWords`);
+//! `answer_words` also answers calls for help and says what to type (`specs/Hints`, `hints_are_nearest`:
+//! `specs/NearWords`). `sorting` separates options from the words beside them (`specs/SortedWords`); `sorted_command`
+//! puts a subcommand first, and `long_words` replaces short names of options (`specs/Commands`).
 #![tactic(auto)]
 
 mod commands;

@@ -16,11 +16,11 @@ use std::alloc::{AllocError, Global};
 pub enum ValueKind {
     /// Nothing: the option is given or not.
     Flag,
-    /// Nothing, and no other word may stand beside it.
+    /// No value, and no other word is allowed beside it.
     Alone,
-    /// The row is no option, but a word that may stand beside the options; the usage has no line for it.
+    /// No option, but a word that is allowed beside the options; the usage has no line for it.
     Word,
-    /// A number of this range, and the number where the option is not given, if there is one.
+    /// A number of this range, and its default, if there is one.
     Number {
         least: u64,
         greatest: u64,
@@ -43,9 +43,9 @@ pub enum ValueKind {
     StreamId,
     /// A moment, `YYYY-MM-DDThh:mm:ss`.
     Moment,
-    /// By what packets are declared, `groups|time`.
+    /// How packets are declared, `groups|time`.
     Declare,
-    /// What the system clock shows as a run begins: a number of its range, or the word `input`.
+    /// The value of the system clock when a run begins: a number of its range, or the word `input`.
     Base,
     /// A network, `ID:NAME[:ORIGINAL]`.
     Network,
@@ -65,9 +65,9 @@ pub struct Row<Text> {
     pub value: ValueKind,
     /// How the usage writes its value; a number without a form has its range.
     pub form: Text,
-    /// In what the numbers of its value count; empty if it has none.
+    /// The unit of the numbers of its value; empty if it has none.
     pub unit: Text,
-    /// The word of the option that may not stand beside it; empty if each may.
+    /// The word of the option that this option excludes; empty if there is none.
     pub apart: Text,
     /// What it is for, in a line.
     pub help: Text,
@@ -76,14 +76,14 @@ pub struct Row<Text> {
 /// A row of a table that is a constant.
 pub type OptionRow = Row<&'static str>;
 
-// What follows the two hyphens of a word.
+// Returns the name after the two hyphens of a word.
 fn name_in(word: &str) -> Option<&[u8]>
     ensures { option_map (λ s. s.now) result ≡ spec.name_in word.now }
 {
     word.as_bytes().strip_prefix(b"--")
 }
 
-// The row of this name.
+// Returns the row of this name.
 fn row_named<'a>(options: &'a [OptionRow], name: &[u8]) -> Option<&'a OptionRow>
     ensures { option_map (λ row. row.now) result ≡ find (λ row. bytes_eq row.name.now name.now) options.now }
 {
@@ -111,7 +111,7 @@ pub(crate) fn row_of<'a>(options: &'a [OptionRow], word: &str) -> Option<&'a Opt
     }
 }
 
-/// Returns the word of the option that may not stand beside the option of this word; empty if each may.
+/// Returns the word of the option that the option of this word excludes; empty if there is none.
 #[tactic(auto, unfolding(crate::specs::OptionRows::apart_of))]
 pub(crate) fn apart_of(options: &[OptionRow], word: &str) -> &'static str
     ensures { result.now ≡ spec.apart_of (map spec.view options.now) word.now }
@@ -132,7 +132,7 @@ pub(crate) fn kind_of(options: &[OptionRow], word: &str) -> Option<ValueKind>
     }
 }
 
-// Whether a text is a stream_id of units.
+// Returns whether a text is a stream_id of units.
 fn is_id(text: &str) -> bool
     ensures { result ≡ spec.is_id text.now }
 {

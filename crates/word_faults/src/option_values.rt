@@ -14,7 +14,7 @@ use devices::{flag, number_given, number_in, option, text_of};
 use option_lists::{Scale, number_list, scaled_in};
 use std::alloc::{AllocError, Global};
 
-// With the option of one more row.
+// Returns a command line with the option of one more row.
 fn with_option<'a>(
     alloc: Global,
     command: Command<'a>,
@@ -32,7 +32,7 @@ fn with_option<'a>(
     }
 }
 
-// With the options of all rows.
+// Returns a command line with the options of all rows.
 #[tactic(auto, unfolding(crate::specs::GivenOptions::with_options))]
 fn with_options<'a>(
     alloc: Global,
@@ -49,7 +49,7 @@ fn with_options<'a>(
     Ok(command)
 }
 
-// A command line of these options alone.
+// Returns a command line of these options alone.
 fn command_of<'a>(
     alloc: Global,
     program: &'static str,
@@ -76,7 +76,7 @@ pub fn subcommand<'a>(
     with_options(alloc, Command::new(alloc, name), options)
 }
 
-// What `clap` reads in the words.
+// Returns the matches that `clap` finds in the words.
 fn matches_for<'a>(
     alloc: Global,
     program: &'static str,
@@ -92,7 +92,7 @@ fn matches_for<'a>(
     command_of(alloc, program, options)?.try_get_matches_from(words)
 }
 
-/// Returns the values that the words give to the options of a table; none where the words are a usage error.
+/// Returns the values that the words give to the options of a table; none if the words are a usage error.
 pub fn given_options<'a>(
     alloc: Global,
     program: &'static str,
@@ -112,7 +112,7 @@ pub fn given_options<'a>(
     }
 }
 
-// The number of an option, `default` where it is not given.
+// Returns the number of an option; `default` if it is not given.
 #[tactic(auto, unfolding(devices::specs::Options::number_option))]
 fn number_or(text: Option<&str>, least: u64, greatest: u64, default: u64) -> Option<u64>
     ensures value { result ≡ number_option least greatest default (option_map (λ s. s.now) text.entry) }
@@ -125,7 +125,7 @@ fn number_or(text: Option<&str>, least: u64, greatest: u64, default: u64) -> Opt
     }
 }
 
-// The number of an option that may have a unit, the default where it is not given.
+// Returns the number of an option that may have a unit; the default if it is not given.
 fn scaled_or(
     scale: Scale,
     text: Option<&str>,
@@ -143,7 +143,7 @@ fn scaled_or(
     }
 }
 
-// The number of an option that may have a unit and need not be given.
+// Returns the number of an option that may have a unit and need not be given.
 fn scaled_if(scale: Scale, text: Option<&str>, least: u64, greatest: u64) -> Option<Option<u64>>
     ensures value { result ≡ spec.scaled_if scale least greatest (option_map (λ s. s.now) text.entry) }
     ensures lower { IfSome result (λ given. IfSome given (λ n. least ≤ n)) }
@@ -158,7 +158,7 @@ fn scaled_if(scale: Scale, text: Option<&str>, least: u64, greatest: u64) -> Opt
     }
 }
 
-// The number of an option, or none without a default where it is not given.
+// Returns the number of an option; if it is not given, its default, if any.
 fn plain_or(text: Option<&str>, least: u64, greatest: u64, default: Option<u64>) -> Option<u64>
     ensures value { result ≡ spec.plain_or least greatest default (option_map (λ s. s.now) text.entry) }
     ensures lower { IfSome result (λ n. min least (unwrap_or default least) ≤ n) }
@@ -170,7 +170,7 @@ fn plain_or(text: Option<&str>, least: u64, greatest: u64, default: Option<u64>)
     }
 }
 
-// The number of an option of this kind.
+// Returns the number of an option of this kind.
 #[tactic(auto, unfolding(crate::specs::GivenOptions::number_by, crate::specs::GivenOptions::lowest_by, crate::specs::GivenOptions::greatest_by))]
 fn number_by(kind: Option<ValueKind>, text: Option<&str>) -> Option<u64>
     ensures value { result ≡ spec.number_by kind (option_map (λ s. s.now) text.entry) }
@@ -197,8 +197,8 @@ fn number_by(kind: Option<ValueKind>, text: Option<&str>) -> Option<u64>
     }
 }
 
-/// Returns the number of an option by its row: its default where the option is not given, none where its text is no
-/// number of its range.
+/// Returns the number of an option by its row: its default if the option is not given, none if its text is no number of
+/// its range.
 pub fn number_of(options: &[OptionRow], matches: &ArgMatches<'_>, name: &str) -> Option<u64>
     ensures value { result ≡ spec.number_of (map view options.now) name.now (rows_of (found_of matches.now)) }
     ensures lower { IfSome result (λ n. spec.lowest_of (map view options.now) name.now ≤ n) }
@@ -207,7 +207,7 @@ pub fn number_of(options: &[OptionRow], matches: &ArgMatches<'_>, name: &str) ->
     number_by(kind_named(options, name.as_bytes()), text_of(matches, name))
 }
 
-// The number of an option that need not be given.
+// Returns the number of an option that need not be given.
 #[tactic(auto, unfolding(devices::specs::Options::number_if_given))]
 fn number_if_given(text: Option<&str>, least: u64, greatest: u64) -> Option<Option<u64>>
     ensures value { result ≡ stated.number_if_given least greatest (option_map (λ s. s.now) text.entry) }
@@ -223,7 +223,7 @@ fn number_if_given(text: Option<&str>, least: u64, greatest: u64) -> Option<Opti
     }
 }
 
-// The number of an option of this kind that need not be given.
+// Returns the number of an option of this kind that need not be given.
 #[tactic(auto, unfolding(crate::specs::GivenOptions::number_if_by, crate::specs::GivenOptions::least_by, crate::specs::GivenOptions::greatest_by))]
 fn number_if_by(kind: Option<ValueKind>, text: Option<&str>) -> Option<Option<u64>>
     ensures value { result ≡ spec.number_if_by kind (option_map (λ s. s.now) text.entry) }
@@ -250,7 +250,7 @@ fn number_if_by(kind: Option<ValueKind>, text: Option<&str>) -> Option<Option<u6
     }
 }
 
-/// Returns the number of an option that need not be given, by its row; none where its text is no number of its range.
+/// Returns the number of an option that need not be given, by its row; none if its text is no number of its range.
 pub fn number_if(options: &[OptionRow], matches: &ArgMatches<'_>, name: &str) -> Option<Option<u64>>
     ensures value { result ≡ spec.number_if (map view options.now) name.now (rows_of (found_of matches.now)) }
     ensures lower { IfSome result (λ given. IfSome given (λ n. spec.least_of (map view options.now) name.now ≤ n)) }
@@ -259,7 +259,7 @@ pub fn number_if(options: &[OptionRow], matches: &ArgMatches<'_>, name: &str) ->
     number_if_by(kind_named(options, name.as_bytes()), text_of(matches, name))
 }
 
-// The numbers of an option of this kind.
+// Returns the numbers of an option of this kind.
 #[tactic(auto, unfolding(crate::specs::GivenOptions::numbers_by))]
 fn numbers_by(
     alloc: Global,
@@ -275,8 +275,8 @@ fn numbers_by(
     }
 }
 
-/// Returns the numbers of an option that is a list, by its row: no numbers where the option is not given, none where
-/// a part of its text is no number of its range.
+/// Returns the numbers of an option that is a list, by its row: no numbers if the option is not given, none if a part
+/// of its text is no number of its range.
 pub fn numbers_of(
     alloc: Global,
     options: &[OptionRow],

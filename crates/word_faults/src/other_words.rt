@@ -37,8 +37,9 @@ fn report_words<E: Sink>(
     }
 }
 
-/// Answers words that ask for nothing else, and returns the status: `--version` alone prints the program of this name,
-/// its version and its kit; for all others the first word that cannot be taken is reported, and the usage after it.
+/// Answers words that ask for none of the program's work, and returns the status: `--version` alone prints the program
+/// of this name, its version and its kit; otherwise it reports the first word that cannot be taken, with the usage
+/// after it.
 pub fn answer_other_words<W: Sink, E: Sink>(
     alloc: Global,
     program: &str,
@@ -85,10 +86,9 @@ fn report_hinted<E: Sink>(
     2
 }
 
-/// Answers the words of a program that people type, which ask for nothing that it does, and returns the status:
-/// `--version` or `-V` alone prints the program of this name, its version and its kit; words of which the first that
-/// cannot be taken asks for help print the usage; for all others that word is reported, what to type instead, and the
-/// usage.
+/// Answers the words of a program that people type, which ask for none of its work, and returns the status: `--version`
+/// or `-V` alone prints the program of this name, its version and its kit; if the first word that cannot be taken asks
+/// for help, it prints the usage; otherwise it reports that word, what to type instead, and the usage.
 pub fn answer_words<W: Sink, E: Sink>(
     alloc: Global,
     program: &str,
@@ -112,7 +112,7 @@ pub fn answer_words<W: Sink, E: Sink>(
     }
 }
 
-// Whether a word that cannot be taken asks for help.
+// Returns whether a word that cannot be taken asks for help.
 fn is_help(fault: Option<WordFault>) -> bool
     ensures { result ≡ spec.is_help_fault fault }
 {

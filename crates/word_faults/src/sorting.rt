@@ -79,7 +79,7 @@ pub fn name_words<'a>(
     Ok(found)
 }
 
-// Whether names of files are no names, or `-` alone: then the stream is on standard input.
+// Returns whether the names of files are none, or `-` alone: then the stream is on standard input.
 fn is_input(names: &[&str]) -> bool
     ensures { result ≡ spec.is_input (map (λ s. s.now) names.now) }
 {
@@ -102,7 +102,7 @@ pub(crate) fn push_marked<'a>(found: &mut Vec<&'a str>, names: &[&'a str]) -> Re
     push_words(found, names)
 }
 
-// The value of an option: with it in its word, or the next word.
+// Returns the value of an option: the value in its word, or the next word.
 fn value_by<'a>(value: Option<&'a str>, rest: &[&'a str]) -> Option<&'a str>
     ensures { option_map (λ s. s.now) result
         ≡ spec.value_by (option_map (λ s. s.now) value.entry) (map (λ s. s.now) rest.now) }
@@ -128,7 +128,7 @@ pub fn value_given<'a>(option: &str, words: &[&'a str]) -> Option<&'a str>
     None
 }
 
-// The words after an option and its value.
+// Returns the words after an option and its value.
 fn after_option<'w, 'a>(value: Option<&str>, rest: &'w [&'a str]) -> &'w [&'a str]
     ensures { map (λ s. s.now) result.now
         ≡ spec.after_option (option_map (λ s. s.now) value.entry) (map (λ s. s.now) rest.now) }

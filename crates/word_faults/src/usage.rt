@@ -8,7 +8,7 @@ use crate::known_words::KnownWords;
 use crate::word_fault::{Reason, WordFault};
 use std::alloc::{AllocError, Global};
 
-// The word at a place.
+// Returns the word at a place.
 fn word_at<'a>(words: &[&'a str], place: usize) -> &'a str
     ensures { result.now ≡ spec.word_at (map (λ s. s.now) words.now) place }
 {
@@ -18,7 +18,7 @@ fn word_at<'a>(words: &[&'a str], place: usize) -> &'a str
     }
 }
 
-// A word, and what is said of it.
+// Appends a word and the text after it.
 fn write_pair(text: &mut String, word: &str, said: &str) -> Result<(), AllocError>
     ensures { OnOk result (string_bytes text.new ≡ string_bytes text.old ++ (word.now ++ said.now)) }
 {
@@ -26,7 +26,7 @@ fn write_pair(text: &mut String, word: &str, said: &str) -> Result<(), AllocErro
     text.push_str(said)
 }
 
-// The line of a reason.
+// Appends the line of a reason.
 #[tactic(auto, unfolding(crate::specs::UsageReport::reason_line))]
 fn write_reason(
     text: &mut String,
@@ -58,7 +58,7 @@ fn write_reason(
     }
 }
 
-// The line of a fault.
+// Appends the line of a fault.
 #[tactic(auto, unfolding(crate::specs::UsageReport::fault_line))]
 fn write_fault(
     text: &mut String,
@@ -81,14 +81,14 @@ fn write_fault(
     write_reason(text, reason, word, next, required, known.apart(option))
 }
 
-// Whether a word may be the name of a file after `--`.
+// Returns whether a word may be the name of a file after `--`.
 fn names_files(known: KnownWords, word: &str) -> bool
     ensures { result ≡ spec.names_files (known_of known) word.now }
 {
     known.is_word("--") && !is_dashed(word)
 }
 
-// What to type instead of a word that cannot be taken.
+// Appends what to type instead of a word that cannot be taken.
 #[tactic(auto, unfolding(crate::specs::UsageReport::hint_by))]
 fn write_hint_by(
     alloc: Global,
@@ -109,7 +109,7 @@ fn write_hint_by(
     }
 }
 
-// What to type instead, of the first word that cannot be taken.
+// Appends what to type instead of the first word that cannot be taken.
 #[tactic(auto, unfolding(crate::specs::UsageReport::hint_line))]
 fn write_hint(
     alloc: Global,

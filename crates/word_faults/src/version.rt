@@ -17,7 +17,7 @@ pub fn is_version(words: &[&str]) -> bool
     }
 }
 
-// The program, its version, and the kit that proved it.
+// Returns the program, its version, and the kit that proved it.
 fn version_text(alloc: Global, program: &str) -> Result<String, AllocError>
     ensures { IfOk result (λ s. string_bytes s ≡ spec.version_text program.now) }
 {

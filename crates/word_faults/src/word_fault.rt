@@ -9,13 +9,13 @@ pub enum Reason {
     Twice,
     /// No value follows the option.
     NoValue,
-    /// The option does not take the value that stands with it (`--NAME=VALUE`), or takes none.
+    /// The option does not take the value after its `=` (`--NAME=VALUE`), or takes no value.
     BadValue,
     /// The option does not take the value that follows it.
     BadNextWord,
-    /// Nothing may stand beside the word.
+    /// The word allows no other word.
     Alone,
-    /// An option stands before it that may not stand beside it.
+    /// It excludes an option that is given before it.
     Apart,
     /// The option that has to be given is not given.
     Missing,
@@ -26,7 +26,7 @@ pub enum Reason {
 /// A word that cannot be taken.
 #[derive(Clone, Copy)]
 pub struct WordFault {
-    /// Its place among the words, from 0; their number where a word is missing.
+    /// Its place among the words, from 0; the number of words if a word is missing.
     pub place: usize,
     pub reason: Reason,
 }

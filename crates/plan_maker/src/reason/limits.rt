@@ -9,7 +9,7 @@ use crate::reason::Reason;
 use clock27::SLOT_MS_AT_1BPS;
 use slot_plan::{Description, ProgramDescription};
 
-/// Returns the least limit in ms within which `slots` slots come.
+/// Returns the least limit in ms that has time for `slots` slots.
 fn least_limit(description: &Description, slots: u64) -> u64
     requires { slots < 100000 }
     ensures { result ≡ least_limit description.now slots }

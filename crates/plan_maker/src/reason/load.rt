@@ -26,7 +26,7 @@ fn stream_load(stream: &StreamDescription, rate: u64) -> u128
     u128::from(PARTS) * steady_packets(stream) as u128 / time
 }
 
-/// Returns the same of what comes in rounds of packets, each round within a limit in ms.
+/// Returns the least share of slots of rounds of `packets` packets, each round within `limit` ms.
 fn recurring_load(limit: u64, packets: u64, rate: u64) -> u128
     requires limit { limit ≤ 30000 }
     requires packets { packets ≤ 20000 }
@@ -38,7 +38,7 @@ fn recurring_load(limit: u64, packets: u64, rate: u64) -> u128
     u128::from(PARTS) * packets as u128 / gap.max(1)
 }
 
-/// Those of all streams.
+/// Returns the share of all streams.
 fn streams_load(description: &Description, rate: u64) -> u128
     requires positive { 0 < rate }
     requires high { rate ≤ 100000000 }
@@ -52,7 +52,7 @@ fn streams_load(description: &Description, rate: u64) -> u128
     total
 }
 
-/// Those of the PCRs of all programs.
+/// Returns the share of the PCRs of all programs.
 fn pcrs_load(description: &Description, rate: u64) -> u128
     requires high { rate ≤ 100000000 }
     ensures load { result ≡ pcrs_load description.now rate }
@@ -65,7 +65,7 @@ fn pcrs_load(description: &Description, rate: u64) -> u128
     total
 }
 
-/// Those of all tables.
+/// Returns the share of all tables.
 fn tables_load(description: &Description, rate: u64) -> u128
     requires high { rate ≤ 100000000 }
     ensures load { result ≡ tables_load description.now rate }

@@ -18,7 +18,7 @@ pub enum Need<'a> {
 }
 
 impl Need<'_> {
-    /// Returns the least own slots of a period; None where none are enough.
+    /// Returns the least own slots of a period; None if none are enough.
     pub fn count(&self, period: u64) -> Option<u64>
         ensures { result ≡ spec.need_count (need_view self.now) period }
     {
@@ -28,7 +28,7 @@ impl Need<'_> {
         }
     }
 
-    /// Returns the most that the own slots may stray from even spacing, in slots times own slots; None where they are
+    /// Returns the most that the own slots may stray from even spacing, in slots times own slots; None if they are
     /// too few.
     pub fn width(&self, period: u64, count: u64) -> Option<u64>
         ensures { result ≡ spec.need_width (need_view self.now) period count }
@@ -50,7 +50,7 @@ impl Need<'_> {
     }
 }
 
-/// Returns whether own slots that stray so much at most have less than a slot each to stray in.
+/// Returns whether own slots that stray by at most this have less than a slot each to stray in.
 fn leaves_no_slot(count: u64, width: Option<u128>) -> bool
     ensures { result ≡ spec.leaves_no_slot count width }
 {
@@ -104,7 +104,7 @@ fn is_any_over(demands: &[Demand<'_>], period: u64) -> bool
     demands.iter().any(|demand| period < demand.count)
 }
 
-/// Returns the demand of an item; where no own slots are enough, one slot more than the period has.
+/// Returns the demand of an item; if no own slots are enough, one slot more than the period has.
 fn demand_of<'a>(slot: Slot, need: Need<'a>, number: usize, kind: usize, period: u64) -> Demand<'a>
     requires { period ≤ 65536 }
     ensures { demand_view result ≡ spec.demand_of slot (need_view need.entry) number kind period }
@@ -118,7 +118,7 @@ fn demand_of<'a>(slot: Slot, need: Need<'a>, number: usize, kind: usize, period:
     }
 }
 
-/// Returns the number of own slots, at most one more than the period has; so many where none are enough.
+/// Returns the number of own slots, at most one more than the period has (that value if no number is enough).
 fn count_within(period: u64, count: Option<u64>) -> u64
     requires { period ≤ 65536 }
     ensures { result ≡ spec.count_within period count }
@@ -147,7 +147,7 @@ fn push_streams<'a, A: Allocator>(
     Ok(())
 }
 
-/// Appends those of the programs' PCRs.
+/// Appends the demands of the programs' PCRs.
 fn push_pcrs<'a, A: Allocator>(
     demands: &mut Vec<Demand<'a>, A>,
     description: &'a Description,
@@ -165,7 +165,7 @@ fn push_pcrs<'a, A: Allocator>(
     Ok(())
 }
 
-/// Appends those of the tables.
+/// Appends the demands of the tables.
 fn push_tables<'a, A: Allocator>(
     demands: &mut Vec<Demand<'a>, A>,
     description: &'a Description,

@@ -5,7 +5,7 @@ ghost use Rattle.std.specs.Prelude.{◌≡◌, max, min};
 ghost use Rattle.plan_maker.specs.Bounded as spec;
 ghost use Rattle.plan_maker.specs.Joined as joined;
 
-/// Returns the product of the factors; the greatest number where it would be more.
+/// Returns the product of the factors; the greatest number if it would be more.
 pub fn product(factors: &[u128]) -> u128
     ensures { result ≡ spec.product factors.now }
 {
@@ -16,14 +16,14 @@ pub fn product(factors: &[u128]) -> u128
     product
 }
 
-/// Returns the sum; the greatest number where it would be more.
+/// Returns the sum; the greatest number if it would be more.
 pub fn plus(a: u128, b: u128) -> u128
     ensures { result ≡ spec.plus a b }
 {
     a.saturating_add(b)
 }
 
-/// Returns the difference; None where it would be less than 0.
+/// Returns the difference; None if it would be less than 0.
 pub fn less(a: u128, b: u128) -> Option<u128>
     ensures { result ≡ spec.less a b }
 {
@@ -51,7 +51,7 @@ pub fn narrowed(number: u128) -> u64
     }
 }
 
-/// Returns the number, narrowed, where there is one.
+/// Returns the number, narrowed, if there is one.
 pub fn all_narrowed(number: Option<u128>) -> Option<u64>
     ensures { result ≡ spec.all_narrowed number }
 {
@@ -75,7 +75,7 @@ pub fn least(a: u128, b: u128) -> u128
     if a < b { a } else { b }
 }
 
-/// Returns the greater of two numbers; None where one of them is missing.
+/// Returns the greater of two numbers; None if either is missing.
 pub fn greater(a: Option<u128>, b: Option<u128>) -> Option<u128>
     ensures { result ≡ joined.greater a b }
 {
@@ -85,7 +85,7 @@ pub fn greater(a: Option<u128>, b: Option<u128>) -> Option<u128>
     }
 }
 
-/// Returns the lesser of two numbers; None where one of them is missing.
+/// Returns the lesser of two numbers; None if either is missing.
 pub fn lesser(a: Option<u128>, b: Option<u128>) -> Option<u128>
     ensures { result ≡ joined.lesser a b }
 {

@@ -23,7 +23,7 @@ pub struct PlacementTask {
 }
 
 impl PlacementTask {
-    /// Returns the task of a demand in a period; None where a window might hold no slot.
+    /// Returns the task of a demand in a period; None if a window might hold no slot.
     pub fn new(demand: &Demand<'_>, period: u64) -> Option<PlacementTask>
         requires { period ≤ 65536 }
         ensures { result ≡ spec.task_of (demand_view demand.now) period }
@@ -64,7 +64,7 @@ impl PlacementTask {
     }
 }
 
-/// Returns where own slot number `k` would come if it were evenly spaced, in slots times own slots.
+/// Returns where own slot number `k` would be if it were evenly spaced, in slots times own slots.
 fn even_place(period: u64, phase: u64, k: u64) -> u64
     ensures { result ≡ spec.even_place period phase k }
 {
@@ -148,15 +148,15 @@ fn most_urgent(tasks: &[PlacementTask], at: u64) -> Option<usize>
     urgent
 }
 
-/// Returns number `i` where its window ends before the earliest of those before, otherwise the one of these.
+/// Returns `i` if its window ends before `least`, otherwise `urgent`.
 fn earlier(urgent: Option<usize>, least: u64, i: usize, due: u64) -> Option<usize>
     ensures { result ≡ (if nat_lt due least then Some i else urgent) }
 {
     if due < least { Some(i) } else { urgent }
 }
 
-/// Returns what one slot carries: that of the most urgent task, or null. An error is the task whose window ended
-/// before.
+/// Returns the content of one slot: the slot of the most urgent task, or null. An error is the task whose window
+/// ended before.
 fn next_slot(tasks: &mut [PlacementTask], at: u64, period: u64) -> Result<Slot, usize>
     ensures { outcome result tasks.new ≡ spec.next_slot period at tasks.old }
 {

@@ -24,7 +24,7 @@ impl Recurrence {
         }
     }
 
-    /// Returns the least own slots of a period; None where the packets don't fit into the gap.
+    /// Returns the least own slots of a period; None if the packets don't fit into the gap.
     pub fn count(self, period: u64) -> Option<u64>
         ensures { result ≡ spec.recurrence_count self period }
     {
@@ -34,7 +34,7 @@ impl Recurrence {
         all_narrowed(rounded_up(product(&[self.packets, period as u128]), self.gap))
     }
 
-    /// Returns the most that the own slots may stray from even spacing, in slots times own slots; None where they are
+    /// Returns the most that the own slots may stray from even spacing, in slots times own slots; None if they are
     /// too few.
     pub fn width(self, period: u64, count: u64) -> Option<u64>
         ensures { result ≡ spec.recurrence_width self period count }

@@ -16,7 +16,7 @@ use slot_plan::StreamDescription;
 use unit_timing::buffers::TB_SIZE;
 use unit_timing::framing::Framing;
 
-/// The slots by which the search lets a packet be late: the one that the deadline's condition adds, and two more.
+/// The slots by which the search lets a packet be late: the slot that the deadline's condition adds, and two more.
 const JITTER: u128 = 3;
 
 /// The data bytes of a packet.
@@ -49,7 +49,7 @@ impl<'a> StreamRate<'a> {
 }
 
 impl StreamRate<'_> {
-    /// Returns the drain in bits/s of the last buffer before that in which units wait for their decoding: the transport
+    /// Returns the drain in bits/s of the buffer before the buffer where units wait for their decoding: the transport
     /// buffer, or the multiplexing buffer with its slower leak.
     fn drain(&self) -> u64
         ensures { result ≡ spec.drain_of (stream_view self.now) }
@@ -60,7 +60,7 @@ impl StreamRate<'_> {
         }
     }
 
-    /// Returns the most bytes before the buffer in which units wait, after a packet.
+    /// Returns the most bytes before the buffer where units wait, after a packet.
     fn held(&self) -> u128
         ensures { result ≡ spec.most_held self.now.stream.now.multiplexing }
     {
@@ -90,7 +90,7 @@ impl StreamRate<'_> {
         all.saturating_sub(product(&[held, self.rate as u128, BYTE_UNITS_AT_1BPS]))
     }
 
-    /// Returns the least own slots of a period for the packets of the long run; None where the output has no rate.
+    /// Returns the least own slots of a period for the packets of the long run; None if the output has no rate.
     fn steady_count(&self, period: u64) -> Option<u128>
         ensures { result ≡ spec.steady_count (stream_view self.now) period }
     {
@@ -99,8 +99,7 @@ impl StreamRate<'_> {
         rounded_up(needed, given)
     }
 
-    /// Returns the least own slots with which the last of `units` units in a row is in time; None where none are
-    /// enough.
+    /// Returns the least own slots that let the last of `units` units in a row be in time; None if none are enough.
     fn row_count(&self, period: u64, units: u8) -> Option<u128>
         ensures { result ≡ spec.row_count (stream_view self.now) period units }
     {
@@ -113,7 +112,7 @@ impl StreamRate<'_> {
         }
     }
 
-    /// Returns the least own slots for both; None where none are enough.
+    /// Returns the least own slots for both; None if none are enough.
     fn least_count(&self, period: u64) -> Option<u128>
         ensures { result ≡ spec.least_count (stream_view self.now) period }
     {
@@ -124,7 +123,7 @@ impl StreamRate<'_> {
         count
     }
 
-    /// Returns a number of own slots; None where they bring bytes faster than the last buffer is drained.
+    /// Returns a number of own slots; None if they bring bytes faster than the last buffer is drained.
     fn paced(&self, period: u64, count: u128) -> Option<u64>
         ensures { result ≡ spec.paced (stream_view self.now) period count }
     {
@@ -135,7 +134,7 @@ impl StreamRate<'_> {
         Some(narrowed(count))
     }
 
-    /// Returns the least own slots of a period; None where none are enough.
+    /// Returns the least own slots of a period; None if none are enough.
     pub fn count(&self, period: u64) -> Option<u64>
         ensures { result ≡ spec.stream_count (stream_view self.now) period }
     {
@@ -145,7 +144,7 @@ impl StreamRate<'_> {
         }
     }
 
-    /// Returns the most that the own slots may stray from even spacing, in slots times own slots; None where they are
+    /// Returns the most that the own slots may stray from even spacing, in slots times own slots; None if they are
     /// too few.
     pub fn width(&self, period: u64, count: u64) -> Option<u64>
         ensures { result ≡ spec.stream_width (stream_view self.now) period count }
@@ -193,7 +192,7 @@ impl StreamRate<'_> {
         }
     }
 
-    /// Returns the lesser of that number and those of a framing's access units.
+    /// Returns the least of `first` and the numbers of a framing's access units.
     fn frames_width(
         &self,
         period: u64,
@@ -210,8 +209,8 @@ impl StreamRate<'_> {
         width
     }
 
-    /// Returns the same where units that are sent at most `lead` before their decoding times, `waiting` bytes of them at
-    /// once, have so many bytes of room.
+    /// Returns the same for units that are sent at most `lead` before their decoding times, if `waiting` bytes of
+    /// them at once have `room` bytes of room.
     fn room_width(
         &self,
         period: u64,
@@ -235,7 +234,8 @@ impl StreamRate<'_> {
         }
     }
 
-    /// Returns the same when `gone` access units of a unit have been removed; None where the others find no room.
+    /// Returns the same when `gone` access units of a unit have been removed; None if the remaining access
+    /// units find no room.
     fn frame_width(&self, period: u64, count: u64, framing: Framing, gone: u8) -> Option<u128>
         ensures { result ≡ spec.frame_width (stream_view self.now) period count framing gone }
     {

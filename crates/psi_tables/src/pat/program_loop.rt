@@ -30,7 +30,7 @@ impl ProgramLoop {
         }
     }
 
-    /// Adds an entry at the end. `TooLong`, and the loop as it was, where it has 253.
+    /// Adds an entry at the end. Returns `TooLong`, and the loop as it was, if it has 253.
     pub fn push(&mut self, program: Program) -> Result<(), SectionError>
         requires { program.pid < 8192 }
         ensures variant { IsOk result ↔ (length (program_loop_of self.old) < 253) }

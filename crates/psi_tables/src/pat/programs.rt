@@ -28,7 +28,7 @@ impl Program {
         self.bytes()
     }
 
-    // The entry of a PID that is known to have 13 bits, as one that was read.
+    // Returns the entry of a PID that is known to have 13 bits, as after reading.
     #[tactic(auto, unfolding(crate::specs::ProgramAssociation::program_bytes))]
     pub(super) fn bytes(self) -> [u8; 4]
         ensures { result ≡ program_bytes self }

@@ -30,7 +30,7 @@ impl<'a> Streams<'a> {
     ghost use Rattle.bit_fields.specs.Reading.{Gives};
     ghost use Rattle.psi_tables.specs.ProgramMap.{streams_at, streams_of};
 
-    /// Returns the streams that bytes are; `Body` where an ES_info_length passes their end, or they end within an
+    /// Returns the streams that bytes are; `Body` if an ES_info_length passes their end, or they end within an
     /// entry.
     #[tactic(auto, unfolding(crate::specs::ProgramMap::streams_at, crate::specs::ProgramMap::streams_of))]
     pub fn read(bytes: &'a [u8]) -> Result<Streams<'a>, SectionError>
@@ -103,7 +103,7 @@ impl<'a> Stream<'a> {
         self.append_entry(out);
     }
 
-    // Appends an entry whose PID and number of descriptor bytes are known to have room, as those of one that was read.
+    // Appends an entry whose PID and number of descriptor bytes are known to have room, as after reading.
     #[tactic(auto, unfolding(crate::specs::ProgramMap::stream_bytes, crate::specs::ProgramMap::stream_entry, crate::specs::Loops::entry_bytes, crate::specs::ProgramMap::pid_bytes, crate::specs::ProgramMap::info_length_bytes))]
     pub(super) fn append_entry<const N: usize>(&self, out: &mut ArrayVec<u8, N>)
         requires { array_vec_len out.old + 5 + length self.now.descriptors.now ≤ N }

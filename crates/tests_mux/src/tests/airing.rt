@@ -13,7 +13,7 @@ use std::io::BufReader;
 /// Stream, size and DTS of a record of equal bytes, presented at its DTS.
 type Record = (u8, u32, u64);
 
-/// What hearing a record answers.
+/// The answer to a record.
 enum Answer {
     Taken,
     Refused(u8),
@@ -21,8 +21,8 @@ enum Answer {
     Slots,
 }
 
-/// Records, and of each of them the answer and the number of slots that are then written; what the next call answers,
-/// and how many slots the whole run has.
+/// Records, each with its answer and the number of slots that are then written; the answer of the next call, and how
+/// many slots the whole run has.
 struct Run {
     terms: Terms,
     heard: &'static [(Record, Answer, u64)],
@@ -79,7 +79,7 @@ static RUNS: [Run; 6] = [
         ending: Answer::Input,
         slots: 118,
     },
-    // but not where it is waited for
+    // but not if the run waits for it
     Run {
         terms: Terms {
             wait: 9_000,
@@ -187,8 +187,8 @@ fn is_heard<R: HeldInput>(
     if is_wanted { Some(written) } else { None }
 }
 
-/// Returns whether the slots that a record settles are written when it is heard: of an input that holds all records,
-/// where it is taken and none comes after it. What a refused one leaves is written by the next call.
+/// Returns whether the slots that a record settles are written when it is heard: for an input that holds all records,
+/// if it is taken and is the last. The next call writes the slots that a refused record leaves.
 fn is_out(run: &Run, holds: bool, number: usize, answer: &Answer) -> bool {
     let is_last = number.saturating_add(1) == run.heard.len();
     match answer {
@@ -233,7 +233,7 @@ fn records_are_heard(rt: HostRuntime) {
     }
 }
 
-/// Returns a whole run to a writer: the bytes that it reports, where it fails.
+/// Writes a whole run to a writer, and returns the bytes that it reports, if it fails.
 fn aired_to(
     alloc: Global,
     series: &Series,
@@ -333,7 +333,7 @@ fn writers_fail(rt: HostRuntime) {
     }
 }
 
-/// Returns whether a run is begun in a heap of this size beside its plan; None where the answer is neither that nor
+/// Returns whether a run is begun in a heap of this size beside its plan; None if the answer is neither that nor
 /// Memory.
 pub fn is_begun_in(global: Global, room: usize) -> Option<bool> {
     let given = LocalHeap::new(global, 16_384).ok()?;

@@ -15,7 +15,7 @@ pub const RECORD: [u8; 24] = [
 /// A number of calls, or bytes, after which none fails.
 pub const NEVER: u64 = u64::MAX;
 
-/// What `carry` answers, what it writes, and how often the reader and the writer failed.
+/// The answer of `carry`, its output, and how often the reader and the writer failed.
 pub type Carried = (Result<u64, CarryError>, Vec<u8>, u64, u64);
 
 /// Carries the records with a reader that fails after `calls` calls and a writer that fails after `bytes` bytes.
@@ -91,7 +91,7 @@ fn readers_fail(rt: HostRuntime) {
     }
 }
 
-/// Returns whether the record is carried in a heap of this size; None where the answer is neither that nor Memory.
+/// Returns whether the record is carried in a heap of this size; None if the answer is neither that nor Memory.
 pub fn is_carried_in(global: Global, room: usize) -> Option<bool> {
     let heap = LocalHeap::new(global, room).ok()?;
     match carried(global, &heap, &RECORD, true, NEVER, NEVER) {

@@ -76,7 +76,7 @@ fn has_sections(description: &Description) -> bool {
     true
 }
 
-/// Returns what is as it has to be: the values, the tables, the table of events, the sections.
+/// Returns whether the values, the tables, the table of events and the sections are as they have to be.
 fn answers(alloc: Global) -> Option<([bool; 10], [bool; 5], bool, bool)> {
     let description = described(alloc, DESCRIPTION)?;
     description.keeps_ranges();

@@ -12,8 +12,8 @@ use rows::{EMPTY, JOBS};
 use std::alloc::{Allocator, Global};
 use switch_checker::CheckedSwitch;
 
-/// A service, the periods of its first plan where the second follows, what units there are, how many slots are written,
-/// and whether as lines.
+/// A service, the periods of its first plan if the second follows, its units, how many slots are written, and whether
+/// as lines.
 #[derive(Clone, Copy)]
 pub struct Job {
     pub service: Service,
@@ -26,7 +26,7 @@ pub struct Job {
 /// Where the output goes: a writer that may fail.
 type Output = Counted<Failing<Vec<u8>>>;
 
-/// What a job answers, and what is written.
+/// The answer of a job, and its output.
 type Written = (Result<u64, MuxError>, Vec<u8>);
 
 fn by_one<A: Allocator + Copy>(
@@ -157,7 +157,7 @@ fn takes_part(alloc: Global, whole: &[u8], bytes: u64) -> Option<bool> {
     }
 }
 
-// After 0 bytes, 12 bytes and so on, 300 among them.
+// Writers fail after 0 bytes, 12 bytes and so on, also after 300.
 #[test]
 fn writers_fail(rt: HostRuntime) {
     let whole = finished(rt.alloc(), &SINGLE).unwrap_or(Vec::new(rt.alloc()));
@@ -173,13 +173,13 @@ fn is_nothing_written(alloc: Global) -> Option<bool> {
     Some(matches!(answer, Ok(0)))
 }
 
-// A job of no slots asks nothing of its writer.
+// A job of no slots never calls its writer.
 #[test]
 fn no_slots(rt: HostRuntime) {
     assert!(rt; is_nothing_written(rt.alloc()) == Some(true));
 }
 
-/// Returns whether 18 slots are written with a heap of this size beside the plan and the unit; None where the answer is
+/// Returns whether 18 slots are written with a heap of this size beside the plan and the unit; None if the answer is
 /// neither that nor Memory with nothing written.
 pub fn is_written_in(global: Global, job: &Job, room: usize) -> Option<bool> {
     let given = LocalHeap::new(global, 16_384).ok()?;

@@ -57,8 +57,7 @@ fn measured<A: Allocator>(checked: CheckedPlan<A>) -> Made {
     made
 }
 
-/// Returns the plan that is made, or how many streams the description has for which none is found; None where memory is
-/// wanting.
+/// Returns the plan that is made; the number of the description's streams if no plan is found; None if memory runs out.
 fn made<A: Allocator + Clone>(alloc: A, description: Description) -> Option<Result<Made, usize>> {
     match make(alloc, description) {
         Ok(checked) => Some(Ok(measured(checked))),
@@ -74,10 +73,10 @@ fn made<A: Allocator + Clone>(alloc: A, description: Description) -> Option<Resu
     }
 }
 
-/// Services, the least and the most slots, the least used ones and tenths of the slots, and the streams; or the streams
-/// of one without a plan. The least full service has groups; one fills nine tenths of its rate, where evenly spaced
-/// slots find no place; two have as many programs and streams as there can be, one of them so near to its rate that
-/// only the longest period has a slot for each of their packets.
+/// Services, the least and the most slots, the least used slots and tenths of the slots, and the streams; or the
+/// streams of a service without a plan. The least full service has groups; the third fills nine tenths of its rate, so
+/// evenly spaced slots find no place; two have the most programs and streams, the second of them so near to its rate
+/// that only the longest period has a slot for each of their packets.
 static SERVICES: [(Wanted, Result<(usize, usize, usize, usize, usize), usize>); 7] = [
     (Small("rate", "rate"), Ok((256, 256, 0, 0, 1))),
     (
@@ -121,9 +120,8 @@ fn plans_are_made(rt: HostRuntime) {
     assert!(rt; MakeError::NotFound.code() == Some(1));
 }
 
-/// Numbers that no plan can keep, with the least ones that stand in its way no more: of the drain, of the rate, of the
-/// lead, of the main buffer, of the PCRs; of a service whose leads are too short and whose rate is too low; of the
-/// greatest one.
+/// Numbers that no plan can keep, with the least sufficient values: of the drain, of the rate, of the lead, of the main
+/// buffer, of the PCRs; of a service whose leads are too short and whose rate is too low; of the greatest service.
 static REASONS: [(Wanted, &[Reason]); 11] = [
     (Small("rate", "rate"), &[]),
     (

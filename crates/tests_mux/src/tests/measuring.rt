@@ -70,7 +70,7 @@ fn table(slot: u32) -> (&'static [u8], &'static [u8]) {
     }
 }
 
-/// The packet of a slot, of those of the units.
+/// Returns the units' packet in a slot.
 fn packet(packets: &[[u8; 188]], width: Width, slot: u32) -> Option<&[u8; 188]> {
     let width = match width {
         Width::Wide => 24,
@@ -108,7 +108,7 @@ fn push_run(bytes: &mut Vec<u8>, packets: &[[u8; 188]], run: &Run) -> bool {
     true
 }
 
-/// The bytes of the run, before any is written over.
+/// Returns the bytes of the run, before any is written over.
 fn sent(alloc: Global, run: &Run) -> Option<Vec<u8>> {
     let records = records(alloc, &run.sent)?;
     let (_, units, _, _) = carried(alloc, alloc, &records, false, NEVER, NEVER);
@@ -124,7 +124,8 @@ fn sent(alloc: Global, run: &Run) -> Option<Vec<u8>> {
 /// The greatest fullness of the buffers, and the first late unit.
 type Numbers = (Sizes, Option<LateUnit>);
 
-/// Of the transport and the main buffer of a stream, of the transport and the system buffer of a program.
+/// The fullness of the transport and the main buffer of a stream, and of the transport and the system buffer of a
+/// program.
 type Sizes = (u64, u64, u64, u64);
 
 fn numbers<A: Allocator>(found: &Fullness<A>) -> Option<Numbers> {
@@ -142,7 +143,7 @@ fn numbers<A: Allocator>(found: &Fullness<A>) -> Option<Numbers> {
     }
 }
 
-/// Returns what is measured of bytes that carry these units.
+/// Returns the fullness that is measured in bytes that carry these units.
 fn answer<A: Allocator + Clone>(
     global: Global,
     alloc: A,
@@ -237,8 +238,7 @@ const LONG: Series = Series {
     ..ONE
 };
 
-/// Runs, the fullness where it is known, and the first late unit or the refusal. A packet with the error indicator is
-/// left out.
+/// Runs, the fullness if known, and the first late unit or the refusal. A packet with the error indicator is left out.
 static RUNS: [(Run, Option<Sizes>, Result<Option<LateUnit>, MeasureError>); 12] = [
     (SHORT, Some((1, 590, 127, 346)), Ok(None)),
     (
@@ -360,7 +360,7 @@ fn runs_are_measured(rt: HostRuntime) {
     }
 }
 
-/// Returns whether the run of one unit is measured in a heap of this size; None where the answer is neither that nor
+/// Returns whether the run of one unit is measured in a heap of this size; None if the answer is neither that nor
 /// Memory.
 pub fn is_measured_in(global: Global, room: usize) -> Option<bool> {
     let heap = LocalHeap::new(global, room).ok()?;

@@ -23,7 +23,7 @@ enum Call {
     Air,
 }
 
-/// Returns whether the call gives its answer in a heap of this size; None where it gives another.
+/// Returns whether the call gives its answer in a heap of this size; None if it gives another answer.
 fn is_answered(alloc: Global, call: &Call, room: usize) -> Option<bool> {
     match call {
         Call::Carry => is_carried_in(alloc, room),
@@ -41,8 +41,8 @@ fn is_answered(alloc: Global, call: &Call, room: usize) -> Option<bool> {
     }
 }
 
-/// A call, the least room, how much more each heap has, how many heaps there are, and the least and the most in which
-/// the call gives its answer.
+/// A call, the least room, how much more each heap has, how many heaps there are, and the least and the most heaps that
+/// let the call give its answer.
 static ROOMS: [(Call, usize, usize, usize, usize, usize); 15] = [
     (Call::Carry, 131_216, 16, 64, 1, 63),
     (Call::ReadText, 16, 16, 255, 1, 249),
@@ -61,7 +61,7 @@ static ROOMS: [(Call, usize, usize, usize, usize, usize); 15] = [
     (Call::Air, 0, 8_192, 32, 1, 31),
 ];
 
-/// In how many of these heaps the call gives its answer; None where another is given.
+/// Returns in how many of these heaps the call gives its answer; None if it gives another answer.
 fn answers(alloc: Global, call: &Call, least: usize, more: usize, heaps: usize) -> Option<usize> {
     let mut answers = 0usize;
     let mut room = least;

@@ -25,8 +25,8 @@ fn shape_of(plan: &Plan, bytes: usize) -> Shape {
     (bytes, plan.slots().len(), streams.len(), programs.len())
 }
 
-/// Returns what the text gives, or the line that is refused; None when out of memory, or where the plan has
-/// another text.
+/// Returns the numbers of the text, or the line that is refused; None when out of memory, or if the plan has another
+/// text.
 fn reading(alloc: Global, text: &[u8]) -> Option<Result<Shape, u32>> {
     match Plan::read_text(alloc, text) {
         Ok((plan, bytes)) => {
@@ -114,7 +114,7 @@ fn small_plan(rt: HostRuntime) {
     laws::own_slots();
 }
 
-/// Entries of this number.
+/// Returns a certificate whose entries have this number.
 fn certificate(alloc: Global, streams: usize, programs: usize, number: u64) -> Option<Certificate> {
     let stream = StreamEntry {
         spread: 0,
@@ -213,7 +213,7 @@ fn owners(rt: HostRuntime) {
     }
 }
 
-/// Returns whether the small plan is read in a heap of this size; None where the answer is neither that nor Memory.
+/// Returns whether the small plan is read in a heap of this size; None if the answer is neither that nor Memory.
 pub fn is_read_in(global: Global, room: usize) -> Option<bool> {
     let heap = LocalHeap::new(global, room).ok()?;
     match Plan::read_text(&heap, PLAN.as_bytes()) {
@@ -230,7 +230,7 @@ pub fn is_read_in(global: Global, room: usize) -> Option<bool> {
     }
 }
 
-/// Returns whether its text is written in a heap of this size; None where it is another text.
+/// Returns whether its text is written in a heap of this size; None if it is another text.
 pub fn is_written_in(global: Global, room: usize) -> Option<bool> {
     let heap = LocalHeap::new(global, room).ok()?;
     let plan = planned(global, PLAN)?;

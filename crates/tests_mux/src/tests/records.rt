@@ -25,7 +25,7 @@ fn number_at(bytes: &[u8], from: usize, to: usize) -> u64 {
     value
 }
 
-/// Returns what is at the front: nothing, a whole record, or the fault.
+/// Returns the record at the front: none, a whole record, or the fault.
 fn rule(bytes: &[u8]) -> Result<Option<Parts<'_>>, UnitFileError> {
     let Some(stream) = bytes.first() else {
         return Ok(None);
@@ -106,7 +106,7 @@ fn is_as_wanted(
     }
 }
 
-/// Returns whether two records are read by the rule, one after the other.
+/// Returns whether two records in a row are read by the rule.
 fn are_read(alloc: Global, bytes: &[u8]) -> bool {
     let mut input = Counted::new(bytes);
     let mut rest = bytes;
@@ -123,7 +123,7 @@ fn are_read(alloc: Global, bytes: &[u8]) -> bool {
     true
 }
 
-/// Returns whether a size over the greatest is named as ever where there is hardly any memory.
+/// Returns whether a size over the greatest is named as usual with hardly any memory.
 fn names_the_size(alloc: Global, bytes: &[u8]) -> bool {
     if !matches!(rule(bytes), Err(UnitFileError::Size)) {
         return true;

@@ -142,7 +142,7 @@ fn are_done(mux: &mut Mux, alloc: Global, steps: &[Step], out: &mut Vec<u8>) -> 
     true
 }
 
-/// Returns the packets of the script, where each step is answered as it says.
+/// Returns the packets of the script, if each step is answered as it says.
 fn packets(alloc: Global, script: &Script) -> Option<Vec<u8>> {
     let (service, periods, capacity, steps) = script;
     let mut mux = made(alloc, alloc, alloc, service, *periods, *capacity)?.ok()?;
@@ -231,7 +231,7 @@ fn are_alike(alloc: Global, one: &Script, other: &Script) -> Option<bool> {
     Some(packets_of_one.as_slice() == packets_of_other.as_slice())
 }
 
-// A unit that is fed early or late is sent alike; a switch begins with the first plan alone.
+// The packets of a unit do not depend on when it is fed; a switch begins with the first plan alone.
 #[test]
 fn alike(rt: HostRuntime) {
     for (one, other, same) in &PAIRS {
@@ -256,7 +256,7 @@ pub fn is_begun_in(global: Global, periods: Option<u64>, room: usize) -> Option<
     }
 }
 
-/// Returns whether 42 slots are done; where they are not, nothing is, and all events come back.
+/// Returns whether 42 slots are done; if not, no slot is, and all events are returned.
 fn are_driven<A: Allocator + Copy>(mux: &mut Mux<A>, given: A, alloc: A) -> Option<bool> {
     let mut events = Vec::new(given);
     if !push_slots(&mut events, 42) {

@@ -103,7 +103,7 @@ impl Series {
         unit(alloc, size, dts, dts, self.byte(number))
     }
 
-    // All its units.
+    // Appends all its units.
     fn append_to<A: Allocator + Copy>(
         &self,
         alloc: A,

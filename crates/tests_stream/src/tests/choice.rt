@@ -9,8 +9,8 @@ use stream_choice::{
 use unit_timing::allowance::Allowance;
 use unit_timing::multiplexing_buffer::MultiplexingBuffer;
 
-// What is known of a stream (interval, size, rx, main), its most packets, their least share, the wait and the greatest
-// lead; and the share, the lead and the group that are chosen.
+// A stream's interval, size, rx and main, its most packets, their least share, the wait and the greatest lead; then the
+// share, the lead and the group that should be chosen.
 type Row = (
     [u32; 4],
     &'static [u32],
@@ -136,7 +136,7 @@ static ROWS: [Row; 14] = [
     ),
 ];
 
-// The group of a choice, none by pace.
+// Returns the group of a choice, none by pace.
 fn group_of(choice: &Choice) -> u8 {
     match choice.allowance {
         Allowance::Groups { units, .. } => units,
@@ -187,8 +187,8 @@ impl PacedUnits for Burst {
     }
 }
 
-// What is known of a stream, its burst, the delay and the greatest lead; and the share, the lead and the pace that are
-// chosen. The first is video of main level, the second a page of subtitles a second.
+// A stream's interval, size, rx and main, its burst, the delay and the greatest lead; then the share, the lead and the
+// pace that should be chosen. The first row is video of main level, the second a page of subtitles a second.
 type PaceRow = ([u32; 4], u64, u32, u32, Option<(u64, u32, u32)>);
 
 static PACES: [PaceRow; 5] = [
@@ -223,7 +223,7 @@ static PACES: [PaceRow; 5] = [
     ),
 ];
 
-// The pace of a choice, none by groups.
+// Returns the pace of a choice, none by groups.
 fn pace_of(choice: &Choice) -> u32 {
     match choice.allowance {
         Allowance::Groups { .. } => 0,

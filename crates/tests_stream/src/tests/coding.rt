@@ -40,9 +40,8 @@ const NO_HRD: &[u8] = &[
     0, 3, 0, 0x32, 0x0f, 0x16, 0x2d, 0x96,
 ];
 
-// Worked by hand: high profile, level 3, with three scaling lists, one that ends at its first number, one of 16
-// numbers and one
-// that ends at its second, and a buffer of 1,000,000 bits.
+// Worked by hand: high profile, level 3, a buffer of 1,000,000 bits, and three scaling lists: the first ends at its
+// first number, the second has 16 numbers, the third ends at its second number.
 const SCALED: &[u8] = &[
     0, 0, 1, 0x67, 0x64, 0, 0x1e, 0xad, 0x84, 0x42, 0x10, 8, 0x7f, 0xfc, 0x14, 0xc0, 0x78, 0, 0x40,
     0x1b, 0x20, 0x28, 0x27, 0x41, 0x90, 0, 0x3e, 0x80, 0, 0x1e, 0x84, 0x88,
@@ -66,7 +65,7 @@ const CUT: &[u8] = &[
     0, 0, 0, 1, 0x42, 1, 1, 1, 0x60, 0, 0, 3, 0, 0x90, 0, 0, 3, 0, 0, 3,
 ];
 
-// The same of the high tier.
+// The same parameter set at the high tier.
 const HIGH_TIER: &[u8] = &[
     0, 0, 0, 1, 0x42, 1, 1, 0x21, 0x60, 0, 0, 3, 0, 0x90, 0, 0, 3, 0, 0, 3, 0, 0x78, 0xa0,
 ];

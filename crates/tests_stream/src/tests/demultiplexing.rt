@@ -6,7 +6,8 @@ mod rows;
 mod streams;
 
 use super::packets::{Packet, packet_of, stream_of};
-use demux::{Demux, DemuxError, Finding, Part, What, whole};
+use demux::{Demux, DemuxError, whole};
+use pid_findings::{Finding, Part, What};
 use rows::{Row, are_rows};
 use std::alloc::{Allocator, Global};
 use streams::{DUPLICATE, FIRST, LONG, PAT, PES, PES_AT_0, SECOND, STREAMS, Stream, bytes_of};
@@ -21,7 +22,7 @@ fn finish<A: Allocator + Copy>(demux: &mut Demux<A>) -> bool {
     demux.finish().is_ok()
 }
 
-// Takes a packet, where no part of one waits for the rest. None where one does.
+// Takes a packet, unless part of a packet waits for its rest: then `None`.
 fn take<'a, A: Allocator + Copy>(
     demux: &mut Demux<A>,
     packet: &'a [u8; 188],
@@ -44,7 +45,7 @@ fn push_pieces(demux: &mut Demux, bytes: &[u8], size: usize) -> bool {
     finish(demux)
 }
 
-// Whether that is found in pieces of this size.
+// Returns whether that is found in pieces of this size.
 fn is_found_in(alloc: Global, bytes: &[u8], size: usize, rows: &[Row]) -> bool {
     let mut demux = Demux::new(alloc);
     let is_found = push_pieces(&mut demux, bytes, size) && are_rows(demux.findings(), rows);
@@ -59,7 +60,7 @@ fn is_found_whole(alloc: Global, bytes: &[u8], rows: &[Row]) -> bool {
     }
 }
 
-// Takes the packets of a stream one by one, and pushes what is left of it.
+// Takes the packets of a stream one by one, and pushes the bytes after the last whole packet.
 fn take_each<'a>(demux: &mut Demux, bytes: &'a [u8], found: &mut Vec<Finding<'a>>) -> bool {
     let (packets, rest) = bytes.as_chunks::<188>();
     for packet in packets {
@@ -70,7 +71,7 @@ fn take_each<'a>(demux: &mut Demux, bytes: &'a [u8], found: &mut Vec<Finding<'a>
     push_pieces(demux, rest, 188)
 }
 
-// Whether that is found packet by packet: what the end of the stream decides comes last.
+// Returns whether that is found packet by packet: what the end of the stream decides comes last.
 fn is_found_by_packet(alloc: Global, bytes: &[u8], rows: &[Row]) -> bool {
     let mut demux = Demux::new(alloc);
     let mut found = Vec::new(alloc);
@@ -102,7 +103,7 @@ fn streams_in_any_pieces(rt: HostRuntime) {
     }
 }
 
-// Whether a finding is the PES packet, or the section, a slice of its packet or joined from two.
+// Returns whether a finding is the PES packet, or the section, a slice of its packet or joined from two.
 fn is_part(finding: &Finding<'_>, slice: bool, wanted: &[u8]) -> bool {
     match &finding.what {
         What::Pes {
@@ -119,7 +120,7 @@ const SECTION: [u8; 16] = [
     0x00, 0xB0, 0x0D, 0x00, 0x01, 0xC1, 0x00, 0x00, 0x00, 0x01, 0xF0, 0x00, 0x2A, 0xB1, 0x04, 0xB2,
 ];
 
-// Packets in which one thing is found, whether it is a slice of its packet, and its bytes.
+// Packets with one finding each, whether the finding is a slice of its packet, and its bytes.
 static PARTS: [(&[Packet], bool, &[u8]); 3] = [
     (&[PES], true, &[0x41, 0x42, 0x43]),
     (&[PAT], true, &SECTION),
@@ -160,7 +161,8 @@ fn push_parts(demux: &mut Demux, packet: &[u8; 188]) -> bool {
     first.is_ok() && second.is_ok() && !between && demux.aligned()
 }
 
-// Takes a packet, and pushes it in two parts: what is taken goes to `found` alone. After the end nothing is taken.
+// Takes a packet, and pushes it in two parts: the taken packet's findings go to `found` alone. Refuses packets after
+// the end.
 fn take_and_push(alloc: Global, demux: &mut Demux, packet: &[u8; 188]) -> bool {
     let mut found = Vec::new(alloc);
     let taken = take(demux, packet, &mut found) == Some(Ok(())) && demux.findings().is_empty();
@@ -169,7 +171,7 @@ fn take_and_push(alloc: Global, demux: &mut Demux, packet: &[u8; 188]) -> bool {
     taken && pushed && ended && are_rows(&found, &[PES_AT_0])
 }
 
-// What is forgotten is gone.
+// Findings that are forgotten are gone.
 fn forget(demux: &mut Demux) -> bool {
     let is_found = are_rows(demux.findings(), &[DUPLICATE]);
     demux.forget_findings();
@@ -185,7 +187,7 @@ fn packets_taken_and_pushed(rt: HostRuntime) {
     assert!(rt; taken && forgotten);
 }
 
-// How many findings there are once the stream has ended, and more is refused.
+// Returns how many findings there are once the stream has ended, and more is refused.
 fn end(demux: &mut Demux) -> usize {
     if finish(demux) && push(demux, &[0x47]) == Err(DemuxError::Ended) {
         demux.findings().len()
@@ -194,7 +196,7 @@ fn end(demux: &mut Demux) -> usize {
     }
 }
 
-// A stream may be ended twice, of which the second end finds nothing.
+// A stream may be ended twice; the second end finds nothing.
 #[test]
 fn an_end(rt: HostRuntime) {
     let mut demux = Demux::new(rt.alloc());

@@ -8,7 +8,7 @@ static LOOP: [u8; 18] = [
     0x0a, 4, 0x65, 0x6e, 0x67, 0, 9, 4, 0, 1, 0xe1, 0, 0x6a, 0, 0x48, 3, 1, 2,
 ];
 
-// Whether the next descriptor has this tag and body.
+// Returns whether the next descriptor has this tag and body.
 fn comes(left: &mut Descriptors<'_>, tag: u8, body: &[u8]) -> bool {
     match left.next() {
         Some(found) => {

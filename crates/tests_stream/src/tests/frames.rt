@@ -10,7 +10,7 @@ const LAYER_THREE: &[u8] = &[
     0x14, 0xc0, 0, 0, 0, 0, 0, 0, 0, 0, 0, 0, 0, 0, 0, 0, 0, 0, 0, 0, 0, 0,
 ];
 
-// Frames of ADTS of 7 bytes, 24 kHz; one of 44.1 kHz.
+// Two frames of ADTS of 7 bytes, 24 kHz; a frame of 44.1 kHz.
 const ADTS: &[u8] = &[
     0xff, 0xf1, 0x58, 0x40, 0, 0xff, 0xfc, 0xff, 0xf1, 0x58, 0x40, 0, 0xff, 0xfc,
 ];

@@ -1,6 +1,6 @@
 //! Events and the time of service information, in sections made by hand.
 
-use demux::{Finding, Kind, Part, What};
+use pid_findings::{Finding, Kind, Part, What};
 use psi_tables::SectionError;
 use service_information::{
     FoundEvent, InformationWarning, civil_text, information_warnings, stream_events, stream_time,
@@ -43,7 +43,7 @@ static SECTIONS: [(u16, &[u8]); 5] = [
     (0x12, &OVERLAPPING),
 ];
 
-// A finding a packet: these sections, and one on the PID of the SDT that can't be read.
+// Returns a finding a packet: these sections, and one on the PID of the SDT that can't be read.
 fn found(alloc: Global) -> Result<Vec<Finding<'static>>, AllocError> {
     let mut findings = Vec::new(alloc);
     for (at, (pid, bytes)) in SECTIONS.iter().enumerate() {
@@ -70,7 +70,7 @@ fn is_event(event: &FoundEvent<'_>, id: u16, start: u32, duration: u32, name: &[
         && event.text == b"Today".as_slice()
 }
 
-// In the order of their starts, without the one that overlaps; none of another program.
+// Events in the order of their starts, without the event that overlaps; no event of another program.
 fn are_events(alloc: Global, findings: &[Finding<'_>]) -> bool {
     match (
         stream_events(alloc, &[2, 1], findings),

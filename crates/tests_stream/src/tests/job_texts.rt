@@ -182,7 +182,7 @@ fn write_all<A: Allocator + Clone>(text: &mut String<A>) -> Result<(), AllocErro
     write_streams(text)
 }
 
-// Whether the whole description is written so.
+// Returns whether the whole description is written so.
 fn is_written<A: Allocator + Clone>(alloc: A) -> Result<bool, AllocError> {
     let mut text = String::new(alloc);
     match write_all(&mut text) {
@@ -191,7 +191,7 @@ fn is_written<A: Allocator + Clone>(alloc: A) -> Result<bool, AllocError> {
     }
 }
 
-// In how many of 200 heaps of rising size there is not enough memory. None where another text is written in one.
+// Returns in how many of 200 heaps of rising size memory runs out; `None` if any heap gives another text.
 fn refusals(alloc: Global) -> Option<u32> {
     let mut refused = 0u32;
     for size in 0..200usize {
@@ -223,7 +223,7 @@ sections = [\"fc3000\", \"90b00a0005c1000101\"]
 stream_type = 134
 ";
 
-// Whether a private table of two sections is written so.
+// Returns whether a private table of two sections is written so.
 fn is_table_written(alloc: Global) -> Result<bool, AllocError> {
     let mut sections = Vec::new(alloc);
     sections.push(Vec::from_slice(alloc, &[0xFC, 0x30, 0x00])?)?;

@@ -2,10 +2,10 @@
 
 mod streams;
 
-use demux::Finding;
 use job_inputs::job_input;
 use job_programs::{JobError, JobOptions, JobRefusal};
 use pes_packet::Unit;
+use pid_findings::Finding;
 use std::alloc::Global;
 use stream_jobs::{Job, describe, make_job, units};
 use streams::{audio, copied, input, two_programs, usual};
@@ -13,7 +13,7 @@ use streams::{audio, copied, input, two_programs, usual};
 // Units of 24 ms.
 static UNITS: [(u8, u64, usize); 3] = [(192, 3_600, 100), (192, 5_760, 100), (192, 7_920, 100)];
 
-// base0 is what the clock shows two seconds before the first unit; group and lead are those that stream_choice chooses.
+// base0 is the clock two seconds before the first unit; `stream_choice` chooses group and lead.
 const TEXT: &str = "base0 = 8589758192 # 95,441.757 s
 original_network_id = 65281
 rate = 2000000 # 2,000,000 bits/s
@@ -68,7 +68,7 @@ fn is_job(job: Job) -> bool {
     is_well
 }
 
-// The job of a stream.
+// Returns the job of a stream.
 fn made(alloc: Global, options: &JobOptions<'_>, found: &[Finding<'_>]) -> Result<Job, JobError> {
     match job_input(alloc, options, found.len() as u64, copied(alloc, found)?) {
         Ok(input) => make_job(alloc, options, input),
@@ -76,7 +76,7 @@ fn made(alloc: Global, options: &JobOptions<'_>, found: &[Finding<'_>]) -> Resul
     }
 }
 
-// Its text.
+// Returns whether the description has the expected text.
 fn is_described(alloc: Global, options: &JobOptions<'_>, found: &[Finding<'_>]) -> bool {
     let Some(input) = input(alloc, options, found) else {
         return false;
@@ -89,7 +89,7 @@ fn is_described(alloc: Global, options: &JobOptions<'_>, found: &[Finding<'_>]) 
     }
 }
 
-// Why there is no job; none where it is the one of the text and the units.
+// Returns why there is no job; `None` if the job has the expected text and units.
 fn cause(alloc: Global, options: &JobOptions<'_>, found: &[Finding<'_>]) -> Option<JobError> {
     match made(alloc, options, found) {
         Ok(job) => {
@@ -103,7 +103,7 @@ fn cause(alloc: Global, options: &JobOptions<'_>, found: &[Finding<'_>]) -> Opti
     }
 }
 
-// A start that is no moment.
+// Returns whether a start that is no moment is refused.
 fn starts_now(alloc: Global, found: &[Finding<'_>]) -> bool {
     let mut options = usual();
     options.start = Some("now");
@@ -113,14 +113,14 @@ fn starts_now(alloc: Global, found: &[Finding<'_>]) -> bool {
     }
 }
 
-// A rate at which no plan is found.
+// Returns whether a rate without a plan is refused.
 fn is_too_slow(alloc: Global, found: &[Finding<'_>]) -> bool {
     let mut options = usual();
     options.rate = Some(100_000);
     cause(alloc, &options, found) == Some(JobError::Refused(JobRefusal::Plan(100_000)))
 }
 
-// The units alone need no rate.
+// Returns whether the units alone, which need no rate, are as expected.
 fn are_alone(alloc: Global, found: &[Finding<'_>]) -> Result<bool, JobError> {
     let input = job_input(alloc, &usual(), 5, copied(alloc, found)?)?;
     match units(alloc, input) {
@@ -172,7 +172,7 @@ static CLOCK_ROWS: [ClockRow; 3] = [
     },
 ];
 
-// Whether there are four units, each due at the moment of its stream or 24 ms later.
+// Returns whether there are four units, each due at the moment of its stream or 24 ms later.
 fn are_due(moments: [u64; 2], units: &[(u8, Unit)]) -> bool {
     units.len() == 4
         && units.iter().all(|(stream, unit)| {

@@ -57,7 +57,7 @@ const BAD_PMT: Packet = (
 
 const NIT: Packet = (&[0x47, 0x40, 0x10, 0x10, 0x00, 0x40, 0x70, 0x00], 0xFF, &[]);
 
-// The report of a stream at the slow rate.
+// Returns the report of a stream at the slow rate.
 fn reported<A: Allocator + Copy>(alloc: A, bytes: &[u8]) -> Result<Report<A>, ReportError> {
     match Rate::new(100_000) {
         Ok(rate) => report(alloc, rate, 40, bytes),
@@ -65,7 +65,7 @@ fn reported<A: Allocator + Copy>(alloc: A, bytes: &[u8]) -> Result<Report<A>, Re
     }
 }
 
-// Whether the lines of a report end so.
+// Returns whether the lines of a report end so.
 fn ends_with<A: Allocator>(alloc: Global, report: &Report<A>, lines: &str) -> bool {
     match report.write_text(alloc) {
         Ok(text) => text.as_str().ends_with(lines),
@@ -81,7 +81,7 @@ fn take_each(monitor: &mut Monitor, bytes: &[u8]) -> Result<(), AllocError> {
     Ok(())
 }
 
-// Whether the lines of a stream that is taken packet by packet end so.
+// Returns whether the lines of a stream that is taken packet by packet end so.
 fn is_taken(alloc: Global, bytes: &[u8], lines: &str) -> Option<bool> {
     let rate = Rate::new(100_000).ok()?;
     let mut monitor = Monitor::new(alloc, rate, 40).ok()?;
@@ -119,14 +119,14 @@ fn cut_report(alloc: Global) -> Option<Report> {
     reported(alloc, &bytes).ok()
 }
 
-// What a writer that fails after `room` bytes takes of the lines, and the answer.
+// Returns what a writer that fails after `room` bytes takes of the lines, and the answer.
 fn written(alloc: Global, report: &Report, room: u64) -> (Result<u64, ReportWriteError>, Vec<u8>) {
     let mut output = Counted::new(Failing::after_bytes(Vec::new(alloc), room));
     let answer = report.write(alloc, &mut output);
     (answer, output.into_inner().into_inner())
 }
 
-// Whether a writer that fails after `room` bytes takes just these, and the answer says so.
+// Returns whether a writer that fails after `room` bytes takes just these, and the answer says so.
 fn is_written(alloc: Global, report: &Report, room: u64) -> bool {
     let (answer, output) = written(alloc, report, room);
     let wanted = if room < LINES.len() as u64 {
@@ -168,7 +168,7 @@ fault 5 - packet
 faults 3
 ";
 
-// Whether a heap of this size is too small for the report. None where another report is given.
+// Returns whether a heap of this size is too small for the report. `None` if another report is given.
 fn is_refused(alloc: Global, bytes: &[u8], room: usize) -> Option<bool> {
     let heap = LocalHeap::new(alloc, room).ok()?;
     match reported(&heap, bytes) {
@@ -178,8 +178,8 @@ fn is_refused(alloc: Global, bytes: &[u8], room: usize) -> Option<bool> {
     }
 }
 
-// How many heaps of 64 bytes to 64 KiB, each 64 bytes larger than the one before, are too small; none where the largest
-// is.
+// Returns how many heaps of 64 bytes to 64 KiB, each 64 bytes larger than the heap before, are too small; `None` if the
+// largest is.
 fn refusals(alloc: Global, bytes: &[u8]) -> Option<u32> {
     let mut refused = 0u32;
     let mut last = true;

@@ -6,11 +6,11 @@ use pes_packet::{Marks, Unit};
 use std::alloc::{AllocError, Allocator, Global};
 use std::collections::VecDeque;
 
-// The DTS of the units of each stream; those of the second do not rise.
+// The DTS of the units of each stream; the DTS of the second stream do not rise.
 static STREAMS: [&[u64]; 3] = [&[3_600, 7_200, 7_200], &[3_600, 10_800, 0], &[0, 7_200]];
 
-// Each unit in its place: its stream, its number in the stream and its DTS. Of two of one DTS the first stream's comes
-// first, and a unit waits for those before it in its stream.
+// Each unit in its place: its stream, its number in the stream and its DTS. If two units have one DTS, the first
+// stream's unit is first, and a unit waits for the earlier units of its stream.
 static MERGED: [(u8, u64, u64); 8] = [
     (2, 0, 0),
     (0, 0, 3_600),
@@ -33,7 +33,7 @@ fn unit<A: Allocator>(alloc: A, dts: u64, pts: u64) -> Result<Unit<A>, AllocErro
     })
 }
 
-// The units of a stream, each with its number as PTS.
+// Returns the units of a stream, each with its number as PTS.
 fn units<A: Allocator + Copy>(
     alloc: A,
     stream: &[u64],
@@ -67,7 +67,7 @@ fn are_merged<A: Allocator>(found: &[(u8, Unit<A>)]) -> bool {
     left.is_empty()
 }
 
-// Whether the units of the streams are merged so.
+// Returns whether the units of the streams are merged so.
 fn is_merged<A: Allocator + Copy>(alloc: A) -> Result<bool, AllocError> {
     let streams = streams(alloc)?;
     if streams.len() > 256 {
@@ -79,7 +79,7 @@ fn is_merged<A: Allocator + Copy>(alloc: A) -> Result<bool, AllocError> {
     }
 }
 
-// In how many of 64 heaps of rising size there is not enough memory. None where the units come in another order in one.
+// Returns in how many of 64 heaps of rising size memory runs out; `None` if the units of any heap have another order.
 fn refusals(alloc: Global) -> Option<u32> {
     let mut refused = 0u32;
     for size in 0..64usize {

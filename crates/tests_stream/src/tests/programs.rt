@@ -4,7 +4,7 @@ mod placing;
 mod texts;
 mod vectors;
 
-use demux::{Finding, Kind, Part, What};
+use pid_findings::{Finding, Kind, Part, What};
 use program_tables::{Association, MapPart, association_change, map_changes, named_programs};
 use psi_tables::Program;
 use std::alloc::{AllocError, Global};
@@ -14,7 +14,7 @@ use stream_programs::{
 use ts_services::{last_service, original_network};
 use vectors::{EMPTY_MAP, FIRST_MAP, LAST_MAP, MORE, NEXT_PAT, OTHER_PAT, PAT, PMT, SDT};
 
-// Sections on PIDs, one in each packet.
+// Returns sections on PIDs, one in each packet.
 fn found(
     alloc: Global,
     sections: &[(u16, &'static [u8])],
@@ -31,7 +31,7 @@ fn found(
     Ok(findings)
 }
 
-// The programs that are named, and what is found of them.
+// Returns the named programs and their streams.
 fn programs(alloc: Global, findings: &[Finding<'_>]) -> Option<FoundPrograms> {
     match named_programs(alloc, findings) {
         Ok(Some(association)) => found_programs(alloc, &association.programs, findings).ok(),
@@ -39,7 +39,7 @@ fn programs(alloc: Global, findings: &[Finding<'_>]) -> Option<FoundPrograms> {
     }
 }
 
-// Whether a stream is of program 1, with this stream_type, PID and descriptors.
+// Returns whether a stream is of program 1, with this stream_type, PID and descriptors.
 fn is_stream(stream: &FoundStream, stream_type: u8, pid: u16, descriptors: &[u8]) -> bool {
     stream.program == 1
         && stream.stream_type == stream_type
@@ -47,7 +47,7 @@ fn is_stream(stream: &FoundStream, stream_type: u8, pid: u16, descriptors: &[u8]
         && stream.descriptors.as_slice() == descriptors
 }
 
-// Whether there is that one program, with video and audio.
+// Returns whether there is that one program, with video and audio.
 fn is_of_ffmpeg(programs: &FoundPrograms) -> bool {
     match (programs.programs.as_slice(), programs.streams.as_slice()) {
         ([program], [video, audio]) => {
@@ -62,7 +62,7 @@ fn is_of_ffmpeg(programs: &FoundPrograms) -> bool {
 
 static FFMPEG: [(u16, &[u8]); 4] = [(17, &PMT), (0, &PAT), (0x1000, &PMT), (0, &PAT)];
 
-// The tables of a stream of ffmpeg: one program, video and audio with its language.
+// Returns whether the tables of a stream of ffmpeg are found: one program, video and audio with its language.
 fn are_of_ffmpeg(alloc: Global) -> Option<bool> {
     let findings = found(alloc, &FFMPEG).ok()?;
     let programs = programs(alloc, &findings)?;
@@ -106,7 +106,7 @@ static TABLES: [(u16, &[u8]); 8] = [
     (0x1003, &EMPTY_MAP),
 ];
 
-// What is kept of them: two programs, the second with descriptors, and three streams.
+// Returns whether the expected items are kept: two programs, the second with descriptors, and three streams.
 fn is_kept(programs: &FoundPrograms) -> bool {
     match (programs.programs.as_slice(), programs.streams.as_slice()) {
         ([_, second], [_, _, third]) => {
@@ -118,7 +118,7 @@ fn is_kept(programs: &FoundPrograms) -> bool {
     }
 }
 
-// Programs, and the packet from which on their maps change.
+// Programs, and the packet where their maps first change.
 static CHANGES: [(u16, u16, Option<u64>); 3] = [
     (1, 0x1000, None),
     (2, 0x1001, Some(3)),
@@ -141,7 +141,7 @@ fn are_changes(alloc: Global, findings: &[Finding<'_>]) -> bool {
     true
 }
 
-// The packet in which a table first says something else than the programs that are named.
+// Returns the packet where a table first differs from the named programs.
 fn first_change(alloc: Global, findings: &[Finding<'_>]) -> Option<u64> {
     match named_programs(alloc, findings) {
         Ok(Some(association)) => association_change(&association, findings),
@@ -149,7 +149,7 @@ fn first_change(alloc: Global, findings: &[Finding<'_>]) -> Option<u64> {
     }
 }
 
-// A table of the same version with another PID, and one of another version.
+// A table of the same version with another PID, and a table of another version.
 fn are_other_tables(alloc: Global, findings: &[Finding<'_>]) -> bool {
     first_change(alloc, findings) == Some(2)
         && first_change(alloc, findings.get(4..).unwrap_or(&[])).is_none()
@@ -185,7 +185,7 @@ static NAMED: [Program; 4] = [
     },
 ];
 
-// Whether each program is named once, in the first version of stream 1.
+// Returns whether each program is named once, in the first version of stream 1.
 fn is_named_once(association: &Association) -> bool {
     association.transport_stream_id == 1
         && association.version_number == 0
@@ -224,7 +224,7 @@ fn programs_and_streams(rt: HostRuntime) {
     assert!(rt; are_named_once(alloc) == Some(true) && are_unnamed(alloc) == Some(true));
 }
 
-// Whether there is the service of ffmpeg's stream, and no other.
+// Returns whether there is the service of ffmpeg's stream, and no other.
 fn has_service(findings: &[Finding<'_>]) -> bool {
     match last_service(1, findings) {
         Some(service) => {

@@ -3,16 +3,16 @@
 mod declaration;
 mod moments;
 
-use demux::{Finding, Kind, Part, What};
 use es_moments::{FoundUnit, LentBytes, WireUnit, first_other, written_id};
 use es_units::{
     PidLinks, UnitWarning, UnitWarningCause, carried_units, taken_units, unit_warnings,
 };
 use pes_packet::{Marks, PesFlags, PesHeader, Stamps};
+use pid_findings::{Finding, Kind, Part, What};
 use std::alloc::{AllocError, Global};
 
-// What is found, in short: a PES packet that begins in a packet, a duplicate, counter 7 where 5 was expected, a part
-// cut short.
+// Findings in short: a PES packet that begins in a packet, a duplicate, counter 7 where 5 was expected, a part cut
+// short.
 enum Row {
     Pes(u16, u64, Stamps, &'static [u8]),
     Again(u64),
@@ -20,7 +20,7 @@ enum Row {
     Cut(u64, &'static [u8]),
 }
 
-// A PES packet that begins in a packet, and ends in the next; packet 7 has the random_access_indicator.
+// Returns a PES packet that begins in a packet, and ends in the next; packet 7 has the random_access_indicator.
 fn pes(pid: u16, packet: u64, stamps: Stamps, body: &'static [u8]) -> Finding<'static> {
     let header = PesHeader {
         id: 224,
@@ -48,7 +48,7 @@ fn pes(pid: u16, packet: u64, stamps: Stamps, body: &'static [u8]) -> Finding<'s
     }
 }
 
-// Another finding of PID 256.
+// Returns another finding of PID 256.
 fn other(packet: u64, what: What<'static>) -> Finding<'static> {
     Finding {
         packet,
@@ -77,7 +77,7 @@ const BOTH: Stamps = Stamps::PtsDts {
     dts: 7_200,
 };
 
-// What is found of PIDs 256 and 257 in a stream of 20 packets.
+// The findings of PIDs 256 and 257 in a stream of 20 packets.
 static WORKED: [Row; 11] = [
     Row::Pes(256, 1, Stamps::Pts(3_600), &[1, 2]),
     Row::Pes(257, 2, Stamps::Pts(3_600), &[9]),
@@ -100,7 +100,8 @@ fn worked_findings(alloc: Global) -> Result<Vec<Finding<'static>>, AllocError> {
     Ok(found)
 }
 
-// Whether a unit begins in this packet, which has the random_access_indicator, with these stamps, DTS first, and bytes.
+// Returns whether a unit begins in this packet, which has the random_access_indicator, with these stamps, DTS first,
+// and bytes.
 fn is_unit(unit: &WireUnit, packet: u64, stamps: (u64, u64), bytes: &[u8]) -> bool {
     unit.packet == packet
         && unit.stream_id == 224
@@ -116,8 +117,8 @@ fn are_units(units: &[WireUnit]) -> bool {
     }
 }
 
-// PES packets without a stamp join the one before them, across duplicates and other PIDs; of one before a break a part
-// may be lost, and it is left out.
+// PES packets without a stamp join the PES packet before, across duplicates and other PIDs. If the counter breaks after
+// a unit, a part of it may be lost, and it is left out.
 fn are_carried(alloc: Global, found: &[Finding<'_>]) -> bool {
     let Ok(links) = PidLinks::new(alloc, found) else {
         return false;
@@ -128,7 +129,7 @@ fn are_carried(alloc: Global, found: &[Finding<'_>]) -> bool {
     }
 }
 
-// The same units are moved out of the findings, and then none is left.
+// The same units are moved out of the findings, and no unit is left there.
 fn are_taken(alloc: Global) -> Result<bool, AllocError> {
     let mut found = worked_findings(alloc)?;
     let links = PidLinks::new(alloc, &found)?;
@@ -142,8 +143,7 @@ const COUNTER: UnitWarningCause = UnitWarningCause::Counter {
     found: 7,
 };
 
-// What is in no unit; no damage are the units before what is lost, the PES packet after the break and the end of the
-// stream.
+// Findings in no unit. No damage: the units before a loss, the PES packet after the break, and the end of the stream.
 static LEFT_OUT: [(u64, UnitWarningCause, bool); 6] = [
     (1, UnitWarningCause::PartLost, false),
     (5, COUNTER, true),
@@ -188,7 +188,7 @@ fn are_found(alloc: Global) -> bool {
     }
 }
 
-// A unit of these time stamps and this size, DTS first.
+// Returns a unit of these time stamps and this size, DTS first.
 pub fn wire_unit(alloc: Global, dts: u64, pts: u64, size: usize) -> Result<WireUnit, AllocError> {
     let bytes = vec![in alloc; 0xa5u8; size]?;
     Ok(WireUnit {
@@ -201,7 +201,7 @@ pub fn wire_unit(alloc: Global, dts: u64, pts: u64, size: usize) -> Result<WireU
     })
 }
 
-// Units of these stamps and sizes.
+// Returns units of these stamps and sizes.
 pub fn wire(alloc: Global, stamps: &[(u64, u64, usize)]) -> Option<Vec<WireUnit>> {
     let mut units = Vec::new(alloc);
     for (dts, pts, size) in stamps {
@@ -213,7 +213,7 @@ pub fn wire(alloc: Global, stamps: &[(u64, u64, usize)]) -> Option<Vec<WireUnit>
     Some(units)
 }
 
-// The same units, their bytes where they are.
+// Returns the units, borrowed: their bytes stay in place.
 pub fn lent<'f>(alloc: Global, units: &'f [WireUnit]) -> Option<Vec<FoundUnit<'f>>> {
     let mut found = Vec::new(alloc);
     for unit in units {
@@ -235,7 +235,7 @@ pub fn lent<'f>(alloc: Global, units: &'f [WireUnit]) -> Option<Vec<FoundUnit<'f
     Some(found)
 }
 
-// Three units of stream_id 224, and one of 225.
+// Returns three units of stream_id 224, and a unit of 225.
 fn of_two_ids(alloc: Global) -> Option<Vec<WireUnit>> {
     let mut units = wire(alloc, &[(0, 0, 1), (1, 1, 1), (2, 2, 1), (3, 3, 1)])?;
     if let Some(last) = units.last_mut() {

@@ -176,7 +176,7 @@ static VIDEO: [(Coding, u32, u32, u32, u32); 15] = [
     ),
 ];
 
-// The same with both buffers as one.
+// Streams with both buffers as one.
 static JOINED: [(Coding, u32); 4] = [
     (
         Coding::Mpeg(MpegSequence {

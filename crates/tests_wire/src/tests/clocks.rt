@@ -18,8 +18,8 @@ fn rate_or_code(bits_per_second: u64) -> u64 {
     }
 }
 
-/// The reference of slot 1 is that of byte 198, `00 00 00 2F 7E EC`: its ticks, base and extension; the base of one
-/// that passed 2^33 - 1; stamps of 33 bits.
+/// The clock reference of slot 1 is the reference of byte 198, `00 00 00 2F 7E EC`: its ticks, base and extension; a
+/// base after 2^33 - 1 has passed; stamps of 33 bits.
 const NUMBERS: [u64; 8] = [28_436, 94, 236, 28_436, 28_436, 2, 8_589_934_591, 1_508];
 
 fn numbers(rate: Rate) -> [u64; 8] {

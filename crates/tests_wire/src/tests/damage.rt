@@ -1,5 +1,5 @@
-//! What the readers answer: refusals by hand, and each beginning and each changed byte of worked inputs, beside a plain
-//! reading.
+//! The answers of the readers: refusals by hand, and each beginning and each changed byte of worked inputs, compared
+//! with a plain reading.
 
 mod plain;
 mod readers;
@@ -17,7 +17,7 @@ fn bytes_are_refused(rt: HostRuntime) {
     }
 }
 
-/// Returns the number of a reader's refusal of a section's bytes, 99 where they are none.
+/// Returns the number of a reader's refusal of a section's bytes, 99 if they are no section.
 fn code_of_bytes(reader: u8, bytes: &[u8]) -> u8 {
     match Section::read(bytes) {
         Ok((section, _)) => table_code(reader, &section),
@@ -25,7 +25,7 @@ fn code_of_bytes(reader: u8, bytes: &[u8]) -> u8 {
     }
 }
 
-/// Returns whether each reader refuses the section of another table, and that of the table gives this number.
+/// Returns whether each reader refuses the section of another table, and the table's own reader gives this number.
 fn are_refused(bytes: &[u8], code: u8) -> bool {
     for reader in &READERS {
         let wanted = if bytes.first() == Some(reader) {
@@ -47,7 +47,7 @@ fn tables_are_refused(rt: HostRuntime) {
     }
 }
 
-/// Of two refusals at once a table is answered the first in the order Syntax, Length, Body.
+/// A table with two refusals is answered the first in the order Syntax, Length, Body.
 #[test]
 fn long_tables_are_refused(rt: HostRuntime) {
     for (reader, size, code) in &LONG_TABLES {
@@ -62,7 +62,8 @@ fn is_plain(reader: u8, bytes: &[u8]) -> bool {
     answer(reader, bytes) == plain::answer(reader, bytes)
 }
 
-/// Returns whether bytes with one of them changed to each of four values are.
+/// Returns whether the bytes, with the byte at `at` changed to each of four values, are answered as the plain reading
+/// says.
 fn are_changes_plain(reader: u8, bytes: &mut [u8], at: usize) -> bool {
     for value in [0x00, 0x7f, 0x80, 0xff] {
         if let Some(byte) = bytes.get_mut(at) {
@@ -75,7 +76,8 @@ fn are_changes_plain(reader: u8, bytes: &mut [u8], at: usize) -> bool {
     true
 }
 
-/// Returns whether the bytes before `at` are, and the first `size` bytes with that one changed.
+/// Returns whether the bytes before `at` are answered as the plain reading says, and the first `size` bytes with the
+/// byte at `at` changed.
 fn is_plain_at(reader: u8, bytes: &[u8], size: usize, at: usize) -> bool {
     let mut changed = packet_of(bytes);
     match changed.get_mut(..size) {

@@ -9,9 +9,9 @@ use pes_packet::{
 /// A base shortly before 2^33.
 const BASE: u64 = 8_589_934_500;
 
-/// stream_id, size, marks, PTS and DTS of units, and their headers: a DTS is written where the stamps differ on the
-/// wire. The fourth is that of a PES packet of teletext (EN 300 472, 4.2), the fifth that of an aligned original of
-/// subtitles, the sixth that of a frame of audio description (TS 101 154, annex E).
+/// stream_id, size, marks, PTS and DTS of units, and their headers: a DTS is written if the stamps differ on the wire.
+/// The fourth is the header of a PES packet of teletext (EN 300 472, 4.2), the fifth of an aligned original of
+/// subtitles, the sixth of a frame of audio description (TS 101 154, annex E).
 static WRITTEN: [(u8, usize, Marks, u64, u64, &[u8]); 6] = [
     (192, 3, Marks::NONE, 90_000, 90_000, PTS_HEADER),
     (
@@ -194,8 +194,8 @@ fn headers_are_read(rt: HostRuntime) {
     }
 }
 
-/// stream_ids and sizes of units: whether units have this stream_id, whether flag bytes stand in its headers, whether a
-/// unit of that size may have it, and the greatest size.
+/// stream_ids and sizes of units: whether units have this stream_id, whether its headers have flag bytes, whether a
+/// unit of this size may have it, and the greatest size.
 static IDS: [(u8, usize, [bool; 3], usize); 9] = [
     (189, 1, [true, true, true], 65_522),
     (190, 1, [false, false, false], 65_522),

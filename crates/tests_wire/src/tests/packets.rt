@@ -17,14 +17,14 @@ const PLAIN: Header = Header {
     continuity_counter: 7,
 };
 
-/// That of an adaptation field without payload.
+/// The header of an adaptation field without payload.
 const FIELD_ALONE: Header = Header {
     payload_unit_start_indicator: false,
     continuity_counter: 0,
     ..PLAIN
 };
 
-/// That of `ALL_PARTS`.
+/// The header of `ALL_PARTS`.
 const MARKED: Header = Header {
     transport_error_indicator: true,
     payload_unit_start_indicator: true,
@@ -34,7 +34,7 @@ const MARKED: Header = Header {
     continuity_counter: 5,
 };
 
-/// Returns what is read of the adaptation field of `ALL_PARTS`.
+/// Returns whether the adaptation field of `ALL_PARTS` is read with each of its parts.
 fn has_parts(parts: &AdaptationField<'_>) -> bool {
     let last = ClockReference {
         base: (1 << 33) - 1,
@@ -57,8 +57,8 @@ fn has_parts(parts: &AdaptationField<'_>) -> bool {
     ] == [true; 9]
 }
 
-/// The header of a packet where its adaptation field is none, has each part, or is empty without a payload, and the
-/// size of its payload.
+/// Returns the header of a packet whose adaptation field is absent, has each part, or is empty without a payload, and
+/// the size of its payload.
 fn read_of(front: &[u8]) -> Option<(Header, usize)> {
     match read_packet(&packet_of(front)) {
         Ok(
@@ -90,7 +90,7 @@ fn read_of(front: &[u8]) -> Option<(Header, usize)> {
 static READ: [(&[u8], Header, usize); 3] = [
     (b"\x47\x41\x00\x17", PLAIN, 184),
     (ALL_PARTS, MARKED, 160),
-    // What is after an adaptation field without payload is not read.
+    // The bytes after an adaptation field without payload are not read.
     (b"\x47\x01\x00\x20\x00\x12", FIELD_ALONE, 0),
 ];
 
@@ -204,7 +204,8 @@ fn fits_field(base: u64, extension: u16, last: u8) -> bool {
     fits(HEADER, Some(&Adaptation::Flagged(parts)), None)
 }
 
-/// What is too long or too short, and an empty adaptation field that fits.
+/// Returns whether each of five packets fits: the first, with an empty adaptation field, does; the rest are too long or
+/// too short.
 fn sizes(payload: &[u8; 184]) -> [bool; 5] {
     let parts = AdaptationField {
         stuffing: &[0xff; 175],

@@ -30,7 +30,7 @@ const FIRST: Program = Program {
     pid: 0x1000,
 };
 
-/// Returns what is read of a PAT's programs: how many there are, and the first two.
+/// Returns the header of a PAT, how many programs it has, and the first three answers of its iterator.
 fn programs_of(bytes: &[u8]) -> Option<(LongHeader, usize, [Option<Program>; 3])> {
     let (section, _) = Section::read(bytes).ok()?;
     let pat = Pat::read(&section).ok()?;
@@ -63,7 +63,7 @@ fn pats_are_read_and_written(rt: HostRuntime) {
     assert!(rt; FIRST.to_bytes() == *b"\x00\x01\xf0\x00");
 }
 
-/// Returns what is read of a PMT before its streams.
+/// Returns whether the part of a PMT before its streams is read as it should be.
 fn has_head(pmt: &Pmt<'_>) -> bool {
     [
         pmt.header == SINGLE,
@@ -83,7 +83,7 @@ fn is_stream(stream: Option<Stream<'_>>, stream_type: u8, pid: u16, descriptors:
     }
 }
 
-/// Video without descriptors, then audio in English.
+/// Returns whether the streams are video without descriptors, then audio in English.
 fn has_streams(mut streams: Streams<'_>) -> bool {
     [
         is_stream(streams.next(), 0x02, 0x100, b""),

@@ -20,7 +20,7 @@ impl SectionSource for Moments {
     }
 }
 
-/// Slots, and the first bytes of their packets: a round has one moment, and the null packet where a section is shorter
+/// Slots, and the first bytes of their packets: a round has one moment, and the null packet if a section is shorter
 /// than its places.
 static PACKETS: [(u64, &[u8]); 4] = [
     (1000, b"\x47\x40\x12\x10\x00\x08"),

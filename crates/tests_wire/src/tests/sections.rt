@@ -99,8 +99,8 @@ fn sections_are_read(rt: HostRuntime) -> Result<(), Fail> {
     Ok(())
 }
 
-/// Sizes of bodies of the short form, the number of the refusal, and what is in an output that had three bytes:
-/// 4,093 are the most.
+/// Sizes of bodies of the short form, the number of the refusal, and the bytes in an output that had three: 4,093 are
+/// the most.
 static LONG_BODIES: [(usize, u8, usize); 2] = [(4093, 0, 4096), (4094, 6, 3)];
 
 fn written(body: &[u8]) -> (u8, usize) {

@@ -1,5 +1,5 @@
 use Rattle.std.proofs.Common.{◌≡◌, ◌∙◌, rules}
-use Rattle.demux.specs.Shown.{finding_view}
+use Rattle.pid_findings.specs.Shown.{finding_view}
 use Rattle.data_times.specs.DataTimes.{data_pts, seen_by}
 use Rattle.data_times.proofs.PassedFindings.{seen_all, seen_next}
 use Rattle.data_times.proofs.seen_stamps.seen_in.Goals as goal

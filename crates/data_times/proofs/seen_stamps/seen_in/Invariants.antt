@@ -1,5 +1,5 @@
 use Rattle.std.proofs.Common.{◌≡◌, [], drop, map}
-use Rattle.demux.specs.Shown.{finding_view}
+use Rattle.pid_findings.specs.Shown.{finding_view}
 use Rattle.data_times.specs.DataTimes.{seen_after}
 use Rattle.data_times.proofs.seen_stamps.seen_in.Given as goal
 

@@ -1,4 +1,4 @@
-use Rattle.demux.proofs.Bodies.{bodies_decide_nothing}
+use Rattle.pid_findings.proofs.Bodies.{bodies_decide_nothing}
 use Rattle.demux.proofs.StreamBodies.{few_are_kept, headers_are_alone, headers_are_found, no_headers_at_first}
 use Rattle.demux.proofs.laws.headers_alone.Goals as goal
 

@@ -2,9 +2,9 @@ use Rattle.std.proofs.Common.{◌≡◌, ◌++◌, Bool, List, map, Ok, Result, 
 use Rattle.ts_packet.specs.declared.packet.PacketError.{PacketError}
 use Rattle.ts_packet.specs.Reading.{packet_at}
 use Rattle.ts_packet.specs.Views.{PacketView, packet_view}
-use Rattle.demux.specs.Shown.{is_span}
+use Rattle.pid_findings.specs.Shown.{is_span}
 use Rattle.demux.specs.Stream.{within_by}
-use Rattle.demux.proofs.FoundViews.{all_borrowed}
+use Rattle.pid_findings.proofs.FoundViews.{all_borrowed}
 use Rattle.demux.proofs.packets.take_borrowed.Goals as goal
 
 pub returns-in_ok-take_read-in-Ok-clause-spans : goal.returns-in_ok-take_read-in-Ok-clause-spans

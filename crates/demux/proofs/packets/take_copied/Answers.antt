@@ -1,4 +1,4 @@
-use Rattle.demux.proofs.FoundViews.{none_borrowed}
+use Rattle.pid_findings.proofs.FoundViews.{none_borrowed}
 use Rattle.demux.proofs.packets.take_copied.Goals as goal
 
 pub returns-in_ok-take_read-in-Ok-clause-joined : goal.returns-in_ok-take_read-in-Ok-clause-joined

@@ -1,6 +1,6 @@
 use Rattle.std.proofs.Common.{rules, ◌≡◌, ◌==◌, false}
 use Rattle.ts_packet.specs.Views.{packet_view}
-use Rattle.demux.proofs.FoundViews.{read_says, read_spans}
+use Rattle.demux.proofs.ReadPackets.{read_says, read_spans}
 use Rattle.demux.proofs.packets.take_read.Goals as goal
 
 pub returns-clause-found : goal.returns-clause-found

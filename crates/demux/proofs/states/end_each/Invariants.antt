@@ -1,6 +1,6 @@
 use Rattle.std.proofs.Common.{◌≡◌, ◌++◌, map, drop}
 use Rattle.demux.specs.Stream.{ended_found}
-use Rattle.demux.specs.Shown.{KeepsJoined, finding_view}
+use Rattle.pid_findings.specs.Shown.{KeepsJoined, finding_view}
 use Rattle.demux.proofs.states.end_each.Given as goal
 
 abbrev pub invariant-loop-i : goal.invariant-loop-i

@@ -1,5 +1,5 @@
 use Rattle.std.proofs.Common.{◌≡◌, ◌+◌, ◌++◌, ◌∙◌, ◌||◌, ℕ, false, sym, ap, ap₂, Option, map, arith}
-use Rattle.demux.specs.Shown.{finding_view}
+use Rattle.pid_findings.specs.Shown.{finding_view}
 use Rattle.es_units.specs.Shown.{role_view}
 use Rattle.es_units.specs.CarriedUnits.{RoleView, role_of, units_in}
 use Rattle.es_units.specs.PidPlaces.{pids_in}

@@ -1,6 +1,6 @@
 use Rattle.std.proofs.Common.{◌≡◌, ◌∙◌, ◌+◌, ℕ, Option, None, map, drop, sym, ap, arith, rules}
 use Rattle.std.specs.Option.{option_or}
-use Rattle.demux.specs.Shown.{finding_view}
+use Rattle.pid_findings.specs.Shown.{finding_view}
 use Rattle.es_units.specs.CarriedUnits.{RoleView, start_id, first_id}
 use Rattle.es_units.specs.PidPlaces.{pids_in}
 use Rattle.es_units.proofs.CarriedUnits.{first_at, first_end, same_first}

@@ -1,5 +1,5 @@
 use Rattle.std.proofs.Common.{◌≡◌, ◌-◌, drop, length, map}
-use Rattle.demux.specs.Shown.{finding_view}
+use Rattle.pid_findings.specs.Shown.{finding_view}
 use Rattle.es_units.specs.CarriedUnits.{first_id}
 use Rattle.es_units.proofs.PidPlaces.{IsOn}
 use Rattle.es_units.proofs.split_units.first_id.Given as goal

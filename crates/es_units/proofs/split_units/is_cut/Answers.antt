@@ -1,6 +1,6 @@
 use Rattle.std.proofs.Common.{◌≡◌, ◌∙◌, ◌+◌, Bool, Option, None, unwrap_or, map, drop, sym, ap, arith, rules}
 use Rattle.std.proofs.lemmas.List.{drop-map}
-use Rattle.demux.specs.Shown.{finding_view}
+use Rattle.pid_findings.specs.Shown.{finding_view}
 use Rattle.es_units.specs.CarriedUnits.{RoleView, end_of, is_cut}
 use Rattle.es_units.specs.PidPlaces.{pids_in}
 use Rattle.es_units.proofs.CarriedUnits.{cut_at, cut_end, same_cut}

@@ -1,7 +1,7 @@
 use Rattle.std.proofs.Common.{◌≡◌, ◌∙◌, ◌+◌, ◌||◌, Bool, false, List, map, drop, sym, ap, arith, rules}
 use Rattle.std.specs.List.{list_any}
-use Rattle.demux.specs.Shown.{finding_view}
-use Rattle.demux.specs.Views.{FindingView}
+use Rattle.pid_findings.specs.Shown.{finding_view}
+use Rattle.pid_findings.specs.Views.{FindingView}
 use Rattle.es_units.specs.CarriedUnits.{RoleView, is_part, role_of}
 use Rattle.es_units.specs.PidPlaces.{pids_in}
 use Rattle.es_units.proofs.CarriedUnits.{parts_at, same_parts}

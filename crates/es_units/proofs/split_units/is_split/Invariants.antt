@@ -1,6 +1,6 @@
 use Rattle.std.proofs.Common.{◌≡◌, ◌-◌, drop, length, map}
 use Rattle.std.specs.List.{list_any}
-use Rattle.demux.specs.Shown.{finding_view}
+use Rattle.pid_findings.specs.Shown.{finding_view}
 use Rattle.es_units.specs.CarriedUnits.{is_part, role_of}
 use Rattle.es_units.proofs.PidPlaces.{IsOn}
 use Rattle.es_units.proofs.split_units.is_split.Given as goal

@@ -1,6 +1,6 @@
 use Rattle.std.proofs.Common.{◌≡◌, ◌++◌, ◌∙◌, ◌+◌, ℕ, Bool, Option, None, subst, [], ◌∷◌, List, get_or, length, map, drop, set, refl, sym, ap, arith}
 use Rattle.std.proofs.lemmas.List.{drop-set-lt, length-set}
-use Rattle.demux.specs.Shown.{finding_view}
+use Rattle.pid_findings.specs.Shown.{finding_view}
 use Rattle.es_units.specs.CarriedUnits.{carried_units, is_split, role_of}
 use Rattle.es_units.specs.PidPlaces.{pids_in, place_from}
 use Rattle.es_units.specs.TakenUnits.{OthersStay}

@@ -1,5 +1,5 @@
 use Rattle.std.proofs.Common.{◌≡◌, ◌-◌, ◌++◌, drop, length, map}
-use Rattle.demux.specs.Shown.{finding_view}
+use Rattle.pid_findings.specs.Shown.{finding_view}
 use Rattle.es_units.specs.CarriedUnits.{carried_units}
 use Rattle.es_units.specs.PidPlaces.{pids_in}
 use Rattle.es_units.specs.TakenUnits.{OthersStay}

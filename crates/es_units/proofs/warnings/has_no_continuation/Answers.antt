@@ -1,8 +1,8 @@
 use Rattle.std.proofs.Common.{◌≡◌, ◌<◌, ◌+◌, ◌==◌, ◌∙◌, sym, ap, List, ℕ, Option, None, option_map, length, map, drop, rules, arith}
 use Rattle.std.proofs.lemmas.Bool.{eqb-false}
 use Rattle.std.proofs.lemmas.List.{drop-map}
-use Rattle.demux.specs.Shown.{finding_view}
-use Rattle.demux.specs.Views.{FindingView}
+use Rattle.pid_findings.specs.Shown.{finding_view}
+use Rattle.pid_findings.specs.Views.{FindingView}
 use Rattle.es_units.specs.CarriedUnits.{continuation, continued_by}
 use Rattle.es_units.specs.PidPlaces.{pids_in}
 use Rattle.es_units.proofs.CarriedUnits.{continuation_at, continuation_end, same_continuation}

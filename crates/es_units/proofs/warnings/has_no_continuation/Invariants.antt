@@ -1,5 +1,5 @@
 use Rattle.std.proofs.Common.{◌≡◌, ◌-◌, ◌==◌, drop, map, length}
-use Rattle.demux.specs.Shown.{finding_view}
+use Rattle.pid_findings.specs.Shown.{finding_view}
 use Rattle.es_units.specs.CarriedUnits.{continuation}
 use Rattle.es_units.proofs.PidPlaces.{IsOn}
 use Rattle.es_units.proofs.warnings.has_no_continuation.Given as goal

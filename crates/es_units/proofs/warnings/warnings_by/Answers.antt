@@ -1,6 +1,6 @@
 use Rattle.std.proofs.Common.{◌≡◌, ◌+◌, ◌++◌, ◌∙◌, ◌||◌, sym, ap, ap₂, refl, ℕ, false, None, Option, List, map, drop, arith}
 use Rattle.std.proofs.lemmas.List.{append-nil, drop-map}
-use Rattle.demux.specs.Shown.{finding_view}
+use Rattle.pid_findings.specs.Shown.{finding_view}
 use Rattle.es_units.specs.CarriedUnits.{RoleView}
 use Rattle.es_units.specs.PidPlaces.{pids_in}
 use Rattle.es_units.specs.UnitSteps.{cuts, has_cut}

@@ -1,5 +1,5 @@
 use Rattle.std.proofs.Common.{◌≡◌, ◌-◌, ◌++◌, ◌||◌, None, drop, length, map}
-use Rattle.demux.specs.Shown.{finding_view}
+use Rattle.pid_findings.specs.Shown.{finding_view}
 use Rattle.es_units.specs.UnitSteps.{has_cut}
 use Rattle.es_units.specs.UnitWarnings.{warnings_from}
 use Rattle.es_units.proofs.PidPlaces.{IsOn}

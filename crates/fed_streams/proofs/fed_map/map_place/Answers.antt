@@ -1,6 +1,6 @@
 use Rattle.std.proofs.Common.{◌∙◌, ap, sym, true, false}
 use Rattle.std.specs.Prelude.{is_some}
-use Rattle.demux.specs.Shown.{finding_view}
+use Rattle.pid_findings.specs.Shown.{finding_view}
 use Rattle.fed_streams.specs.Maps.{MapView, current_found}
 use Rattle.fed_streams.proofs.FedMaps.{map_at, map_end}
 use Rattle.fed_streams.proofs.fed_map.map_place.Goals as goal

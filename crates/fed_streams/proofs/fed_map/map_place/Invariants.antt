@@ -1,5 +1,5 @@
 use Rattle.std.proofs.Common.{◌≡◌, drop}
-use Rattle.demux.specs.Shown.{finding_view}
+use Rattle.pid_findings.specs.Shown.{finding_view}
 use Rattle.fed_streams.specs.Maps.{map_from}
 use Rattle.fed_streams.proofs.fed_map.map_place.Given as goal
 

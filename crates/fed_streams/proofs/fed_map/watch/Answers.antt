@@ -1,5 +1,5 @@
 use Rattle.std.proofs.Common.{◌≡◌, ◌<◌, ◌∙◌, None, List, length, sym, ap, rules, arith}
-use Rattle.demux.specs.Shown.{finding_view}
+use Rattle.pid_findings.specs.Shown.{finding_view}
 use Rattle.fed_streams.specs.Maps.{MapView}
 use Rattle.fed_streams.specs.Maps.{map_from}
 use Rattle.fed_streams.proofs.FedMaps.{map_after, map_new, no_map_after, no_map_new}

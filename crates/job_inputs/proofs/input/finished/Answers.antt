@@ -1,5 +1,5 @@
 use Rattle.std.proofs.Common.{◌≡◌, ◌∙◌, All, map, ap, sym, subst}
-use Rattle.demux.specs.Shown.{finding_view}
+use Rattle.pid_findings.specs.Shown.{finding_view}
 use Rattle.job_inputs.specs.InputDrafts.{InputDraftView}
 use Rattle.job_inputs.proofs.InputStreams.{are_streams}
 use Rattle.job_inputs.proofs.input.finished.Goals as goal

@@ -1,6 +1,6 @@
 use Rattle.std.proofs.Common.{map, ◌≡◌, ◌++◌, ◌∙◌, ap, ap₂, List, rules}
 use Rattle.std.specs.Prelude.{flat_map}
-use Rattle.demux.specs.Shown.{finding_view}
+use Rattle.pid_findings.specs.Shown.{finding_view}
 use Rattle.job_inputs.specs.InputDrafts.{finished}
 use Rattle.program_tables.specs.Association.{AssociationView}
 use Rattle.stream_programs.specs.Programs.{FoundProgramsView}

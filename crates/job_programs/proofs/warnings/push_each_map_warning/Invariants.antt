@@ -1,5 +1,5 @@
 use Rattle.std.proofs.Common.{◌≡◌, ◌++◌, List, drop, flat_map}
-use Rattle.demux.specs.Views.{FindingView}
+use Rattle.pid_findings.specs.Views.{FindingView}
 use Rattle.program_tables.specs.MapPlaces.{AreChanges}
 use Rattle.job_programs.specs.Warnings.{map_warnings}
 use Rattle.job_programs.proofs.warnings.push_each_map_warning.Given as goal

@@ -1,5 +1,5 @@
 use Rattle.std.proofs.Common.{map}
-use Rattle.demux.specs.Shown.{finding_view}
+use Rattle.pid_findings.specs.Shown.{finding_view}
 use Rattle.job_programs.proofs.warnings.push_map_warnings.Goals as goal
 
 pub returns : goal.returns

@@ -1,5 +1,5 @@
 use Rattle.std.proofs.Common.{◌≡◌, ◌++◌, List, map, drop}
-use Rattle.demux.specs.Views.{FindingView}
+use Rattle.pid_findings.specs.Views.{FindingView}
 use Rattle.stream_programs.specs.PesCounts.{AreCounts}
 use Rattle.job_programs.specs.Warnings.{stray_warning}
 use Rattle.job_programs.proofs.warnings.push_strays.Given as goal

@@ -1,5 +1,5 @@
 use Rattle.std.proofs.Common.{◌≡◌, ◌++◌, drop, map, flat_map}
-use Rattle.demux.specs.Shown.{finding_view}
+use Rattle.pid_findings.specs.Shown.{finding_view}
 use Rattle.job_programs.specs.Warnings.{pid_warnings}
 use Rattle.job_programs.proofs.warnings.push_stream_warnings.Given as goal
 

@@ -1,5 +1,5 @@
 use Rattle.std.proofs.Common.{rules, ◌≡◌, Ok, map, subst}
-use Rattle.demux.specs.Shown.{finding_view}
+use Rattle.pid_findings.specs.Shown.{finding_view}
 use Rattle.other_tables.specs.OtherTables.{other_tables}
 use Rattle.job_programs.specs.Answers.{Answers}
 use Rattle.job_inputs.specs.JobInput.{job_input, AreStreams}

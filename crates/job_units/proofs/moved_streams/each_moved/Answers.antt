@@ -2,7 +2,7 @@ use Rattle.std.proofs.Common.{rules, arith, ◌≡◌, ◌∙◌, ◌∷◌, [],
 use Rattle.std.proofs.lemmas.List.{map-append}
 use Rattle.std.proofs.lemmas.List.Elements.{All-nil}
 use Rattle.std.proofs.lemmas.Result.{err_from_is_err_and}
-use Rattle.demux.specs.Shown.{finding_view}
+use Rattle.pid_findings.specs.Shown.{finding_view}
 use Rattle.job_programs.specs.JobStreams.{TimedStreamView}
 use Rattle.job_units.specs.Moments.{moved_by, StreamMomentsView, timed_stream}
 use Rattle.job_programs.proofs.Each.{each_start, each_step, each_refused, each_done}

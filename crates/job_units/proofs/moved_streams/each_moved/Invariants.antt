@@ -1,5 +1,5 @@
 use Rattle.std.proofs.Common.{◌≡◌, All, map}
-use Rattle.demux.specs.Shown.{finding_view}
+use Rattle.pid_findings.specs.Shown.{finding_view}
 use Rattle.job_programs.specs.Answers.{each}
 use Rattle.job_units.specs.Moments.{moved_by, timed_stream}
 use Rattle.job_programs.proofs.Each.{after}

@@ -1,5 +1,5 @@
 use Rattle.std.proofs.Common.{◌≡◌, ◌∙◌, ℕ, List, None, ap, subst, map}
-use Rattle.demux.specs.Shown.{finding_view}
+use Rattle.pid_findings.specs.Shown.{finding_view}
 use Rattle.es_moments.specs.Stamps.{first_fault, moved}
 use Rattle.es_moments.specs.UnitMoments.{moment_of}
 use Rattle.job_programs.specs.declared.program_clock.ProgramClock.{ProgramClock}

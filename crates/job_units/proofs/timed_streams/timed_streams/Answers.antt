@@ -1,5 +1,5 @@
 use Rattle.std.proofs.Common.{◌≡◌, ◌∙◌, ◌++◌, ◌∷◌, [], List, map, ap, sym, refl, rules}
-use Rattle.demux.specs.Shown.{finding_view}
+use Rattle.pid_findings.specs.Shown.{finding_view}
 use Rattle.job_units.proofs.TakenStreams.{Taken, pids_of, taken_start, taken_more, taken_end}
 use Rattle.job_units.proofs.timed_streams.timed_streams.Goals as goal
 use Rattle.job_units.specs.Moments.{StreamMomentsView, with_units, timed_stream}

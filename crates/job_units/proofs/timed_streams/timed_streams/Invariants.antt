@@ -1,5 +1,5 @@
 use Rattle.std.proofs.Common.{◌≡◌, length, map}
-use Rattle.demux.specs.Shown.{finding_view}
+use Rattle.pid_findings.specs.Shown.{finding_view}
 use Rattle.es_units.specs.PidPlaces.{pids_in}
 use Rattle.job_units.proofs.TakenStreams.{Taken}
 use Rattle.job_units.proofs.timed_streams.timed_streams.Given as goal

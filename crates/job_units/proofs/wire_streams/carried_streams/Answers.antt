@@ -1,5 +1,5 @@
 use Rattle.std.proofs.Common.{rules, ◌≡◌, ◌∙◌, ◌++◌, sym, ap, List, length, map, flat_map, arith}
-use Rattle.demux.specs.Shown.{finding_view}
+use Rattle.pid_findings.specs.Shown.{finding_view}
 use Rattle.stream_programs.specs.Streams.{FoundStreamView}
 use Rattle.job_programs.specs.JobStreams.{WireStreamView}
 use Rattle.job_units.specs.WireStreams.{carried_stream, left_out_warnings}

@@ -1,5 +1,5 @@
 use Rattle.std.proofs.Common.{◌≡◌, ◌++◌, map, flat_map}
-use Rattle.demux.specs.Shown.{finding_view}
+use Rattle.pid_findings.specs.Shown.{finding_view}
 use Rattle.job_units.specs.WireStreams.{carried_stream, carried_streams, left_out_warnings}
 use Rattle.job_units.proofs.wire_streams.carried_streams.Given as goal
 

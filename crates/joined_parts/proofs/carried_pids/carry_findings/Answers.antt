@@ -1,5 +1,5 @@
 use Rattle.std.proofs.Common.{◌∙◌, ap, map, sym, arith}
-use Rattle.demux.specs.Shown.{finding_view}
+use Rattle.pid_findings.specs.Shown.{finding_view}
 use Rattle.joined_parts.specs.Recodings.{carried}
 use Rattle.joined_parts.proofs.MovedFindings.{changed_more, changed_whole}
 use Rattle.joined_parts.proofs.carried_pids.carry_findings.Goals as goal

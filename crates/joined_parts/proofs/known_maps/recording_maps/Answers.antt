@@ -1,5 +1,5 @@
 use Rattle.std.proofs.Common.{◌≡◌, ◌∙◌, rules}
-use Rattle.demux.specs.Shown.{finding_view}
+use Rattle.pid_findings.specs.Shown.{finding_view}
 use Rattle.joined_parts.specs.MapStreams.{with_finding}
 use Rattle.joined_parts.proofs.MapLists.{maps_all, maps_next}
 use Rattle.joined_parts.proofs.known_maps.recording_maps.Goals as goal

@@ -1,5 +1,5 @@
 use Rattle.std.proofs.Common.{◌≡◌, drop, map}
-use Rattle.demux.specs.Shown.{finding_view}
+use Rattle.pid_findings.specs.Shown.{finding_view}
 use Rattle.joined_parts.specs.MapStreams.{maps_after, no_maps}
 use Rattle.joined_parts.proofs.known_maps.recording_maps.Given as goal
 

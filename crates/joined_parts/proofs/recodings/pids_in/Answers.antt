@@ -1,5 +1,5 @@
 use Rattle.std.proofs.Common.{◌≡◌, ◌∙◌, rules}
-use Rattle.demux.specs.Shown.{finding_view}
+use Rattle.pid_findings.specs.Shown.{finding_view}
 use Rattle.joined_parts.specs.Recodings.{with_pids_of}
 use Rattle.joined_parts.proofs.MapLists.{pids_all, pids_next}
 use Rattle.joined_parts.proofs.recodings.pids_in.Goals as goal

@@ -1,5 +1,5 @@
 use Rattle.std.proofs.Common.{◌≡◌, [], drop, map}
-use Rattle.demux.specs.Shown.{finding_view}
+use Rattle.pid_findings.specs.Shown.{finding_view}
 use Rattle.joined_parts.specs.Recodings.{pids_after}
 use Rattle.joined_parts.proofs.recodings.pids_in.Given as goal
 

@@ -1,5 +1,5 @@
 use Rattle.std.proofs.Common.{◌≡◌, ◌∙◌, rules}
-use Rattle.demux.specs.Shown.{finding_view}
+use Rattle.pid_findings.specs.Shown.{finding_view}
 use Rattle.joined_parts.specs.UnitStamps.{stamp_of, with_stamp}
 use Rattle.joined_parts.proofs.CutLists.{stamp_all, stamp_next}
 use Rattle.joined_parts.proofs.stamps.stamps_in.Goals as goal

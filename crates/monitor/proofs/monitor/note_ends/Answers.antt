@@ -1,5 +1,5 @@
 use Rattle.std.proofs.Common.{◌≡◌, ◌∙◌, ◌<◌, ◌≤◌, [], length, drop, map, ap, arith, add-one}
-use Rattle.demux.specs.Shown.{finding_view}
+use Rattle.pid_findings.specs.Shown.{finding_view}
 use Rattle.demux.specs.Stream.{ended_found}
 use Rattle.monitor.specs.FindingStates.{all_noted}
 use Rattle.monitor.proofs.HeaderFindings.{ends_all, ends_more}

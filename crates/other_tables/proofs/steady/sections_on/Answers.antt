@@ -1,7 +1,7 @@
 use Rattle.std.proofs.Common.{◌≡◌, ◌∙◌, ◌++◌, List, Global, Some, None, map, ap, sym, rules}
 use Rattle.std.proofs.lemmas.List.{map-append}
 use Rattle.std.specs.Prelude.{option_to_list}
-use Rattle.demux.specs.Shown.{finding_view}
+use Rattle.pid_findings.specs.Shown.{finding_view}
 use Rattle.other_tables.specs.SteadySections.{section_on, section_view, sections_on}
 use Rattle.other_tables.specs.declared.steady.FoundSection.{FoundSection}
 use Rattle.other_tables.proofs.SectionSteps.{sections_more, sections_none, sections_end}

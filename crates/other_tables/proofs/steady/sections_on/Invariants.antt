@@ -1,5 +1,5 @@
 use Rattle.std.proofs.Common.{◌≡◌, [], drop, map}
-use Rattle.demux.specs.Shown.{finding_view}
+use Rattle.pid_findings.specs.Shown.{finding_view}
 use Rattle.other_tables.specs.SteadySections.{section_view, sections_on}
 use Rattle.other_tables.proofs.steady.sections_on.Given as goal
 

@@ -1,5 +1,5 @@
 use Rattle.std.proofs.Common.{◌≡◌, ℕ, Bool, List, ◌++◌, ◌∙◌, Global, map, sym, ap, subst}
-use Rattle.demux.specs.Shown.{finding_view}
+use Rattle.pid_findings.specs.Shown.{finding_view}
 use Rattle.other_tables.specs.OtherTables.{other_tables, table_at, tables_from}
 use Rattle.other_tables.specs.PidCounts.{AreCounts, AreSeen}
 use Rattle.other_tables.specs.declared.tables.OtherTable.{OtherTable}

@@ -1,5 +1,5 @@
 use Rattle.std.proofs.Common.{◌≡◌, [], drop, map}
-use Rattle.demux.specs.Shown.{finding_view}
+use Rattle.pid_findings.specs.Shown.{finding_view}
 use Rattle.other_tables.specs.OtherTables.{tables_from}
 use Rattle.other_tables.specs.PidCounts.{AreSeen}
 use Rattle.other_tables.proofs.tables.other_tables.Given as goal

@@ -1,5 +1,5 @@
 use Rattle.std.proofs.Common.{◌≡◌, ℕ, ◌+◌, ◌-◌, ◌<◌, List, length, Global, refl, sym, subst, arith}
-use Rattle.demux.specs.Shown.{finding_view}
+use Rattle.pid_findings.specs.Shown.{finding_view}
 use Rattle.other_tables.proofs.PidCounts.{CountsFrom, all_counted, counted, none_yet}
 use Rattle.other_tables.proofs.tables.section_counts.Goals as goal
 

@@ -1,5 +1,5 @@
 use Rattle.std.proofs.Common.{◌≤◌, length}
-use Rattle.demux.specs.Shown.{finding_view}
+use Rattle.pid_findings.specs.Shown.{finding_view}
 use Rattle.other_tables.proofs.PidCounts.{CountsFrom}
 use Rattle.other_tables.proofs.tables.section_counts.Given as goal
 

@@ -1,7 +1,7 @@
 use Rattle.std.proofs.Common.{string_bytes}
 use Rattle.std.specs.Prelude.{codes, flat_map}
 use Rattle.page_charts.specs.Charts as spec
-use Rattle.page_charts.proofs.Texts.{pushed, three}
+use Rattle.page_curves.proofs.Texts.{pushed, three}
 use Rattle.page_charts.proofs.chart.write_keys.Goals as goal
 
 pub returns : goal.returns

@@ -1,10 +1,10 @@
 use Rattle.std.proofs.Common.{rules, ◌≡◌, ◌++◌, string_bytes}
 use Rattle.std.specs.Prelude.{OnOk, codes}
 use Rattle.page_charts.specs.Charts as spec
-use Rattle.page_charts.specs.Frames.{top_value}
-use Rattle.page_charts.specs.Paths.{numbered, over}
-use Rattle.page_charts.specs.Scale.{height_of}
-use Rattle.page_charts.proofs.Texts.{three}
+use Rattle.page_curves.specs.Frames.{top_value}
+use Rattle.page_curves.specs.Paths.{numbered, over}
+use Rattle.page_curves.specs.Scale.{height_of}
+use Rattle.page_curves.proofs.Texts.{three}
 use Rattle.page_charts.proofs.chart.write_limit.Goals as goal
 
 pub returns : goal.returns

@@ -1,8 +1,8 @@
 use Rattle.std.proofs.Common.{string_bytes}
 use Rattle.std.specs.Prelude.{codes, flat_map}
 use Rattle.page_charts.specs.Charts as spec
-use Rattle.page_charts.specs.Frames.{scales_text}
-use Rattle.page_charts.proofs.Texts.{four, pushed}
+use Rattle.page_curves.specs.Frames.{scales_text}
+use Rattle.page_curves.proofs.Texts.{four, pushed}
 use Rattle.page_charts.proofs.chart.write_picture.Goals as goal
 
 pub returns : goal.returns

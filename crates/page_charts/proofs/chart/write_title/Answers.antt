@@ -1,8 +1,8 @@
 use Rattle.std.proofs.Common.{rules, ◌≡◌, ◌++◌, string_bytes}
 use Rattle.std.specs.Prelude.{OnOk, codes}
 use Rattle.page_charts.specs.Charts as spec
-use Rattle.page_charts.specs.PidLabels.{pid_text}
-use Rattle.page_charts.proofs.Texts.{pushed, three}
+use Rattle.page_curves.specs.PidLabels.{pid_text}
+use Rattle.page_curves.proofs.Texts.{pushed, three}
 use Rattle.page_charts.proofs.chart.write_title.Goals as goal
 
 pub returns : goal.returns

@@ -1,10 +1,10 @@
 use Rattle.std.proofs.Common.{rules, ◌≡◌, ◌++◌, ◌%◌, string_bytes}
 use Rattle.std.specs.Prelude.{codes}
-use Rattle.page_charts.specs.Frames.{slots_of}
-use Rattle.page_charts.specs.Paths.{numbered, point}
-use Rattle.page_charts.specs.Scale.{across}
+use Rattle.page_curves.specs.Frames.{slots_of}
+use Rattle.page_curves.specs.Paths.{numbered, point}
+use Rattle.page_curves.specs.Scale.{across}
 use Rattle.page_charts.specs.Stacks as spec
-use Rattle.page_charts.proofs.Texts.{pushed, three}
+use Rattle.page_curves.proofs.Texts.{pushed, three}
 use Rattle.page_charts.proofs.stack.write_area.Goals as goal
 
 pub returns : goal.returns

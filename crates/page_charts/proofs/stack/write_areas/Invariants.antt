@@ -1,5 +1,5 @@
 use Rattle.std.proofs.Common.{◌≡◌, ◌++◌, drop, string_bytes}
-use Rattle.page_charts.specs.Paths.{numbered}
+use Rattle.page_curves.specs.Paths.{numbered}
 use Rattle.page_charts.specs.Stacks.{area}
 use Rattle.page_charts.proofs.stack.write_areas.Given as goal
 

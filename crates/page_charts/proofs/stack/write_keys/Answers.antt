@@ -1,8 +1,8 @@
 use Rattle.std.proofs.Common.{string_bytes}
 use Rattle.std.specs.Prelude.{codes}
-use Rattle.page_charts.specs.Paths.{numbered}
+use Rattle.page_curves.specs.Paths.{numbered}
 use Rattle.page_charts.specs.Stacks as spec
-use Rattle.page_charts.proofs.Texts.{pushed, three}
+use Rattle.page_curves.proofs.Texts.{pushed, three}
 use Rattle.page_charts.proofs.stack.write_keys.Goals as goal
 
 pub returns : goal.returns

@@ -2,7 +2,7 @@ use Rattle.std.proofs.Common.{string_bytes}
 use Rattle.std.specs.Prelude.{codes}
 use Rattle.page_charts.specs.Stacks as spec
 use Rattle.page_charts.specs.ValueTables as values
-use Rattle.page_charts.proofs.Texts.{three}
+use Rattle.page_curves.proofs.Texts.{three}
 use Rattle.page_charts.proofs.stack.write_stack.Goals as goal
 
 pub returns : goal.returns

@@ -1,5 +1,5 @@
 use Rattle.std.proofs.Common.{◌≡◌, ◌++◌, drop, string_bytes}
-use Rattle.page_charts.specs.Paths.{numbered}
+use Rattle.page_curves.specs.Paths.{numbered}
 use Rattle.page_charts.specs.Strips.{part}
 use Rattle.page_charts.proofs.strip.write_parts.Given as goal
 

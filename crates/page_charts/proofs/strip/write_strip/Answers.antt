@@ -2,7 +2,7 @@ use Rattle.std.proofs.Common.{rules, ◌≡◌, ◌++◌, string_bytes}
 use Rattle.std.specs.Prelude.{codes, flat_map}
 use Rattle.page_charts.specs.Strips as spec
 use Rattle.page_charts.specs.declared.strip.TheConstants.{LEVELS}
-use Rattle.page_charts.proofs.Texts.{pushed, three}
+use Rattle.page_curves.proofs.Texts.{pushed, three}
 use Rattle.page_charts.proofs.strip.write_strip.Goals as goal
 
 pub returns : goal.returns

@@ -1,5 +1,5 @@
 use Rattle.std.proofs.Common.{◌≡◌, ◌++◌, drop, string_bytes}
-use Rattle.page_charts.specs.Paths.{numbered}
+use Rattle.page_curves.specs.Paths.{numbered}
 use Rattle.page_charts.specs.StripTables.{group_if}
 use Rattle.page_charts.proofs.strip_table.write_groups.Given as goal
 

@@ -2,7 +2,7 @@ use Rattle.std.proofs.Common.{rules, ◌≡◌, ◌++◌, string_bytes}
 use Rattle.std.specs.Prelude.{codes, flat_map}
 use Rattle.page_charts.specs.StripTables as spec
 use Rattle.page_charts.specs.declared.strip_table.TheConstants.{STEP_COUNTS}
-use Rattle.page_charts.proofs.Texts.{pushed, three}
+use Rattle.page_curves.proofs.Texts.{pushed, three}
 use Rattle.page_charts.proofs.strip_table.write_head.Goals as goal
 
 pub returns : goal.returns

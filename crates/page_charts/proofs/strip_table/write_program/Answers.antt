@@ -1,9 +1,9 @@
 use Rattle.std.proofs.Common.{rules, ◌≡◌, ◌++◌, nat_eq, string_bytes}
 use Rattle.std.specs.Prelude.{codes}
 use Rattle.std.specs.Map.{lookup}
-use Rattle.page_charts.specs.PidLabels.{service_text}
+use Rattle.page_curves.specs.PidLabels.{service_text}
 use Rattle.page_charts.specs.StripTables as spec
-use Rattle.page_charts.proofs.Texts.{pushed, three}
+use Rattle.page_curves.proofs.Texts.{pushed, three}
 use Rattle.page_charts.proofs.strip_table.write_program.Goals as goal
 
 pub returns : goal.returns

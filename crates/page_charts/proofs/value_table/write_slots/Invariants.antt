@@ -1,5 +1,5 @@
 use Rattle.std.proofs.Common.{◌≡◌, ◌++◌, drop, string_bytes}
-use Rattle.page_charts.specs.Paths.{numbered}
+use Rattle.page_curves.specs.Paths.{numbered}
 use Rattle.page_charts.specs.ValueTables.{row}
 use Rattle.page_charts.proofs.value_table.write_slots.Given as goal
 

@@ -1,6 +1,6 @@
 use Rattle.std.proofs.Common.{◌≡◌, ◌∙◌, ◌++◌, List, ℕ, ap, length, string_bytes}
 use Rattle.std.specs.Prelude.{codes}
-use Rattle.page_charts.proofs.Texts.{four, pushed}
+use Rattle.page_curves.proofs.Texts.{four, pushed}
 use Rattle.plan_page.specs.Lanes as spec
 use Rattle.plan_page.proofs.lanes.write_lane.Goals as goal
 

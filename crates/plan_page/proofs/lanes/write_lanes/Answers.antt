@@ -1,6 +1,6 @@
 use Rattle.std.proofs.Common.{length, string_bytes}
 use Rattle.std.specs.Prelude.{codes, ◌++◌}
-use Rattle.page_charts.proofs.Texts.{four, pushed, two}
+use Rattle.page_curves.proofs.Texts.{four, pushed, two}
 use Rattle.plan_page.specs.declared.lanes.TheConstants.{QUARTERS}
 use Rattle.plan_page.specs.Lanes as spec
 use Rattle.plan_page.proofs.lanes.write_lanes.Goals as goal

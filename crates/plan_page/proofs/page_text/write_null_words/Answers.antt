@@ -1,6 +1,6 @@
 use Rattle.std.proofs.Common.{string_bytes}
 use Rattle.std.specs.Prelude.{codes}
-use Rattle.page_charts.proofs.Texts.{pushed, three}
+use Rattle.page_curves.proofs.Texts.{pushed, three}
 use Rattle.plan_page.specs.ItemRows.{share}
 use Rattle.plan_page.specs.PageText as spec
 use Rattle.plan_page.proofs.page_text.write_null_words.Goals as goal

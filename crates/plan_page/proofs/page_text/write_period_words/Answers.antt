@@ -1,6 +1,6 @@
 use Rattle.std.proofs.Common.{◌≡◌, ◌∙◌, ◌++◌, ℕ, ap, string_bytes}
 use Rattle.std.specs.Prelude.{codes}
-use Rattle.page_charts.proofs.Texts.{pushed, three}
+use Rattle.page_curves.proofs.Texts.{pushed, three}
 use Rattle.plan_page.specs.Lanes.{millis, time_of}
 use Rattle.plan_page.specs.PageText as spec
 use Rattle.plan_page.proofs.page_text.write_period_words.Goals as goal

@@ -1,6 +1,6 @@
 use Rattle.std.proofs.Common.{string_bytes}
 use Rattle.std.specs.Prelude.{codes}
-use Rattle.page_charts.proofs.Texts.{four, pushed}
+use Rattle.page_curves.proofs.Texts.{four, pushed}
 use Rattle.plan_page.specs.Lanes.{label}
 use Rattle.plan_page.specs.SlotLists as spec
 use Rattle.plan_page.proofs.slot_lists.write_row.Goals as goal

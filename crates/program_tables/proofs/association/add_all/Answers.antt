@@ -1,5 +1,5 @@
 use Rattle.std.proofs.Common.{◌∙◌, sym}
-use Rattle.demux.specs.Shown.{finding_view}
+use Rattle.pid_findings.specs.Shown.{finding_view}
 use Rattle.program_tables.proofs.AssociationSteps.{entries_more, entries_end}
 use Rattle.program_tables.proofs.association.add_all.Goals as goal
 

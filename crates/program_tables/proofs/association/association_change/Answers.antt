@@ -1,5 +1,5 @@
 use Rattle.std.proofs.Common.{◌≡◌, ◌∙◌, sym, true, false, rules}
-use Rattle.demux.specs.Shown.{finding_view}
+use Rattle.pid_findings.specs.Shown.{finding_view}
 use Rattle.program_tables.proofs.AssociationSteps.{change_later, change_here, change_end}
 use Rattle.program_tables.proofs.association.association_change.Goals as goal
 

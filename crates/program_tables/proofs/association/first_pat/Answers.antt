@@ -1,7 +1,7 @@
 use Rattle.std.proofs.Common.{◌≡◌, ◌∙◌, ◌+◌, Option, None, option_map, map, drop, sym, ap, rules}
 use Rattle.std.specs.Option.{option_or}
 use Rattle.psi_tables.specs.ProgramAssociation.{PatView, pat_view}
-use Rattle.demux.specs.Shown.{finding_view}
+use Rattle.pid_findings.specs.Shown.{finding_view}
 use Rattle.program_tables.specs.Association.{first_pat}
 use Rattle.program_tables.proofs.AssociationSteps.{first_more, first_end}
 use Rattle.program_tables.proofs.association.first_pat.Goals as goal

@@ -1,5 +1,5 @@
 use Rattle.std.proofs.Common.{◌≡◌, [], ℕ, List, ap, map, subst, sym, ◌∙◌}
-use Rattle.demux.specs.Shown.{finding_view}
+use Rattle.pid_findings.specs.Shown.{finding_view}
 use Rattle.program_tables.specs.MapPlaces.{AreChanges, changes_from}
 use Rattle.program_tables.proofs.NotedChanges.{are_changes}
 use Rattle.program_tables.proofs.changed_maps.map_changes.Goals as goal

@@ -1,5 +1,5 @@
 use Rattle.std.proofs.Common.{◌∙◌, map, sym}
-use Rattle.demux.specs.Shown.{finding_view}
+use Rattle.pid_findings.specs.Shown.{finding_view}
 use Rattle.program_tables.proofs.NotedChanges.{changes_more, changes_end}
 use Rattle.program_tables.proofs.changed_maps.note_changes.Goals as goal
 

@@ -1,6 +1,6 @@
 use Rattle.std.proofs.Common.{◌∙◌, ℕ, List, Option, ap, map, nat_eq}
 use Rattle.std.specs.Map.{lookup}
-use Rattle.demux.specs.Shown.{finding_view}
+use Rattle.pid_findings.specs.Shown.{finding_view}
 use Rattle.program_tables.specs.MapPlaces.{map_key, map_there}
 use Rattle.program_tables.proofs.MapPlaces.{maps_are_there}
 use Rattle.program_tables.proofs.map_places.map_at.Goals as goal

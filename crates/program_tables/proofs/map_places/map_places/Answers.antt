@@ -1,5 +1,5 @@
 use Rattle.std.proofs.Common.{◌∙◌, sym}
-use Rattle.demux.specs.Shown.{finding_view}
+use Rattle.pid_findings.specs.Shown.{finding_view}
 use Rattle.program_tables.proofs.MapPlaces.{places_more, places_end}
 use Rattle.program_tables.proofs.map_places.map_places.Goals as goal
 

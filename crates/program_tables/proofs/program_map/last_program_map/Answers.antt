@@ -1,7 +1,7 @@
 use Rattle.std.proofs.Common.{◌≡◌, ◌∙◌, None, refl, sym, map, rules}
 use Rattle.std.specs.Option.{option_or}
 use Rattle.psi_tables.specs.ProgramMap.{pmt_view}
-use Rattle.demux.specs.Shown.{finding_view}
+use Rattle.pid_findings.specs.Shown.{finding_view}
 use Rattle.program_tables.specs.ProgramMaps.{program_map}
 use Rattle.program_tables.proofs.LastMaps.{last_more, last_end, not_found, or_none}
 use Rattle.program_tables.proofs.program_map.last_program_map.Goals as goal

@@ -1,5 +1,5 @@
 use Rattle.std.proofs.Common.{◌≡◌, ◌∙◌, Global, sym, true, false, rules}
-use Rattle.demux.specs.Shown.{finding_view}
+use Rattle.pid_findings.specs.Shown.{finding_view}
 use Rattle.service_information.specs.EventSurplus.{is_surplus, event_surplus}
 use Rattle.service_information.proofs.FirstPackets.{packet_later, packet_here, packet_end}
 use Rattle.service_information.proofs.event_surplus.event_surplus.Goals as goal

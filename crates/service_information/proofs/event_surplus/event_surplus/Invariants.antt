@@ -1,5 +1,5 @@
 use Rattle.std.proofs.Common.{◌≡◌, drop, map}
-use Rattle.demux.specs.Shown.{finding_view}
+use Rattle.pid_findings.specs.Shown.{finding_view}
 use Rattle.service_information.specs.EventSurplus.{is_surplus}
 use Rattle.service_information.specs.FirstFindings.{first_packet}
 use Rattle.service_information.proofs.event_surplus.event_surplus.Given as goal

@@ -1,5 +1,5 @@
 use Rattle.std.proofs.Common.{◌≡◌, ◌∙◌, List, [], Global, map, sym, ap}
-use Rattle.demux.specs.Shown.{finding_view}
+use Rattle.pid_findings.specs.Shown.{finding_view}
 use Rattle.service_information.specs.EventSections.{event_section_found}
 use Rattle.service_information.specs.Events.{FoundEventView, stream_events, with_findings, with_section}
 use Rattle.service_information.proofs.EventSteps.{events_more, events_end}

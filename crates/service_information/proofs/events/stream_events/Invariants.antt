@@ -1,5 +1,5 @@
 use Rattle.std.proofs.Common.{◌≡◌, [], drop, map}
-use Rattle.demux.specs.Shown.{finding_view}
+use Rattle.pid_findings.specs.Shown.{finding_view}
 use Rattle.service_information.specs.Events.{with_findings}
 use Rattle.service_information.proofs.events.stream_events.Given as goal
 

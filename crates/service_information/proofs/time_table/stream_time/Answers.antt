@@ -1,6 +1,6 @@
 use Rattle.std.proofs.Common.{◌≡◌, ◌∙◌, ℕ, ◌+◌, Global, Option, None, map, drop, sym, ap, rules}
 use Rattle.std.specs.Option.{option_or}
-use Rattle.demux.specs.Shown.{finding_view}
+use Rattle.pid_findings.specs.Shown.{finding_view}
 use Rattle.service_information.specs.StreamTime.{stream_time}
 use Rattle.service_information.proofs.TimeSteps.{time_more, time_end}
 use Rattle.service_information.proofs.time_table.stream_time.Goals as goal

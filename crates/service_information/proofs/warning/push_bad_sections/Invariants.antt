@@ -1,5 +1,5 @@
 use Rattle.std.proofs.Common.{◌≡◌, ◌++◌, drop, flat_map, map}
-use Rattle.demux.specs.Shown.{finding_view}
+use Rattle.pid_findings.specs.Shown.{finding_view}
 use Rattle.service_information.specs.Warnings.{bad_section}
 use Rattle.service_information.proofs.warning.push_bad_sections.Given as goal
 

@@ -1,5 +1,5 @@
 use Rattle.std.proofs.Common.{◌≡◌, ℕ, ◌+◌, ◌-◌, ◌<◌, List, length, refl, sym, subst, arith}
-use Rattle.demux.specs.Shown.{finding_view}
+use Rattle.pid_findings.specs.Shown.{finding_view}
 use Rattle.stream_programs.proofs.PesCounts.{CountsFrom, all_counted, counted, none_yet}
 use Rattle.stream_programs.proofs.pid_counts.pes_counts.Goals as goal
 

@@ -1,5 +1,5 @@
 use Rattle.std.proofs.Common.{◌≤◌, length}
-use Rattle.demux.specs.Shown.{finding_view}
+use Rattle.pid_findings.specs.Shown.{finding_view}
 use Rattle.stream_programs.proofs.PesCounts.{CountsFrom}
 use Rattle.stream_programs.proofs.pid_counts.pes_counts.Given as goal
 

@@ -1,5 +1,5 @@
 use Rattle.std.proofs.Common.{◌∙◌, sym, map}
-use Rattle.demux.specs.Shown.{finding_view}
+use Rattle.pid_findings.specs.Shown.{finding_view}
 use Rattle.stream_programs.specs.Programs.{programs_of}
 use Rattle.stream_programs.proofs.ProgramSteps.{programs_more, programs_end}
 use Rattle.stream_programs.proofs.programs.found_programs.Goals as goal

@@ -1,5 +1,5 @@
 use Rattle.std.proofs.Common.{◌∙◌, sym}
-use Rattle.demux.specs.Shown.{finding_view}
+use Rattle.pid_findings.specs.Shown.{finding_view}
 use Rattle.stream_programs.proofs.StrayPids.{strays_more, strays_end}
 use Rattle.stream_programs.proofs.strays.push_strays.Goals as goal
 

@@ -1,5 +1,5 @@
 use Rattle.std.proofs.Common.{◌≡◌, drop, map}
-use Rattle.demux.specs.Shown.{finding_view}
+use Rattle.pid_findings.specs.Shown.{finding_view}
 use Rattle.stream_programs.specs.StrayPids.{stray_pids}
 use Rattle.stream_programs.proofs.strays.push_strays.Given as goal
 

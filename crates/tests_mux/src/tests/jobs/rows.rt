@@ -30,7 +30,7 @@ const QUIET: Job = Job {
     ..SINGLE
 };
 
-/// A period, and one of the plan turned by a slot.
+/// A period, and a period of the plan turned by a slot.
 const TURNED: Job = Job {
     service: PATIENT,
     periods: Some(1),

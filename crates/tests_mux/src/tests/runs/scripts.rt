@@ -10,13 +10,13 @@ pub enum Step {
     Until(u64),
     /// The last packet has these bytes from one on.
     Carries(usize, &'static [u8]),
-    /// So many units of a stream wait.
+    /// This number of units of a stream waits.
     Waiting(u8, Option<usize>),
 }
 
 use Step::{Carries, Feed, Until, Waiting};
 
-/// A service, the periods of its first plan where the second follows, how many units may wait, and the steps.
+/// A service, the periods of its first plan if the second follows, how many units may wait, and the steps.
 pub type Script = (Service, Option<u64>, usize, &'static [Step]);
 
 /// The unit that most scripts begin with, and the next one.
@@ -24,7 +24,7 @@ const FIRST: Step = Feed(0, 576, 1_600, 1_600, None);
 
 const SECOND: Step = Feed(0, 576, 3_760, 3_760, None);
 
-/// The first slots with the first unit, and the following event 120 slots later, of which there is none.
+/// The first slots with the first unit, and 120 slots later the following event, an empty one.
 const SLOTS: [Step; 22] = [
     FIRST,
     Until(1),

@@ -3,7 +3,8 @@
 use super::rows::{Row, are_rows};
 use super::streams::{LONG, MORE};
 use super::{finish, packet_of, push};
-use demux::{Demux, DemuxError, Kind};
+use demux::{Demux, DemuxError};
+use pid_findings::Kind;
 
 // Pushes a packet of PID 257 with this counter.
 fn push_long(demux: &mut Demux, start: bool, counter: u8) -> Result<(), DemuxError> {
@@ -12,7 +13,7 @@ fn push_long(demux: &mut Demux, start: bool, counter: u8) -> Result<(), DemuxErr
     push(demux, &packet)
 }
 
-// The first packet that brings it past 8,388,608 bytes cuts it short: 45,591 packets of 184 bytes. Those that follow are
+// 45,591 packets of 184 bytes: the last brings the PES packet past 8,388,608 bytes and cuts it short. Later packets are
 // stray.
 static TOO_LONG: [Row; 11] = [
     (

@@ -3,11 +3,12 @@
 use super::rows::{Row, are_rows};
 use super::streams::{AGAIN, LONG, MORE, STREAMS, bytes_of};
 use super::{finish, packet_of, push, take};
-use demux::{Demux, DemuxError, Finding, Kind};
+use demux::{Demux, DemuxError};
 use linked_list_allocator::LocalHeap;
+use pid_findings::{Finding, Kind};
 use std::alloc::Global;
 
-// What is left of a piece of which a part was taken.
+// Returns the rest of a piece after a refused push.
 fn left_of(piece: &[u8], first: Result<(), DemuxError>) -> &[u8] {
     match first {
         Ok(()) => &[],
@@ -16,8 +17,8 @@ fn left_of(piece: &[u8], first: Result<(), DemuxError>) -> &[u8] {
     }
 }
 
-// Pushes a stream while a block of the heap is taken, and what is left of it once it is given back; whether memory was
-// refused.
+// Pushes a stream while a block of the heap is taken, then the rest of the stream once the block is given back. Returns
+// whether memory was refused.
 fn push_again(
     heap: &LocalHeap,
     demux: &mut Demux<&LocalHeap>,
@@ -35,7 +36,7 @@ fn push_again(
     }
 }
 
-// The same, where the stream's findings are there in the end.
+// Pushes a stream as `push_again` does; `None` if its findings are not there in the end.
 fn pushed_again(heap: &LocalHeap, stream: &[u8], left: usize) -> Option<bool> {
     let mut demux = Demux::new(heap);
     let refused = push_again(heap, &mut demux, stream, left);
@@ -44,7 +45,7 @@ fn pushed_again(heap: &LocalHeap, stream: &[u8], left: usize) -> Option<bool> {
     if is_found { refused } else { None }
 }
 
-// How often memory is refused.
+// Counts the heaps in which memory is refused.
 fn refused_pieces(alloc: Global, stream: &[u8]) -> Option<u32> {
     let mut refused = 0u32;
     for left in 0..48usize {
@@ -54,7 +55,7 @@ fn refused_pieces(alloc: Global, stream: &[u8]) -> Option<u32> {
     Some(refused)
 }
 
-// Nothing is lost.
+// Returns whether no finding is lost.
 fn is_nothing_lost(alloc: Global) -> bool {
     let Some(stream) = bytes_of(alloc, &STREAMS[0]) else {
         return false;
@@ -75,7 +76,7 @@ fn fill<'h>(heap: &'h LocalHeap, left: usize) -> Option<Vec<u8, &'h LocalHeap>> 
     Vec::with_capacity(heap, 64 * blocks.saturating_sub(left).min(1_023)).ok()
 }
 
-// Takes a packet without enough memory, and again with enough; whether it was refused. None where it is refused
+// Takes a packet without enough memory, and again with enough. Returns whether it was refused; `None` if it is refused
 // otherwise, or again.
 fn take_again<'a, 'h>(
     heap: &'h LocalHeap,
@@ -95,7 +96,7 @@ fn take_again<'a, 'h>(
     }
 }
 
-// The same of each packet; and whether that is found.
+// Takes each packet, twice if memory is refused. Returns whether it was refused; `None` if the finding is missing.
 fn take_all<'h>(
     heap: &'h LocalHeap,
     left: usize,
@@ -114,7 +115,7 @@ fn take_all<'h>(
     }
 }
 
-// The same of the stream's end.
+// Ends the stream, twice if memory is refused. Returns whether it was refused; `None` if the finding is missing.
 fn finish_again(heap: &LocalHeap, left: usize, demux: &mut Demux<&LocalHeap>) -> Option<bool> {
     let block = fill(heap, left)?;
     let first = finish(demux);
@@ -152,7 +153,7 @@ const ENDED: Row = (
     )),
 );
 
-// How many of three packets and their end are refused. None where the findings are not there in the end.
+// Returns how many of three packets and their end are refused; `None` if the findings are not there in the end.
 fn refused_at(heap: &LocalHeap, left: usize, packets: &[[u8; 188]]) -> Option<u32> {
     let mut demux = Demux::new(heap);
     let taken = take_all(heap, left, &mut demux, packets);
@@ -174,8 +175,8 @@ fn refused_packets(alloc: Global) -> Option<u32> {
     Some(refused)
 }
 
-// The same packet by packet, with an end of the stream: what is refused changes nothing, and succeeds once there is
-// memory.
+// Tests the same packet by packet, with an end of the stream: a refusal changes nothing, and the call succeeds once
+// there is memory.
 #[test]
 fn refused_memory(rt: HostRuntime) {
     assert!(rt; is_nothing_lost(rt.alloc()) && 0 < refused_packets(rt.alloc()).unwrap_or(0));

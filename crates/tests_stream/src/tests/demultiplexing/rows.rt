@@ -1,6 +1,6 @@
 //! Findings as rows of plain values.
 
-use demux::{Finding, Kind, What};
+use pid_findings::{Finding, Kind, What};
 use std::alloc::Allocator;
 
 /// The kind of a finding, and its numbers.

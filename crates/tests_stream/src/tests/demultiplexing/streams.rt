@@ -2,7 +2,7 @@
 
 use super::rows::Row;
 use crate::tests::packets::{Packet, stream_of};
-use demux::Kind;
+use pid_findings::Kind;
 use std::alloc::Global;
 
 // A packet of PID 256 with a PES packet of three bytes, 41 42 43, with PTS 90,000, after stuffing; and with 44 for 43.
@@ -24,8 +24,8 @@ const OTHER: Packet = (
     ],
 );
 
-// A packet of PID 0 with a whole program association section; the first ten bytes of it, after stuffing; and the
-// others.
+// A packet of PID 0 with a whole program association section; a packet with its first ten bytes, after stuffing; and a
+// packet with the rest.
 pub const PAT: Packet = (
     &[
         0x47, 0x40, 0x00, 0x10, 0x00, 0x00, 0xB0, 0x0D, 0x00, 0x01, 0xC1, 0x00, 0x00, 0x00, 0x01,
@@ -69,7 +69,7 @@ pub const AGAIN: Packet = (
 );
 
 // The PES packet of PID 256 in a packet with the random_access_indicator; a PES packet of PID 257 without a length that
-// begins in such a packet; and a packet with it that goes on with the one of `AGAIN`.
+// begins in such a packet; and a packet with the indicator that continues the PES packet of `AGAIN`.
 const ACCESS: Packet = (
     &[0x47, 0x41, 0x00, 0x30, 0xA6, 0x40],
     0xFF,
@@ -107,7 +107,7 @@ const DAMAGED: [Packet; 6] = [
     (&[0x47, 0x40, 0x00, 0x12, 184, 0x00, 0xB0, 0x0D], 0xFF, &[]),
 ];
 
-// The PES packet of PID 256 where it begins in packet 0, in 1 and in 2.
+// The PES packet of PID 256 that begins in packet 0, in packet 1 and in packet 2.
 pub const PES_AT_0: Row = (
     0,
     Some(256),
@@ -216,7 +216,8 @@ pub static STREAMS: [Stream; 8] = [
             (5, Some(0), ("bad section", [5, 0, 0]), None),
         ],
     ),
-    // A PES packet without a length ends where the next begins, or with the stream; a packet of another PID ends none.
+    // A PES packet without a length ends at the next PES packet, or with the stream; a packet of another PID does not
+    // end it.
     (
         &[LONG, PES, MORE, AGAIN],
         0,
@@ -248,7 +249,7 @@ pub static STREAMS: [Stream; 8] = [
             ),
         ],
     ),
-    // A PES packet has the random_access_indicator of the packet in which it begins, wherever it ends.
+    // A PES packet has the random_access_indicator of its first packet, wherever it ends.
     (
         &[ACCESS, LONG_ACCESS, MORE, AGAIN, MORE_ACCESS],
         0,
@@ -291,7 +292,7 @@ pub static STREAMS: [Stream; 8] = [
             ),
         ],
     ),
-    // Payload that goes on where nothing has begun, and after a loss.
+    // Payload that continues nothing, at the start of a stream and after a loss.
     (
         &[MORE, PAT, SECOND],
         0,

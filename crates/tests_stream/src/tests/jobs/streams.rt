@@ -1,10 +1,10 @@
 //! Findings of streams that are made by hand: a finding a packet.
 
-use demux::{Finding, Kind, Part, What};
 use given_values::{ClockBase, DeclareBy};
 use job_inputs::{JobInput, job_input};
 use job_programs::JobOptions;
 use pes_packet::{PesFlags, PesHeader, Stamps};
+use pid_findings::{Finding, Kind, Part, What};
 use psi_tables::check_word;
 use std::alloc::{AllocError, Global};
 
@@ -33,7 +33,7 @@ pub fn usual() -> JobOptions<'static> {
     }
 }
 
-// One more finding.
+// Appends one more finding.
 fn add(pid: Option<u16>, what: What<'static>, found: &mut Found) -> Result<(), AllocError> {
     let packet = found.len() as u64;
     found.push(Finding {
@@ -51,7 +51,7 @@ fn add(pid: Option<u16>, what: What<'static>, found: &mut Found) -> Result<(), A
     Ok(())
 }
 
-// A section with its check word.
+// Appends a section with its check word.
 fn add_section(
     alloc: Global,
     pid: u16,
@@ -63,7 +63,7 @@ fn add_section(
     add(Some(pid), What::Section(Part::Joined(bytes)), found)
 }
 
-// A PES packet of `size` bytes with a PTS.
+// Appends a PES packet of `size` bytes with a PTS.
 fn add_unit(
     alloc: Global,
     pid: u16,
@@ -109,7 +109,7 @@ pub fn audio(alloc: Global, units: &[(u8, u64, usize)]) -> Result<Found, AllocEr
 // Programs 1 and 2 with their maps on PIDs 4096 and 4097.
 static TWO_PROGRAMS: [u8; 16] = [0, 0xb0, 17, 0, 1, 0xc1, 0, 0, 0, 1, 0xf0, 0, 0, 2, 0xf0, 1];
 
-// The map of a program with MPEG audio on a PID below 8192, and its clock references on another.
+// Returns the map of a program with MPEG audio on a PID below 8192, and its clock references on another.
 fn map(number: u8, references: u16, pid: u16) -> [u8; 17] {
     let [high, low] = (references | 0xe000).to_be_bytes();
     let [place, rest] = (pid | 0xe000).to_be_bytes();
@@ -118,7 +118,7 @@ fn map(number: u8, references: u16, pid: u16) -> [u8; 17] {
     ]
 }
 
-// Two units, the second 24 ms later.
+// Appends two units, the second 24 ms later.
 fn add_two_units(alloc: Global, pid: u16, pts: u64, found: &mut Found) -> Result<(), AllocError> {
     add_unit(alloc, pid, 192, pts, 100, found)?;
     add_unit(alloc, pid, 192, pts.saturating_add(2_160), 100, found)
@@ -140,12 +140,12 @@ pub fn two_programs(
     Ok(found)
 }
 
-// A copy of bytes that are found.
+// Returns a copy of bytes that are found.
 fn copied_part(alloc: Global, part: &Part<'_>) -> Result<Part<'static>, AllocError> {
     Ok(Part::Joined(Vec::from_slice(alloc, part.bytes())?))
 }
 
-// A copy of what is found.
+// Returns a copy of a finding's content.
 fn copied_what(alloc: Global, what: &What<'_>) -> Result<What<'static>, AllocError> {
     Ok(match what {
         What::Duplicate => What::Duplicate,

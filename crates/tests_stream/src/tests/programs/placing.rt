@@ -4,7 +4,7 @@ use linked_list_allocator::LocalHeap;
 use std::alloc::{AllocError, Allocator, Global};
 use stream_programs::{FoundProgram, FoundPrograms, FoundStream, ProgramPids, assigned_pids};
 
-// Programs with maps on these PIDs.
+// Returns programs with maps on these PIDs.
 fn programs_of<A: Allocator + Copy>(
     alloc: A,
     maps: &[u16],
@@ -21,7 +21,7 @@ fn programs_of<A: Allocator + Copy>(
     Ok(programs)
 }
 
-// Streams on these PIDs.
+// Returns streams on these PIDs.
 fn streams_of<A: Allocator + Copy>(
     alloc: A,
     pids: &[u16],
@@ -67,7 +67,7 @@ static ROWS: [(&[u16], &[u16], &[(u16, u16)]); 5] = [
     (&[], &[256], &[]),
 ];
 
-// Whether the places are these.
+// Returns whether the places are these.
 fn are_places(places: &[ProgramPids], wanted: &[(u16, u16)]) -> bool {
     let mut left = wanted;
     for place in places {
@@ -82,7 +82,7 @@ fn are_places(places: &[ProgramPids], wanted: &[(u16, u16)]) -> bool {
     left.is_empty()
 }
 
-// Whether the programs are placed so; none where no PID is left.
+// Returns whether the programs are placed so; `None` if no PID is left.
 fn is_placed<A: Allocator + Copy>(
     alloc: A,
     found: &FoundPrograms<A>,
@@ -95,7 +95,7 @@ fn is_placed<A: Allocator + Copy>(
     }
 }
 
-// The same of programs and streams on these PIDs.
+// Returns whether programs and streams on these PIDs get the expected PIDs.
 fn are_placed<A: Allocator + Copy>(
     alloc: A,
     maps: &[u16],
@@ -115,7 +115,7 @@ fn are_rows(alloc: Global) -> bool {
     true
 }
 
-// A stream on each PID from 256 on leaves none for a clock; one less leaves 256.
+// A stream on each PID from 256 on leaves no PID for a clock; one stream fewer leaves 256.
 fn is_last_pid(alloc: Global) -> bool {
     let Ok(pids) = (256..8191u16).collect::<Vec<u16>>(alloc) else {
         return false;
@@ -124,7 +124,7 @@ fn is_last_pid(alloc: Global) -> bool {
         && are_placed(alloc, &[32], &pids[1..], &[(32, 256)]) == Ok(Some(true))
 }
 
-// In how many of 48 heaps of rising size there is not enough memory. None where the programs get other PIDs in one.
+// Returns in how many of 48 heaps of rising size memory runs out; `None` if the programs of any heap get other PIDs.
 fn refusals(alloc: Global) -> Option<u32> {
     let mut refused = 0u32;
     for n in 0..48usize {

@@ -4,7 +4,7 @@ use dvb_texts::decode_text;
 use linked_list_allocator::LocalHeap;
 use std::alloc::{AllocError, Allocator, Global};
 
-// Coded texts, the most bytes that they may take, and what is read of them.
+// Coded texts, their greatest size in bytes, and the text that should be read.
 static ROWS: [(&[u8], usize, &str); 17] = [
     (b"Service01", 100, "Service01"),
     (b"", 0, ""),
@@ -14,7 +14,7 @@ static ROWS: [(&[u8], usize, &str); 17] = [
     // The default table: an accent before its letter, an ogonek before a letter that has none, and emphasis on and off.
     (b"\xc2e\x86BBC\x87 \xa4 \xcew", 100, "éBBC € ?"),
     (b"\x15\xff", 100, "?"),
-    // Other tables: Cyrillic, Turkish, parts by number, two bytes a character, one that is not read.
+    // Other tables: Cyrillic, Turkish, parts by number, two bytes a character, and a table that is not read.
     (b"\x01\xbf\xe0 1", 100, "Пр 1"),
     (b"\x05D\xfcsseldorf \xf0", 100, "Düsseldorf ğ"),
     (b"\x10\x00\x0fCaf\xe9 \xa4", 100, "Café €"),
@@ -24,13 +24,13 @@ static ROWS: [(&[u8], usize, &str); 17] = [
     (b"\x10A", 100, "A"),
     // No control characters.
     (b"a\x01b\x7fc\xc2\x85d\xc2\xa0", 100, "abcd\u{a0}"),
-    // Cut: plain texts need no mark, others do.
+    // Cut texts: a plain text needs no mark, any other text does.
     (b"plain text", 5, "plain"),
     (b"not-plain", 4, "not"),
     (b"a\xc3\xa9\xc3\xa9", 5, "aé"),
 ];
 
-// Whether these bytes are read so.
+// Returns whether these bytes are read so.
 fn is_read<A: Allocator + Copy>(
     alloc: A,
     bytes: &[u8],
@@ -52,7 +52,7 @@ fn are_read(alloc: Global) -> bool {
     true
 }
 
-// In how many of 16 heaps of rising size there is not enough memory. None where another text is read in one.
+// Returns in how many of 16 heaps of rising size memory runs out; `None` if any heap gives another text.
 fn refusals(alloc: Global) -> Option<u32> {
     let mut refused = 0u32;
     for n in 0..16usize {

@@ -18,7 +18,7 @@ static FOUR: [(u64, u64, usize); 4] = [
     (190_800, 190_800, 170),
 ];
 
-// The most packets of `group` units in a row.
+// Returns the most packets of `group` units in a row.
 fn group_packets(alloc: Global, units: &[Unit], group: u8) -> Option<u64>
     requires { group ≤ 64 }
 {
@@ -26,14 +26,14 @@ fn group_packets(alloc: Global, units: &[Unit], group: u8) -> Option<u64>
     Some(packets.of_group(group))
 }
 
-// The packets of their least burst at a pace.
+// Returns the packets of their least burst at a pace.
 fn burst_packets(alloc: Global, units: &[Unit], pace: u32) -> Option<u64> {
     let runs = UnitRuns::of_units(alloc, 0, units).ok()?;
     Some(runs.burst_packets(pace))
 }
 
-// Whether that is what a stream declares of them. A packet takes 3,600 units of 90 kHz at 37,600 bits a second, and a
-// little less than 3,599 at 37,611.
+// Returns whether a stream declares the expected packets of these units. A packet takes 3,600 units of 90 kHz at 37,600
+// bits a second, and a little less than 3,599 at 37,611.
 fn is_declared(alloc: Global, units: &[Unit]) -> bool {
     min_interval(units) == 3_599
         && max_unit_size(units) == 340
@@ -43,7 +43,7 @@ fn is_declared(alloc: Global, units: &[Unit]) -> bool {
         && burst_packets(alloc, units, 37_611) == Some(2)
 }
 
-// What is declared, and why a queue refuses one of the units: the third is due 3,599 after the second.
+// Declarations, and why a queue refuses a unit under each: the third unit is due 3,599 after the second.
 static DECLARED: [(Allowance, Option<FeedError>); 4] = [
     (
         Allowance::Groups {
@@ -75,7 +75,7 @@ static DECLARED: [(Allowance, Option<FeedError>); 4] = [
     ),
 ];
 
-// A queue that declares it.
+// Returns a queue that declares it.
 fn queue_of(alloc: Global, allowance: Allowance) -> Option<UnitQueue<Global>> {
     if allowance.rows() == 0 {
         return None;
@@ -102,7 +102,7 @@ fn fed(queue: &mut UnitQueue<Global>, unit: Unit) -> Option<FeedError> {
     }
 }
 
-// Why the last of the units that the queue refuses is refused.
+// Returns why the last of the units that the queue refuses is refused.
 fn refusal_of(queue: &mut UnitQueue<Global>, units: Vec<Unit>) -> Option<FeedError> {
     let mut refused = None;
     for unit in units {
@@ -111,7 +111,7 @@ fn refusal_of(queue: &mut UnitQueue<Global>, units: Vec<Unit>) -> Option<FeedErr
     refused
 }
 
-// Whether a queue that declares it gives this refusal of the units.
+// Returns whether a queue that declares it gives this refusal of the units.
 fn is_fed(alloc: Global, allowance: Allowance, wanted: Option<FeedError>) -> bool {
     let (Some(mut queue), Some(Ok(units))) = (queue_of(alloc, allowance), moved(alloc, 0, &FOUR))
     else {
@@ -122,7 +122,7 @@ fn is_fed(alloc: Global, allowance: Allowance, wanted: Option<FeedError>) -> boo
     is_well
 }
 
-// One unit, and none.
+// A single unit, and no unit.
 fn are_few(alloc: Global) -> bool {
     let Some(Ok(units)) = moved(alloc, 0, &[(5, 5, 170)]) else {
         return false;

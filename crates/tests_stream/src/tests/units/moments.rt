@@ -11,8 +11,8 @@ use std::alloc::Global;
 // The range of stamps, 2^33.
 const RANGE: u64 = 8_589_934_592;
 
-// The first DTS of a stream, those of two others, and the constant: the least first DTS comes at 180,000, whichever
-// stream has it and wherever 2^33 lies.
+// The first DTS of a stream, the first DTS of two further streams, and the constant: the least first DTS is moved to
+// 180,000, whichever stream has it and wherever 2^33 lies.
 static CONSTANTS: [(u64, [u64; 2], u64); 5] = [
     (1_000_000, [1_000_000, 1_000_001], 820_000),
     (1_000_000, [999_000, 999_500], 819_000),
@@ -30,7 +30,7 @@ fn are_constants() -> bool {
     distance(RANGE - 1, 1) == 2 && distance(1, RANGE - 1) == RANGE - 2
 }
 
-// The moments of units.
+// Returns the moments of units.
 fn moments_of(
     alloc: Global,
     constant: u64,
@@ -40,7 +40,7 @@ fn moments_of(
     Some(found_moments(alloc, 90_000, constant % RANGE, &found))
 }
 
-// Units of these stamps and sizes, at their moments. None where there is no memory for them.
+// Returns units of these stamps and sizes, at their moments; `None` if memory runs out.
 pub fn moved(
     alloc: Global,
     constant: u64,
@@ -109,7 +109,7 @@ static REFUSED: [(u64, u64, StampFault); 5] = [
     ),
 ];
 
-// Whether the third of three units is refused so.
+// Returns whether the third of three units is refused so.
 fn is_refused(alloc: Global, dts: u64, pts: u64, fault: StampFault) -> bool {
     let stamps = [(3_600, 3_600, 1), (7_200, 97_200, 1), (dts, pts, 1)];
     match moved(alloc, 0, &stamps) {
@@ -132,7 +132,7 @@ fn stamps_and_moments(rt: HostRuntime) {
     assert!(rt; are_constants() && are_across(rt.alloc()) && are_refused(rt.alloc()));
 }
 
-// The first DTS of six pictures of 25 a second in the order in which they are decoded, across the end of the range.
+// The first DTS of six pictures, 25 a second, in the order of decoding, across the end of the range.
 const FIRST: u64 = RANGE - 10_000;
 
 // Their PTS, and after that first DTS the DTS of each: 3,600 before the earliest that a PTS allows.
@@ -145,7 +145,7 @@ static PICTURES: [(u64, u64); 6] = [
     ((FIRST + 18_000) % RANGE, 18_000),
 ];
 
-// Units of these PTS, of one byte.
+// Returns units of these PTS, of one byte.
 fn shown(alloc: Global) -> Option<Vec<WireUnit>> {
     let mut units = Vec::new(alloc);
     for (shown, _) in &PICTURES {
@@ -172,7 +172,7 @@ fn are_made(units: &[FoundUnit<'_>]) -> bool {
     left.is_empty()
 }
 
-// The DTS that are made of them.
+// Returns whether the DTS made from the PTS are as expected.
 fn are_pictures(alloc: Global, units: &[WireUnit]) -> bool {
     let Some(found) = lent(alloc, units) else {
         return false;
@@ -183,7 +183,7 @@ fn are_pictures(alloc: Global, units: &[WireUnit]) -> bool {
     }
 }
 
-// The PTS of which no DTS are made.
+// PTS that give no DTS, and why.
 static UNMADE: [([u64; 3], DtsFault); 2] = [
     ([7_200, 3_600, 7_200], DtsFault::SamePts(7_200)),
     (

@@ -12,7 +12,7 @@ pub fn answer(reader: u8, bytes: &[u8]) -> usize {
     }
 }
 
-/// Returns the byte at a place, 255 where there is none.
+/// Returns the byte at a place, 255 if there is none.
 fn byte(bytes: &[u8], at: usize) -> u8 {
     match bytes.get(at) {
         Some(byte) => *byte,
@@ -20,13 +20,13 @@ fn byte(bytes: &[u8], at: usize) -> u8 {
     }
 }
 
-/// Returns the number of 12 bits at a place: past the end of all these inputs where they have none.
+/// Returns the number of 12 bits at a place: past the end of all these inputs if they have none.
 fn count(bytes: &[u8], at: usize) -> usize {
     let next = at.saturating_add(1);
     (byte(bytes, at) as usize % 16) * 256 + byte(bytes, next) as usize
 }
 
-/// Returns the number of the first cause that holds, else the other one.
+/// Returns the number of the first cause that holds; otherwise `other`.
 fn first(causes: &[(bool, usize)], other: usize) -> usize {
     for (holds, number) in causes {
         if *holds {
@@ -86,7 +86,7 @@ fn packet(bytes: &[u8]) -> usize {
     )
 }
 
-/// Returns the place after the flagged parts of an adaptation field, each with its length where it has one.
+/// Returns the place after the flagged parts of an adaptation field, each with its length if it has one.
 fn after_parts(bytes: &[u8]) -> usize {
     let flags = byte(bytes, 5);
     let mut place = 6_usize;
@@ -153,7 +153,7 @@ fn after(bytes: &[u8], at: usize) -> usize {
     count(bytes, at).saturating_add(at).saturating_add(2)
 }
 
-/// Returns whether a body is that of its table: the lengths in it end where they have to.
+/// Returns whether a body is the body of its table: its lengths end where they have to.
 fn table(table_id: u8, body: &[u8]) -> usize {
     let network = after(body, 0);
     let is_whole = match table_id {

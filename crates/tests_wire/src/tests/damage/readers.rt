@@ -1,4 +1,4 @@
-//! What each reader answers, as a number: 100 and the bytes that are read, or the number of the refusal.
+//! The answer of each reader, as a number: 100 and the bytes that are read, or the number of the refusal.
 
 use crate::tests::packet_of;
 use dvb_tables::{EitPf, Nit, Sdt, Tdt};
@@ -56,7 +56,7 @@ pub fn section_over(table_id: u8, body: &[u8]) -> Section<'_> {
     }
 }
 
-/// Returns the number of the refusal of a section by the reader of a table, 0 where it is read.
+/// Returns the number of the refusal of a section by the reader of a table, 0 if it is read.
 pub fn table_code(table_id: u8, section: &Section<'_>) -> u8 {
     let refusal = match table_id {
         0x00 => Pat::read(section).err(),

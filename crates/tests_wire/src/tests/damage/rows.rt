@@ -100,8 +100,8 @@ pub static REFUSED: [(u8, &[u8], usize); 35] = [
 /// The readers of tables.
 pub static READERS: [u8; 6] = [0x00, 0x02, 0x40, 0x42, 0x4e, 0x70];
 
-/// Sections, and the number of the refusal by the reader of their table_id, 0 where they are read. The last three have
-/// the short form.
+/// Sections, and the number of the refusal by the reader of their table_id, 0 if they are read. The last three have the
+/// short form.
 pub static TABLES: [(&[u8], u8); 15] = [
     (PAT, 0),
     (PMT, 0),

@@ -24,7 +24,8 @@ fn reads_to_the_end(rt: HostRuntime) {
     assert!(rt; parts_read() == [true; 6]);
 }
 
-/// Returns a read that fails after `bytes` bytes: its answer, what it read, the count of faults, what is left.
+/// Returns whether a read fails after `bytes` bytes as it should: its answer, the bytes read, the count of faults, the
+/// bytes that remain.
 fn read_after(bytes: u8) -> [bool; 4] {
     let taken = bytes as usize;
     let mut input = Counted::new(Failing::after_bytes(&TEXT[..], bytes as u64));
@@ -37,7 +38,7 @@ fn read_after(bytes: u8) -> [bool; 4] {
     ]
 }
 
-/// Returns whether of six reads of a byte those before the failing call, and no other, are answered with a byte.
+/// Returns whether six reads of a byte are answered with a byte before the failing call, and only then.
 fn read_in_calls(calls: u64) -> bool {
     let mut input = Counted::new(Failing::after_calls(&TEXT[..], calls));
     let mut byte = [0; 1];
@@ -54,7 +55,7 @@ fn read_in_calls(calls: u64) -> bool {
     Source::faults(&input) == 6 - calls.min(6)
 }
 
-/// A write that fails after `bytes` bytes: its answer, the count of faults, what was written.
+/// Returns whether a write fails after `bytes` bytes as it should: its answer, the count of faults, the bytes written.
 fn written_after(bytes: u8) -> [bool; 3] {
     let taken = bytes as usize;
     let mut output = Counted::new(Failing::after_bytes(ArrayVec::<u8, 8>::new(), bytes as u64));
@@ -68,7 +69,7 @@ fn written_after(bytes: u8) -> [bool; 3] {
     ]
 }
 
-/// Returns whether of six writes of a byte those before the failing call, and no other, are done.
+/// Returns whether six writes of a byte are done before the failing call, and only then.
 fn written_in_calls(calls: u64) -> bool {
     let mut output = Counted::new(Failing::after_calls(ArrayVec::<u8, 8>::new(), calls));
     for turn in 0..6u64 {
@@ -94,7 +95,7 @@ fn devices_fail_after_each_byte_and_call(rt: HostRuntime) {
     }
 }
 
-/// A writer with room for four bytes is at fault with the fifth, and with no part of no bytes.
+/// Returns whether a writer with room for four bytes fails at the fifth, and never at an empty part.
 fn written_to_the_end() -> [bool; 7] {
     let mut output = Counted::new(ArrayVec::<u8, 4>::new());
     [

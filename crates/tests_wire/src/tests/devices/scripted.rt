@@ -59,8 +59,8 @@ const READ_PART: u8 = 5;
 
 const WRITE_PART: u8 = 6;
 
-/// Returns the answer of a call with eight bytes as a number: how many are read or written, or 100 and those before
-/// the fault.
+/// Returns the answer of a call with eight bytes as a number: how many are read or written; if the call fails, 100 and
+/// the bytes before the fault.
 fn call(device: &mut Counted<Scripted>, kind: u8) -> usize {
     let mut part = [7; 8];
     match kind {
@@ -90,8 +90,8 @@ fn number(answer: io::Result<usize>) -> usize {
     }
 }
 
-/// A kind of call, the device's answers, what four calls answer with the count of faults after each, and the device's
-/// calls.
+/// A kind of call, the device's answers, the answers of four calls with the count of faults after each, and the
+/// device's calls.
 type Row = (u8, [Option<usize>; 3], [(usize, u64); 4], usize);
 
 const ONE_FAILS: [Option<usize>; 3] = [Some(2), None, Some(3)];

@@ -93,7 +93,7 @@ fn is_sdt_written(alloc: Global) -> bool {
         && sdt.services.byte_length() == 13
 }
 
-/// Returns what is read of ffmpeg's service.
+/// Returns whether a service is read as ffmpeg's.
 fn is_station(service: &Service<'_>) -> bool {
     [
         service.service_id == 3,
@@ -105,7 +105,7 @@ fn is_station(service: &Service<'_>) -> bool {
     ] == [true; 6]
 }
 
-/// Returns whether it stands alone in its SDT.
+/// Returns whether ffmpeg's service is the only one in its SDT; none if the SDT is not read.
 fn has_station(bytes: &[u8]) -> Option<bool> {
     let section = section(bytes)?;
     let sdt = Sdt::read(&section).ok()?;

@@ -40,7 +40,7 @@ fn texts(rt: HostRuntime) {
     assert!(rt; Text::<0>::new("").is_ok());
 }
 
-/// An event of the name "News" at this time.
+/// Returns an event of the name "News" at this time.
 fn news(start: u64, duration: u32) -> Result<Event, TextError>
     requires { duration < 360_000 }
 {

@@ -4,7 +4,7 @@ use Rattle.std.proofs.lemmas.List.{drop_more}
 use Rattle.es_view.specs.declared.stream_entry.StreamEntry.{StreamEntry}
 use Rattle.es_view.specs.Entries.{is_good}
 use Rattle.ts_report.proofs.Entries.{Unjudged, all_good, one_bad, one_good}
-use Rattle.es_view.proofs.Joins.{drop_past}
+use Rattle.es_events.proofs.Joins.{drop_past}
 use Rattle.ts_report.proofs.stream_table.are_good.Goals as goal
 
 pub returns-then-not-is_good : goal.returns-then-not-is_good

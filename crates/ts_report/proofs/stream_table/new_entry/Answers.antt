@@ -1,6 +1,6 @@
 use Rattle.std.proofs.Common.{◌∙◌, ℕ, refl, subst, sym}
 use Rattle.tstd_rows.specs.HeldVideo.{HoldsVideoOf}
-use Rattle.es_view.specs.VideoFigures.{sizes_if}
+use Rattle.es_events.specs.VideoFigures.{sizes_if}
 use Rattle.ts_report.proofs.NewFramings.{new_held, new_tally}
 use Rattle.arrival.specs.Arrivals.{step_of}
 use Rattle.tstd_rows.specs.Held.{Held, IsHeld, empty}

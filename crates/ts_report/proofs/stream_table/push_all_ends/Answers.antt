@@ -4,7 +4,7 @@ use Rattle.std.proofs.lemmas.List.{drop_more}
 use Rattle.es_view.specs.declared.stream_entry.StreamEntry.{StreamEntry}
 use Rattle.es_view.specs.Entries.{end_events}
 use Rattle.ts_report.proofs.Entries.{Ahead, all_written, one_written}
-use Rattle.es_view.proofs.Joins.{drop_past}
+use Rattle.es_events.proofs.Joins.{drop_past}
 use Rattle.ts_report.proofs.stream_table.push_all_ends.Goals as goal
 
 pub loop-entry-preserved : goal.loop-entry-preserved

@@ -1,7 +1,7 @@
 use Rattle.std.proofs.Common.{◌≡◌, ◌∙◌, ◌+◌, Option, None, Some, map, drop, sym, ap, rules}
 use Rattle.std.specs.Prelude.{option_map}
 use Rattle.std.specs.Option.{option_or}
-use Rattle.demux.specs.Shown.{finding_view}
+use Rattle.pid_findings.specs.Shown.{finding_view}
 use Rattle.ts_services.specs.NetworkInformation.{FoundNetworkView, found_network_view, first_network}
 use Rattle.ts_services.specs.declared.network_information.FoundNetwork.{FoundNetwork}
 use Rattle.ts_services.proofs.NetworkSteps.{first_more, first_end}

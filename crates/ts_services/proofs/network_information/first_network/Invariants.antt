@@ -1,5 +1,5 @@
 use Rattle.std.proofs.Common.{◌≡◌, drop, map}
-use Rattle.demux.specs.Shown.{finding_view}
+use Rattle.pid_findings.specs.Shown.{finding_view}
 use Rattle.ts_services.specs.NetworkInformation.{first_network}
 use Rattle.ts_services.proofs.network_information.first_network.Given as goal
 

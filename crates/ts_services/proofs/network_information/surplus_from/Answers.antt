@@ -1,6 +1,6 @@
 use Rattle.std.proofs.Common.{◌≡◌, ◌∙◌, sym, true, false, rules}
 use Rattle.std.specs.Prelude.{option_map}
-use Rattle.demux.specs.Shown.{finding_view}
+use Rattle.pid_findings.specs.Shown.{finding_view}
 use Rattle.ts_services.specs.NetworkInformation.{found_network_view}
 use Rattle.ts_services.proofs.NetworkSteps.{surplus_later, surplus_here, surplus_end}
 use Rattle.ts_services.proofs.network_information.surplus_from.Goals as goal

@@ -1,6 +1,6 @@
 use Rattle.std.proofs.Common.{◌≡◌, ◌∙◌, ℕ, ◌+◌, Option, None, map, drop, sym, ap, rules}
 use Rattle.std.specs.Option.{option_or}
-use Rattle.demux.specs.Shown.{finding_view}
+use Rattle.pid_findings.specs.Shown.{finding_view}
 use Rattle.ts_services.specs.Networks.{network}
 use Rattle.ts_services.proofs.FirstNetworks.{network_more, network_end}
 use Rattle.ts_services.proofs.networks.original_network.Goals as goal

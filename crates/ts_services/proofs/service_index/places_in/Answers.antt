@@ -1,6 +1,6 @@
 use Rattle.std.proofs.Common.{◌∙◌, Option, ap, sym}
 use Rattle.dvb_tables.specs.ServiceDescription.{SdtView}
-use Rattle.demux.specs.Shown.{finding_view}
+use Rattle.pid_findings.specs.Shown.{finding_view}
 use Rattle.ts_services.specs.ServicePlaces.{with_table}
 use Rattle.ts_services.proofs.ServicePlaces.{services_more, services_end}
 use Rattle.ts_services.proofs.service_index.places_in.Goals as goal

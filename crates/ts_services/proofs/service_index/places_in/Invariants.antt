@@ -1,5 +1,5 @@
 use Rattle.std.proofs.Common.{◌≡◌, [], drop, map}
-use Rattle.demux.specs.Shown.{finding_view}
+use Rattle.pid_findings.specs.Shown.{finding_view}
 use Rattle.ts_services.specs.ServicePlaces.{services_from}
 use Rattle.ts_services.proofs.service_index.places_in.Given as goal
 

@@ -1,6 +1,6 @@
 use Rattle.std.proofs.Common.{◌≡◌, ◌∙◌, None, refl, sym, map, rules}
 use Rattle.std.specs.Option.{option_or}
-use Rattle.demux.specs.Shown.{finding_view}
+use Rattle.pid_findings.specs.Shown.{finding_view}
 use Rattle.ts_services.specs.Services.{service, found_service_view}
 use Rattle.program_tables.proofs.LastMaps.{or_none}
 use Rattle.ts_services.proofs.LastServices.{says_nothing, service_more, service_end}

@@ -1,7 +1,7 @@
 use Rattle.std.proofs.Common.{◌≡◌, ◌∙◌, sym, true, false, Global, map, List, rules}
 use Rattle.psi_tables.specs.declared.pat.programs.Program.{Program}
-use Rattle.demux.specs.Shown.{finding_view}
-use Rattle.demux.specs.Views.{FindingView}
+use Rattle.pid_findings.specs.Shown.{finding_view}
+use Rattle.pid_findings.specs.Views.{FindingView}
 use Rattle.ts_tables.proofs.MappedPrograms.{mapped_more, mapped_all, not_all}
 use Rattle.ts_tables.proofs.mapped.mapped_from.Goals as goal
 

@@ -1,5 +1,5 @@
 use Rattle.std.proofs.Common.{◌≡◌, true, map, take}
-use Rattle.demux.specs.Shown.{finding_view}
+use Rattle.pid_findings.specs.Shown.{finding_view}
 use Rattle.ts_tables.specs.NamedStreams.{have_maps}
 use Rattle.ts_tables.proofs.mapped.mapped_from.Given as goal
 

@@ -1,5 +1,5 @@
 use Rattle.std.proofs.Common.{Global, map}
-use Rattle.demux.specs.Shown.{finding_view}
+use Rattle.pid_findings.specs.Shown.{finding_view}
 use Rattle.ts_tables.proofs.MappedPrograms.{mapped_are, named_are}
 use Rattle.ts_tables.proofs.mapped.mapped_programs.Goals as goal
 

@@ -1,7 +1,7 @@
 use Rattle.std.proofs.Common.{◌≡◌, ◌∙◌, Global, map, List, Some, ap, sym, true, false, rules}
 use Rattle.psi_tables.specs.declared.pat.programs.Program.{Program}
-use Rattle.demux.specs.Shown.{finding_view}
-use Rattle.demux.specs.Views.{FindingView}
+use Rattle.pid_findings.specs.Shown.{finding_view}
+use Rattle.pid_findings.specs.Views.{FindingView}
 use Rattle.stream_programs.specs.Programs.{FoundProgramsView, programs_of}
 use Rattle.ts_tables.proofs.MappedPrograms.{known_streams}
 use Rattle.ts_tables.proofs.named_streams.streams_by.Goals as goal

@@ -1,6 +1,6 @@
 use Rattle.std.proofs.Common.{◌∙◌, Global, ap, subst, map, List}
-use Rattle.demux.specs.Shown.{finding_view}
-use Rattle.demux.specs.Views.{FindingView}
+use Rattle.pid_findings.specs.Shown.{finding_view}
+use Rattle.pid_findings.specs.Views.{FindingView}
 use Rattle.ts_tables.specs.Mapped.{AreTables}
 use Rattle.ts_tables.specs.NamedStreams.{streams_at}
 use Rattle.ts_tables.proofs.MappedPrograms.{first_part, taken}

@@ -1,7 +1,7 @@
 use Rattle.std.proofs.Common.{rules, map, sym}
 use Rattle.std.proofs.lemmas.List.Edits.{map_over_more}
 use Rattle.std.proofs.lemmas.List.{take_all, drop_all}
-use Rattle.demux.specs.Shown.{finding_view}
+use Rattle.pid_findings.specs.Shown.{finding_view}
 use Rattle.ts_tables.specs.ServiceNames.{NameState, with_later}
 use Rattle.ts_tables.proofs.service_names.take_each.Goals as goal
 

@@ -1,5 +1,5 @@
 use Rattle.std.proofs.Common.{◌≡◌, ◌++◌, map, take, drop}
-use Rattle.demux.specs.Shown.{finding_view}
+use Rattle.pid_findings.specs.Shown.{finding_view}
 use Rattle.ts_tables.specs.ServiceNames.{with_later}
 use Rattle.ts_tables.proofs.service_names.take_each.Given as goal
 

@@ -1,7 +1,7 @@
 use Rattle.std.proofs.Common.{ap, map, subst, sym, true}
-use Rattle.demux.specs.Bodies.{AddsHeaders}
-use Rattle.demux.specs.Findings.{ended}
-use Rattle.demux.specs.Shown.{finding_view, with_pid}
+use Rattle.demux.specs.StreamBodies.{AddsHeaders}
+use Rattle.pid_findings.specs.Findings.{ended}
+use Rattle.pid_findings.specs.Shown.{finding_view, with_pid}
 use Rattle.tsmux_cli.proofs.HeaderLines.{faults_after, lines_after}
 use Rattle.tsmux_cli.proofs.demultiplexing.list_end_of_pid.Goals as goal
 

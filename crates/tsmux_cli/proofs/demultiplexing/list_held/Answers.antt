@@ -1,6 +1,6 @@
 use Rattle.std.proofs.Common.{ap, map, subst, sym}
-use Rattle.demux.specs.Bodies.{AddsHeaders}
-use Rattle.demux.specs.Shown.{finding_view}
+use Rattle.demux.specs.StreamBodies.{AddsHeaders}
+use Rattle.pid_findings.specs.Shown.{finding_view}
 use Rattle.demux.specs.Stream.{held_found}
 use Rattle.tsmux_cli.proofs.HeaderLines.{faults_after}
 use Rattle.tsmux_cli.proofs.demultiplexing.list_held.Goals as goal

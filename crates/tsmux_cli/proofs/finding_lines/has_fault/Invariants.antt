@@ -1,5 +1,5 @@
 use Rattle.std.proofs.Common.{◌≡◌, drop, map}
-use Rattle.demux.specs.Shown.{finding_view}
+use Rattle.pid_findings.specs.Shown.{finding_view}
 use Rattle.tsmux_cli.specs.FindingLines.{has_fault}
 use Rattle.tsmux_cli.proofs.finding_lines.has_fault.Given as goal
 

@@ -1,5 +1,5 @@
 use Rattle.std.proofs.Common.{◌≡◌, ◌++◌, drop, map}
-use Rattle.demux.specs.Shown.{finding_view}
+use Rattle.pid_findings.specs.Shown.{finding_view}
 use Rattle.tsmux_cli.specs.FindingLines.{finding_lines}
 use Rattle.tsmux_cli.proofs.finding_lines.write_findings.Given as goal
 

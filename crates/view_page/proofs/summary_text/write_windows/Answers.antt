@@ -1,7 +1,7 @@
 use Rattle.std.proofs.Common.{string_bytes}
 use Rattle.std.specs.Prelude.{codes}
-use Rattle.page_charts.specs.Numbers.{grouped}
-use Rattle.page_charts.proofs.Texts.{two}
+use Rattle.page_curves.specs.Numbers.{grouped}
+use Rattle.page_curves.proofs.Texts.{two}
 use Rattle.view_page.specs.SummaryText as spec
 use Rattle.view_page.proofs.summary_text.write_windows.Goals as goal
 

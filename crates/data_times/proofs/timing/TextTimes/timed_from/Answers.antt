@@ -1,6 +1,6 @@
 use Rattle.std.proofs.Common.{◌≡◌, ◌∙◌, ◌∷◌, [], map, ap, rules}
 use Rattle.std.proofs.lemmas.List.{map-append}
-use Rattle.demux.specs.Shown.{finding_view}
+use Rattle.pid_findings.specs.Shown.{finding_view}
 use Rattle.data_times.specs.DataTimes.{moment_on, passed, timed_finding, timed_from}
 use Rattle.data_times.proofs.PassedFindings.{timed_end, timed_more}
 use Rattle.data_times.proofs.timing.TextTimes.timed_from.Goals as goal

@@ -1,5 +1,5 @@
 use Rattle.std.proofs.Common.{◌≡◌, ◌++◌, length, map}
-use Rattle.demux.specs.Shown.{finding_view}
+use Rattle.pid_findings.specs.Shown.{finding_view}
 use Rattle.data_times.specs.DataTimes.{timed_from}
 use Rattle.data_times.proofs.timing.TextTimes.timed_from.Given as goal
 

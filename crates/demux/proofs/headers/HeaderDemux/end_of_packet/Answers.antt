@@ -1,6 +1,6 @@
 use Rattle.std.proofs.Common.{map, subst, OnOk}
-use Rattle.demux.specs.Bodies.{AddsHeaders}
-use Rattle.demux.specs.Shown.{finding_view}
+use Rattle.demux.specs.StreamBodies.{AddsHeaders}
+use Rattle.pid_findings.specs.Shown.{finding_view}
 use Rattle.demux.specs.Stream.{StreamState, held_found}
 use Rattle.demux.proofs.HeaderSteps.{ok_besides}
 use Rattle.demux.proofs.headers.HeaderDemux.end_of_packet.Goals as goal

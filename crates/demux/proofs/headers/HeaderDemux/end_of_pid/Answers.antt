@@ -1,8 +1,8 @@
 use Rattle.std.proofs.Common.{◌≡◌, ℕ, Some, map, slice_get, subst, true, OnOk}
-use Rattle.demux.specs.Bodies.{AddsHeaders}
-use Rattle.demux.specs.Findings.{ended}
-use Rattle.demux.specs.Machine.{PidState}
-use Rattle.demux.specs.Shown.{finding_view, with_pid}
+use Rattle.demux.specs.StreamBodies.{AddsHeaders}
+use Rattle.pid_findings.specs.Findings.{ended}
+use Rattle.pid_findings.specs.Machine.{PidState}
+use Rattle.pid_findings.specs.Shown.{finding_view, with_pid}
 use Rattle.demux.specs.Stream.{StreamState}
 use Rattle.demux.proofs.HeaderSteps.{ends_besides}
 use Rattle.demux.proofs.headers.HeaderDemux.end_of_pid.Goals as goal

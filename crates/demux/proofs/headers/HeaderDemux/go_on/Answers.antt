@@ -1,6 +1,6 @@
 use Rattle.std.proofs.Common.{◌≡◌, ◌∙◌, [], ap, refl, subst}
 use Rattle.demux.specs.Stream.{StreamState, found_in}
-use Rattle.demux.specs.Bodies.{headers_taken}
+use Rattle.demux.specs.StreamBodies.{headers_taken}
 use Rattle.demux.proofs.HeaderSteps.{none_found, taken_besides}
 use Rattle.demux.proofs.headers.HeaderDemux.go_on.Goals as goal
 

@@ -1,6 +1,6 @@
 use Rattle.std.proofs.Common.{◌∙◌, ap}
 use Rattle.demux.specs.Stream.{StreamState}
-use Rattle.demux.specs.Bodies.{headers_pushed}
+use Rattle.demux.specs.StreamBodies.{headers_pushed}
 use Rattle.demux.proofs.HeaderSteps.{pushed_besides}
 use Rattle.demux.proofs.headers.HeaderDemux.push.Goals as goal
 

@@ -1,7 +1,7 @@
 use Rattle.std.proofs.Common.{◌≡◌, ◌∙◌, [], ap, subst}
 use Rattle.ts_packet.specs.Packets.{null_packet}
 use Rattle.demux.specs.Stream.{StreamState, found_in}
-use Rattle.demux.specs.Bodies.{headers_taken}
+use Rattle.demux.specs.StreamBodies.{headers_taken}
 use Rattle.demux.proofs.HeaderSteps.{none_found, taken_besides}
 use Rattle.demux.proofs.headers.HeaderDemux.skip.Goals as goal
 

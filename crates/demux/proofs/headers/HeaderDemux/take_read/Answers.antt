@@ -1,7 +1,7 @@
 use Rattle.std.proofs.Common.{◌∙◌, ap, map, subst}
-use Rattle.demux.specs.Shown.{finding_view}
+use Rattle.pid_findings.specs.Shown.{finding_view}
 use Rattle.demux.specs.Stream.{StreamState, found_in}
-use Rattle.demux.specs.Bodies.{AddsHeaders, headers_taken}
+use Rattle.demux.specs.StreamBodies.{AddsHeaders, headers_taken}
 use Rattle.demux.proofs.HeaderSteps.{found_besides, taken_besides}
 use Rattle.demux.proofs.headers.HeaderDemux.take_read.Goals as goal
 

@@ -1,7 +1,7 @@
 use Rattle.std.proofs.Common.{◌≡◌, [], subst}
-use Rattle.demux.specs.GoingOn.{plain_entry}
+use Rattle.pid_findings.specs.GoingOn.{plain_entry}
 use Rattle.demux.specs.Stream.{States, state_of, with_state}
-use Rattle.demux.specs.Machine as machine
+use Rattle.pid_findings.specs.Machine as machine
 use Rattle.demux.proofs.MapSteps.{state_at, stayed, went_on}
 use Rattle.demux.proofs.states.States.go_on.Goals as goal
 

@@ -3,9 +3,9 @@ use Rattle.std.specs.Prelude.{position, slice_get}
 use Rattle.std.specs.Map.{keys_of, lookup, values_of}
 use Rattle.pid_map.specs.PidMaps.{PidEntries}
 use Rattle.demux.specs.Stream.{States, state_of, with_state}
-use Rattle.demux.specs.Machine as machine
-use Rattle.demux.specs.Machine.{PidState}
-use Rattle.demux.specs.Shown.{entry_with}
+use Rattle.pid_findings.specs.Machine as machine
+use Rattle.pid_findings.specs.Machine.{PidState}
+use Rattle.pid_findings.specs.Shown.{entry_with}
 use Rattle.demux.proofs.MapSteps.{state_at, stepped, unstepped}
 use Rattle.demux.proofs.states.States.step.Goals as goal
 

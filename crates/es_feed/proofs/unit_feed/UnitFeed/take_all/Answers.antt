@@ -1,5 +1,5 @@
 use Rattle.std.proofs.Common.{◌++◌, map}
-use Rattle.demux.specs.Shown.{finding_view}
+use Rattle.pid_findings.specs.Shown.{finding_view}
 use Rattle.fed_streams.specs.Feeding.{after_all, fed_all}
 use Rattle.fed_streams.proofs.FedUnits.{after_step, after_end, fed_step, fed_end}
 use Rattle.es_feed.proofs.unit_feed.UnitFeed.take_all.Goals as goal

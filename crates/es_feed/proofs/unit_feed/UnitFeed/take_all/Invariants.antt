@@ -1,5 +1,5 @@
 use Rattle.std.proofs.Common.{◌≡◌, ◌++◌, drop, map}
-use Rattle.demux.specs.Shown.{finding_view}
+use Rattle.pid_findings.specs.Shown.{finding_view}
 use Rattle.fed_streams.specs.Feeding.{after_all, fed_all}
 use Rattle.es_feed.proofs.unit_feed.UnitFeed.take_all.Given as goal
 

@@ -1,5 +1,5 @@
 use Rattle.std.proofs.Common.{◌≡◌, ◌<◌, ◌++◌, ◌∙◌, None, List, length, sym, ap, rules, arith}
-use Rattle.demux.specs.Shown.{finding_view}
+use Rattle.pid_findings.specs.Shown.{finding_view}
 use Rattle.fed_streams.specs.Feeding.{FedStreamView, FeedView, due_of, place_from, after_unit, fed_unit, seen_in}
 use Rattle.fed_streams.proofs.FedUnits.{no_place_after, no_place_fed, no_place_seen, placed_after, placed_fed, placed_seen}
 use Rattle.es_feed.proofs.unit_feed.UnitFeed.take_unit.Goals as goal

@@ -1,5 +1,5 @@
 use Rattle.std.proofs.Common.{◌≡◌, ◌<◌, ◌-◌, ℕ, None, Some, map, length, subst, arith, rules}
-use Rattle.demux.specs.Shown.{finding_view}
+use Rattle.pid_findings.specs.Shown.{finding_view}
 use Rattle.es_units.specs.PidPlaces.{pids_in}
 use Rattle.es_units.proofs.PidPlaces.{AreLinksFrom, long, pid_at, links_before, links_taken, links_passed, links_whole}
 use Rattle.es_units.proofs.pid_links.PidLinks.new.Goals as goal

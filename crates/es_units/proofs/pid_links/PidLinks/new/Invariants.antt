@@ -1,5 +1,5 @@
 use Rattle.std.proofs.Common.{◌≤◌, length, map}
-use Rattle.demux.specs.Shown.{finding_view}
+use Rattle.pid_findings.specs.Shown.{finding_view}
 use Rattle.es_units.specs.PidPlaces as spec
 use Rattle.es_units.proofs.PidPlaces.{AreLinksFrom}
 use Rattle.es_units.proofs.pid_links.PidLinks.new.Given as goal

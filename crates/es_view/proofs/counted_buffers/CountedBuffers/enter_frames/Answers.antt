@@ -2,7 +2,7 @@ use Rattle.std.proofs.Common.{◌≡◌, ◌+◌, List, ◌∷◌, ◌++◌, dro
 use Rattle.std.proofs.lemmas.List.{drop_more}
 use Rattle.sound_frames.specs.declared.frame_walk.FramePart.{FramePart}
 use Rattle.es_view.specs.EntryFrames.{frames_after, frames_events}
-use Rattle.es_view.proofs.Joins.{drop_past}
+use Rattle.es_events.proofs.Joins.{drop_past}
 use Rattle.es_view.proofs.Frames.{Settled, SettledVideo, all_entered, all_of_video, all_written, no_part, one_entered, one_of_video}
 use Rattle.es_view.proofs.counted_buffers.CountedBuffers.enter_frames.Goals as goal
 

@@ -1,4 +1,4 @@
-use Rattle.es_view.proofs.Videos.{none_leaks, some_leaks}
+use Rattle.es_view.proofs.Leaks.{none_leaks, some_leaks}
 use Rattle.es_view.proofs.counted_buffers.CountedBuffers.leak_under_way.Goals as goal
 
 pub returns-in-None : goal.returns-in-None

@@ -3,14 +3,12 @@ use Rattle.std.specs.Prelude.{unwrap_or}
 use Rattle.ts_packet.specs.Views.{packet_view}
 use Rattle.sound_frames.specs.FrameWalks.{WalkView, walk_after}
 use Rattle.tstd_rows.specs.Entering.{after}
-use Rattle.tstd_rows.specs.EnteringVideo.{video_of, video_unit_of}
 use Rattle.tstd_rows.specs.HeldVideo.{HoldsVideoOf}
 use Rattle.tstd_rows.specs.declared.arriving.Arriving.{Arriving}
 use Rattle.events.specs.declared.event.Event.{Event}
-use Rattle.es_view.specs.declared.video_tally.VideoTally.{VideoTally}
-use Rattle.es_view.specs.EntryFrames.{AreCounted, Counted, FramedPayload, payload_after, payload_view, walk_in, whole_after, whole_events}
+use Rattle.es_events.specs.declared.video_tally.VideoTally.{VideoTally}
+use Rattle.es_view.specs.EntryFrames.{AreCounted, Counted, FramedPayload, payload_after, payload_view, video_counted, walk_in, whole_after, whole_events}
 use Rattle.es_view.specs.Entries.{arriving, arriving_at, beginning_in, is_unread, payload_at, payload_of}
-use Rattle.es_view.specs.VideoTallies.{with_video}
 use Rattle.es_view.proofs.Framings.{counted_of, framed_counted, framed_entered, framed_found, framed_video, has_frames, no_frames, whole_counted, whole_entered}
 use Rattle.es_view.proofs.Framings.{whole_found, whole_video}
 use Rattle.es_view.proofs.Payloads.{alike_after, alike_events}
@@ -41,8 +39,8 @@ returns-in_ok-enter_whole-in-None-clause-entry c = λ e k.
     let holds = subst (λ (x : Arriving). HoldsVideoOf c.enter_whole.new.self.buffers e.video (after e.held options.arrival x)) same
     (c.in_ok-enter_whole-in-None.ensures.video n e.video is video) in
     let tallied = c.in_ok-enter_whole-in-None.ensures.tally n e.video is video
-    ∙ ap (λ (t : VideoTally). with_video t (video_of e.video e.held options.arrival a) (video_unit_of e.video e.held options.arrival a)) k.video_tally
-    ∙ ap (λ (x : Arriving). with_video e.video_tally (video_of e.video e.held options.arrival x) (video_unit_of e.video e.held options.arrival x)) same in
+    ∙ ap (λ (t : VideoTally). video_counted t e.video e.held options.arrival a) k.video_tally
+    ∙ ap (λ (x : Arriving). video_counted e.video_tally e.video e.held options.arrival x) same in
     whole_entered entry _ options index c.args.window clock e packet k none refl refl refl c.in-None.is refl refl counted holds tallied
 
 pub returns-in_ok-enter_whole-in-None-clause-found : goal.returns-in_ok-enter_whole-in-None-clause-found

@@ -1,20 +1,20 @@
 use Rattle.std.proofs.Common.{◌≡◌, ◌∙◌, ℕ, List, ◌++◌, Option, refl, ap, ap₂, is_some, if◌then◌else◌}
 use Rattle.ts_packet.specs.Views.{packet_view}
+use Rattle.tstd_rows.specs.Held.{Held}
 use Rattle.tstd_rows.specs.declared.busy_watch.Stay.{Stay}
 use Rattle.events.specs.declared.event.Event.{Event}
 use Rattle.events.specs.declared.rule_event.BufferKind.{BufferKind}
-use Rattle.es_view.specs.declared.clocks.Beginning.{Beginning}
-use Rattle.es_view.specs.declared.counted_buffers.BusySeen.{BusySeen}
-use Rattle.es_view.specs.declared.entry_events.Place.{Place}
-use Rattle.es_view.specs.EntryEvents.{ahead_events}
-use Rattle.es_view.specs.EntryFrames.{busy_seen, stays_ended}
-use Rattle.es_view.specs.EntryStays.{delayed_events}
+use Rattle.es_events.specs.declared.clocks.Beginning.{Beginning}
+use Rattle.es_events.specs.declared.entry_events.Place.{Place}
+use Rattle.es_events.specs.EntryEvents.{ahead_events}
+use Rattle.es_view.specs.EntryFrames.{busy_seen, counts_of, stays_ended}
+use Rattle.es_events.specs.EntryStays.{delayed_events}
 use Rattle.es_view.specs.Entries.{IsEntry, ahead_by, beginning_in, counter_after, entry_entered, events_entered, held_after, last_buffer, place_at, seen_held}
 use Rattle.es_view.specs.Entries.{unit_stay}
-use Rattle.es_view.specs.MarkTallies.{with_beginning}
-use Rattle.es_view.specs.Tallies.{more}
+use Rattle.es_events.specs.MarkTallies.{with_beginning}
+use Rattle.es_events.specs.Tallies.{more}
 use Rattle.es_view.proofs.Framings.{entered_held, entry_counted}
-use Rattle.es_view.proofs.Joins.{four}
+use Rattle.es_events.proofs.Joins.{four}
 use Rattle.es_view.proofs.stream_entry.StreamEntry.take.Goals as goal
 
 pub returns-clause-entry : goal.returns-clause-entry
@@ -48,10 +48,9 @@ returns-clause-found c = λ e k.
     let place : c.place-place.result ≡ place_at index e = c.place-place.ensures e k in
     let ahead : c.ahead_by.result ≡ ahead_by clock (beginning_in e.counter packet) = c.ahead_by.ensures ∙ ap (ahead_by clock) beginning in
     let buffer : c.last_buffer-buffer.result ≡ last_buffer e.video = c.last_buffer-buffer.ensures (seen_held e) e.video k.video in
-    let before : c.busy-before.result ≡ busy_seen e.video (seen_held e) = c.busy-before.ensures (seen_held e) e.video k.held k.video in
-    let after : c.busy.result ≡ busy_seen e.video (held_after options index clock e packet e.framed) =
-    c.busy.ensures (seen_held (entry_entered options index c.args.window clock e packet)) e.video s.held s.video
-    ∙ ap (busy_seen e.video) (entered_held options index c.args.window clock e packet) in
+    let held : Held = seen_held (entry_entered options index c.args.window clock e packet) in
+    let before : c.busy_counts-before.result ≡ counts_of (busy_seen e.video (seen_held e)) =
+    c.busy_counts-before.ensures (seen_held e) e.video k.held k.video in
     let t0 : List Event = c.args.events.now.items in
     let t1 : List Event = c.push_ahead_if.new.events.items in
     let t2 : List Event = c.push_delayed_if.new.events.items in
@@ -67,7 +66,8 @@ returns-clause-found c = λ e k.
     c.in_ok-enter.ensures.found e k ∙ ap (λ (p : Place). t2 ++ events_entered options index clock p e packet e.framed) place in
     let fourth : t4 ≡ t3
     ++ stays_ended options (place_at index e) (busy_seen e.video (seen_held e)) (busy_seen e.video (held_after options index clock e packet e.framed)) =
-    c.in_ok-push_stays.ensures
-    ∙ ap (λ (p : Place). t3 ++ stays_ended options p c.busy-before.result c.busy.result) place
-    ∙ ap₂ (λ (x y : BusySeen). t3 ++ stays_ended options (place_at index e) x y) before after in
+    c.in_ok-push_stays.ensures held (seen_held e) e.video before s.held s.video
+    ∙ ap (λ (p : Place). t3 ++ stays_ended options p (busy_seen e.video (seen_held e)) (busy_seen e.video held)) place
+    ∙ ap (λ (h : Held). t3 ++ stays_ended options (place_at index e) (busy_seen e.video (seen_held e)) (busy_seen e.video h))
+    (entered_held options index c.args.window clock e packet) in
     four t0 t1 t2 t3 t4 _ _ _ _ first second third fourth

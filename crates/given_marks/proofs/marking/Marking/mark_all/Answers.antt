@@ -1,5 +1,5 @@
 use Rattle.std.proofs.Common.{◌∙◌, ap, map, sym, arith}
-use Rattle.demux.specs.Shown.{finding_view}
+use Rattle.pid_findings.specs.Shown.{finding_view}
 use Rattle.given_marks.specs.Marking.{all_marked, marked}
 use Rattle.given_marks.proofs.MarkedFindings.{marked_more, marked_whole}
 use Rattle.given_marks.proofs.marking.Marking.mark_all.Goals as goal

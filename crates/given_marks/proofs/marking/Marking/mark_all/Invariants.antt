@@ -1,5 +1,5 @@
 use Rattle.std.proofs.Common.{◌≡◌, ◌++◌, map, take, drop}
-use Rattle.demux.specs.Shown.{finding_view}
+use Rattle.pid_findings.specs.Shown.{finding_view}
 use Rattle.given_marks.specs.Marking.{all_marked}
 use Rattle.given_marks.proofs.marking.Marking.mark_all.Given as goal
 

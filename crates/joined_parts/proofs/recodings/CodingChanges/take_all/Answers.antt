@@ -1,5 +1,5 @@
 use Rattle.std.proofs.Common.{◌≡◌, ◌∙◌, rules}
-use Rattle.demux.specs.Shown.{finding_view}
+use Rattle.pid_findings.specs.Shown.{finding_view}
 use Rattle.joined_parts.specs.Recodings.{with_codings_of}
 use Rattle.joined_parts.proofs.MapLists.{codings_all, codings_next}
 use Rattle.joined_parts.proofs.recodings.CodingChanges.take_all.Goals as goal

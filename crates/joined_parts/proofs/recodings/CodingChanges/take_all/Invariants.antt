@@ -1,5 +1,5 @@
 use Rattle.std.proofs.Common.{◌≡◌, drop, map}
-use Rattle.demux.specs.Shown.{finding_view}
+use Rattle.pid_findings.specs.Shown.{finding_view}
 use Rattle.joined_parts.specs.Recodings.{codings_after}
 use Rattle.joined_parts.proofs.recodings.CodingChanges.take_all.Given as goal
 

@@ -1,5 +1,5 @@
 use Rattle.std.proofs.Common.{◌≡◌, drop, map}
-use Rattle.demux.specs.Shown.{finding_view}
+use Rattle.pid_findings.specs.Shown.{finding_view}
 use Rattle.monitor.specs.FindingStates.{all_noted}
 use Rattle.monitor.proofs.finding_watch.FindingWatch.note_all.Given as goal
 

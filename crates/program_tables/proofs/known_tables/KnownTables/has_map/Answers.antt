@@ -1,5 +1,5 @@
 use Rattle.std.proofs.Common.{◌∙◌, ap, map}
-use Rattle.demux.specs.Shown.{finding_view}
+use Rattle.pid_findings.specs.Shown.{finding_view}
 use Rattle.program_tables.specs.KnownTables.{KnownView}
 use Rattle.program_tables.proofs.KnownSteps.{places_known}
 use Rattle.program_tables.proofs.known_tables.KnownTables.has_map.Goals as goal

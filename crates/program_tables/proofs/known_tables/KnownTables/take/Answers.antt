@@ -1,5 +1,5 @@
 use Rattle.std.proofs.Common.{◌∙◌, sym, ap, map, drop}
-use Rattle.demux.specs.Shown.{finding_view}
+use Rattle.pid_findings.specs.Shown.{finding_view}
 use Rattle.program_tables.specs.KnownTables.{KnownView, known_from}
 use Rattle.program_tables.proofs.KnownSteps.{known_more, known_end, known_on}
 use Rattle.program_tables.proofs.known_tables.KnownTables.take.Goals as goal

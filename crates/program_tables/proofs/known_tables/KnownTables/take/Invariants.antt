@@ -1,5 +1,5 @@
 use Rattle.std.proofs.Common.{◌≡◌, drop, map}
-use Rattle.demux.specs.Shown.{finding_view}
+use Rattle.pid_findings.specs.Shown.{finding_view}
 use Rattle.program_tables.specs.KnownTables.{known_from}
 use Rattle.program_tables.proofs.known_tables.KnownTables.take.Given as goal
 

@@ -5,12 +5,12 @@ use Rattle.std.proofs.lemmas.Option.{slice_get_past, slice_get_read}
 use Rattle.arrival.specs.declared.clock.PcrSample.{PcrSample}
 use Rattle.ts_packet.specs.Views.{packet_view}
 use Rattle.events.specs.declared.event.Event.{Event}
-use Rattle.es_view.specs.Clocks.{clock_of}
+use Rattle.es_events.specs.Clocks.{clock_of}
 use Rattle.es_view.specs.Entries.{IsEntry, entry_after, entry_events}
 use Rattle.ts_report.specs.StreamTables.{AreEntries, TableState}
 use Rattle.ts_report.proofs.Entries.{none_at, set_at, some_at}
 use Rattle.ts_report.proofs.Tables.{events_none, events_some, taken_none, taken_some}
-use Rattle.es_view.proofs.Joins.{on_ok}
+use Rattle.es_events.proofs.Joins.{on_ok}
 use Rattle.ts_report.proofs.stream_table.StreamTable.take.Goals as goal
 
 pub returns-in_default-get_mut-clause-table : goal.returns-in_default-get_mut-clause-table

@@ -3,7 +3,7 @@ use Rattle.ts_packet.specs.Views.{packet_view}
 use Rattle.ts_watch.specs.Choices.{ChoiceView}
 use Rattle.ts_report.specs.Seen.{SeenState, clock_errors, counted, next_window, system_excesses}
 use Rattle.ts_report.specs.Views.{IsView, buffer_events_at, clocked, last_window, system_events_at}
-use Rattle.es_view.proofs.Joins.{on_ok, four}
+use Rattle.es_events.proofs.Joins.{on_ok, four}
 use Rattle.ts_report.proofs.view.View.count.Goals as goal
 
 pub count-requires : goal.count-requires

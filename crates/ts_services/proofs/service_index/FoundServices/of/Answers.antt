@@ -1,6 +1,6 @@
 use Rattle.std.proofs.Common.{◌∙◌, ℕ, List, Option, ap, map, nat_eq}
 use Rattle.std.specs.Map.{lookup}
-use Rattle.demux.specs.Shown.{finding_view}
+use Rattle.pid_findings.specs.Shown.{finding_view}
 use Rattle.ts_services.specs.Services.{service}
 use Rattle.ts_services.specs.ServicePlaces.{service_there}
 use Rattle.ts_services.proofs.ServicePlaces.{services_are_there}

@@ -1,5 +1,5 @@
 use Rattle.std.proofs.Common.{◌++◌, map}
-use Rattle.demux.specs.Shown.{finding_view}
+use Rattle.pid_findings.specs.Shown.{finding_view}
 use Rattle.ts_watch.specs.TableEvents.{findings_events, with_findings}
 use Rattle.ts_watch.proofs.Sections.{events_end, events_step, times_end, times_step}
 use Rattle.ts_watch.proofs.table_watch.TableTimes.take_all.Goals as goal

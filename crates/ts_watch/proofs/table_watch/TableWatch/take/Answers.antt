@@ -1,11 +1,11 @@
 use Rattle.std.proofs.Common.{◌≡◌, ◌∙◌, ◌++◌, List, ap, map}
-use Rattle.demux.specs.Bodies.{all_without_body}
-use Rattle.demux.specs.Shown.{finding_view}
+use Rattle.pid_findings.specs.Bodies.{all_without_body}
+use Rattle.pid_findings.specs.Shown.{finding_view}
 use Rattle.demux.specs.Stream.{found_in}
-use Rattle.demux.specs.Views.{FindingView}
+use Rattle.pid_findings.specs.Views.{FindingView}
 use Rattle.ts_watch.specs.TableEvents.{TablesState, packet_events, with_packet}
 use Rattle.ts_watch.proofs.TablePackets.{added_to_none, packet_passed, packet_writes, taken_takes}
-use Rattle.es_view.proofs.Joins.{on_ok}
+use Rattle.es_events.proofs.Joins.{on_ok}
 use Rattle.ts_watch.proofs.table_watch.TableWatch.take.Goals as goal
 
 pub invariant_of-self-2 : goal.invariant_of-self-2

@@ -1,9 +1,9 @@
 use Rattle.std.proofs.Common.{◌∙◌, ap}
 use Rattle.fault_pictures.specs.TracePictures as pictures
-use Rattle.page_charts.specs.PidLabels.{LabelsState}
-use Rattle.view_page.specs.PageLabels as labels
+use Rattle.page_curves.specs.PidLabels.{LabelsState}
+use Rattle.view_rows.specs.PageLabels as labels
 use Rattle.view_page.specs.Pages.{IsPage, PageState}
-use Rattle.view_page.specs.Rows as rows
+use Rattle.view_rows.specs.Rows as rows
 use Rattle.view_page.specs.Services as services
 use Rattle.view_page.specs.Values as values
 use Rattle.view_page.proofs.page.Page.take.Goals as goal

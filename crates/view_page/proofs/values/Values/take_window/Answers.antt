@@ -1,8 +1,8 @@
 use Rattle.std.proofs.Common.{◌≡◌, ◌∙◌, ◌+◌, ◌-◌, ◌^◌, List, ap, max, min, subst}
 use Rattle.events.specs.Windows.{WindowView}
-use Rattle.page_charts.specs.Curves.{sample}
-use Rattle.page_charts.specs.PidCurves.{AreCurves, KeptCurve, opened, with_sample}
-use Rattle.view_page.specs.Cells.{short}
+use Rattle.page_curves.specs.Curves.{sample}
+use Rattle.page_curves.specs.PidCurves.{AreCurves, KeptCurve, opened, with_sample}
+use Rattle.view_rows.specs.Cells.{short}
 use Rattle.view_page.specs.Values.{name_of}
 use Rattle.view_page.proofs.Events.{on_ok}
 use Rattle.view_page.proofs.values.Values.take_window.Goals as goal

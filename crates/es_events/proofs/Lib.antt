@@ -1,0 +1,2 @@
+pub mod Videos
+pub mod Joins

@@ -1,0 +1,11 @@
+pub mod Bounds
+pub mod Slots
+pub mod Curves
+pub mod Laws
+pub mod Numbers
+pub mod PidLabels
+pub mod Scale
+pub mod TimeScale
+pub mod Frames
+pub mod Paths
+pub mod PidCurves

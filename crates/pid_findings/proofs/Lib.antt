@@ -1,0 +1,13 @@
+pub mod Lists
+pub mod SectionWalk
+pub mod DecidedBytes
+pub mod OpenUnits
+pub mod MachineRun
+pub mod ShortReads
+pub mod FoundViews
+pub mod LeastSizes
+pub mod HeadedUnits
+pub mod GoingOn
+pub mod HeaderFronts
+pub mod Bodies
+pub mod LeftOut

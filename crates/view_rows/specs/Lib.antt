@@ -1,0 +1,10 @@
+pub mod HtmlTexts
+pub mod PageLabels
+pub mod Cells
+pub mod RowCells
+pub mod MarkCells
+pub mod SummaryCells
+pub mod InputCells
+pub mod FaultRows
+pub mod RowTexts
+pub mod Rows

@@ -1,0 +1,173 @@
+-- The cells of the row of each event that has one.
+use Rattle.std.specs.Prelude.{ℕ, List, [], ◌∷◌, Option, Some, None}
+use Rattle.events.specs.declared.check_counts.CheckTotals.{CheckTotals}
+use Rattle.events.specs.declared.check_counts.Untold.{Untold}
+use Rattle.events.specs.declared.check_counts.Untold.TheVariants as reasons
+use Rattle.events.specs.declared.event.BufferExcess.{BufferExcess}
+use Rattle.events.specs.declared.event.ClockFault.{ClockFault}
+use Rattle.events.specs.declared.event.ClockTotals.{ClockTotals}
+use Rattle.events.specs.declared.event.FarAhead.{FarAhead}
+use Rattle.events.specs.declared.event.LateUnit.{LateUnit}
+use Rattle.events.specs.declared.event.MainTotals.{MainTotals}
+use Rattle.events.specs.declared.event.PidTotals.{PidTotals}
+use Rattle.events.specs.declared.event.ProgramExcess.{ProgramExcess}
+use Rattle.events.specs.declared.event.StreamBegin.{StreamBegin}
+use Rattle.events.specs.declared.event.SystemTotals.{SystemTotals}
+use Rattle.events.specs.declared.event.TableFault.{TableFault}
+use Rattle.events.specs.declared.event.TableTotals.{TableTotals}
+use Rattle.events.specs.declared.event.TransportTotals.{TransportTotals}
+use Rattle.events.specs.declared.event.UnclockedPackets.{UnclockedPackets}
+use Rattle.events.specs.declared.packet_fault.CheckWordFault.{CheckWordFault}
+use Rattle.events.specs.declared.packet_fault.CounterFault.{CounterFault}
+use Rattle.events.specs.declared.packet_fault.RefusalCause.{RefusalCause}
+use Rattle.events.specs.declared.packet_fault.RefusalCause.TheVariants as causes
+use Rattle.events.specs.declared.packet_fault.RefusedPacket.{RefusedPacket}
+use Rattle.events.specs.declared.video_event.ElementaryLate.{ElementaryLate}
+use Rattle.events.specs.declared.video_event.LateCause.{LateCause}
+use Rattle.events.specs.declared.video_event.LateCause.TheVariants as late_causes
+use Rattle.events.specs.declared.video_event.ElementaryTotals.{ElementaryTotals}
+use Rattle.events.specs.declared.video_event.MultiplexingTotals.{MultiplexingTotals}
+use Rattle.view_rows.specs.declared.cells.Cell.{Cell}
+use Rattle.view_rows.specs.declared.cells.Cell.TheVariants.{Number, Checked, Bar, Word, CheckNumber, CheckName, Carried, Program}
+use Rattle.view_rows.specs.declared.cells.CellUnit.TheVariants.{Same, Ticks}
+use Rattle.view_rows.specs.declared.cells.CellWord.{CellWord}
+use Rattle.view_rows.specs.declared.cells.CellWord.TheVariants as words
+use Rattle.view_rows.specs.Cells.{limit_if, short}
+
+-- cells for a stream, after its PID and what the PID carries
+abbrev pub stream_cells : StreamBegin → List Cell
+stream_cells e =
+    Number e.stream_type Same ∷ Number e.rx Same ∷ Number e.main Same ∷ []
+
+-- cells for a transport buffer
+abbrev pub transport_cells : TransportTotals → List Cell
+transport_cells e =
+    Number e.pid Same ∷ Carried e.pid ∷ Word words.Transport ∷ Number e.size Same ∷ Checked (short e.most) (Some e.size) Same
+    ∷ Bar (short e.most) (Some e.size) ∷ Checked (short e.excesses) (Some 0) Same ∷ Word words.Nothing ∷ Word words.Nothing ∷ Word words.Nothing ∷ []
+
+-- cells for a main buffer
+abbrev pub main_cells : MainTotals → List Cell
+main_cells e =
+    Number e.pid Same ∷ Carried e.pid ∷ Word words.Main ∷ Number e.size Same ∷ Checked e.most (Some e.size) Same ∷ Bar e.most (Some e.size)
+    ∷ Checked (short e.excesses) (Some 0) Same ∷ Number e.units Same ∷ Checked e.late (Some 0) Same ∷ Checked e.unread (Some 0) Same ∷ []
+
+-- cells for the two buffers of video
+abbrev pub multiplexing_cells : MultiplexingTotals → List Cell
+multiplexing_cells e =
+    Number e.pid Same ∷ Carried e.pid ∷ Word words.Multiplexing ∷ Number e.size Same ∷ Checked (short e.most) (Some e.size) Same
+    ∷ Bar (short e.most) (Some e.size) ∷ Checked (short e.excesses) (Some 0) Same ∷ Word words.Nothing ∷ Word words.Nothing ∷ Word words.Nothing ∷ []
+
+abbrev pub elementary_cells : ElementaryTotals → List Cell
+elementary_cells e =
+    Number e.pid Same ∷ Carried e.pid ∷ Word words.Elementary ∷ Number e.size Same ∷ Checked e.most (Some e.size) Same ∷ Bar e.most (Some e.size)
+    ∷ Checked (short e.excesses) (Some 0) Same ∷ Number e.units Same ∷ Checked e.late (Some 0) Same ∷ Word words.Nothing ∷ []
+
+-- cells for the buffers of a program's tables
+abbrev pub system_cells : SystemTotals → List Cell
+system_cells e =
+    Program e.program ∷ Checked (short e.transport) (Some e.transport_size) Same ∷ Bar (short e.transport) (Some e.transport_size)
+    ∷ Checked (short e.transport_excesses) (Some 0) Same ∷ Checked (short e.main) (Some e.main_size) Same
+    ∷ Bar (short e.main) (Some e.main_size) ∷ Checked (short e.main_excesses) (Some 0) Same ∷ []
+
+-- cells for clock references
+abbrev pub clock_cells : ClockTotals → List Cell
+clock_cells e =
+    Number e.pid Same ∷ Number e.references Same ∷ Number e.announced Same ∷ Number (short e.rate) Same
+    ∷ Checked (short e.interval) (Some 2700000) Ticks ∷ Bar (short e.interval) (Some 2700000) ∷ Checked (short e.inaccuracy) (Some 500) Same
+    ∷ Bar (short e.inaccuracy) (Some 500) ∷ []
+
+-- cells for a table
+abbrev pub table_cells : TableTotals → List Cell
+table_cells e =
+    Number e.pid Same ∷ Number e.table Same ∷ Number e.sections Same ∷ Checked (short e.interval) (limit_if e.limit) Ticks
+    ∷ Number e.limit Ticks ∷ Bar (short e.interval) (limit_if e.limit) ∷ []
+
+-- cells for a PID
+abbrev pub pid_cells : PidTotals → List Cell
+pid_cells e =
+    Number e.number Same ∷ Carried e.number ∷ Number e.packets Same ∷ Number e.pcrs Same ∷ []
+
+-- cells for an excess of a buffer
+abbrev pub excess_cells : CellWord → BufferExcess → List Cell
+excess_cells word e =
+    Word word ∷ Number e.pid Same ∷ Number e.packet Same ∷ Number (short e.peak) Same ∷ Number e.size Same ∷ Word words.Bytes ∷ []
+
+-- cells for an excess of a buffer of tables
+abbrev pub program_excess_cells : CellWord → ProgramExcess → List Cell
+program_excess_cells word e =
+    Word word ∷ Program e.program ∷ Number e.packet Same ∷ Number (short e.peak) Same ∷ Number e.size Same ∷ Word words.Bytes ∷ []
+
+-- cells for a late unit
+abbrev pub late_cells : LateUnit → List Cell
+late_cells e =
+    Word words.LateUnit ∷ Number e.pid Same ∷ Number e.packet Same ∷ Number (short e.by) Ticks ∷ Word words.Nothing ∷ Word words.Millis ∷ []
+
+-- cells for a unit that is late in the elementary stream buffer, and why
+unfoldable pub late_word : LateCause → CellWord
+late_word late_causes.Multiplex = words.LateByMultiplex
+late_word late_causes.FullBuffer = words.LateByFullBuffer
+
+abbrev pub elementary_late_cells : ElementaryLate → List Cell
+elementary_late_cells e =
+    Word (late_word e.cause) ∷ Number e.pid Same ∷ Number e.packet Same ∷ Number (short e.by) Ticks ∷ Word words.Nothing ∷ Word words.Millis ∷ []
+
+-- cells for a unit too far ahead
+abbrev pub ahead_cells : FarAhead → List Cell
+ahead_cells e =
+    Word words.FarAhead ∷ Number e.pid Same ∷ Number e.packet Same ∷ Number e.by Ticks ∷ Number e.limit Ticks ∷ Word words.Millis ∷ []
+
+-- cells for a clock reference whose time is wrong
+abbrev pub clock_time_cells : CellWord → ClockFault → List Cell
+clock_time_cells word e =
+    Word word ∷ Number e.pid Same ∷ Number e.packet Same ∷ Number (short e.value) Ticks ∷ Number e.limit Ticks ∷ Word words.Millis ∷ []
+
+-- cells for an inaccurate clock reference
+abbrev pub clock_place_cells : ClockFault → List Cell
+clock_place_cells e =
+    Word words.PcrAccuracy ∷ Number e.pid Same ∷ Number e.packet Same ∷ Number (short e.value) Same ∷ Number e.limit Same ∷ Word words.Nanos ∷ []
+
+-- cells for a section that begins too late
+abbrev pub table_fault_cells : TableFault → List Cell
+table_fault_cells e =
+    Word words.TableRepetition ∷ Number e.pid Same ∷ Number e.packet Same ∷ Number (short e.value) Ticks ∷ Number e.limit Ticks
+    ∷ Word words.Millis ∷ []
+
+-- cells for packets without a moment
+abbrev pub unclocked_cells : UnclockedPackets → List Cell
+unclocked_cells e =
+    Word words.Unclocked ∷ Word words.Nothing ∷ Number e.packet Same ∷ Number e.packets Same ∷ Word words.Nothing ∷ Word words.Packets ∷ []
+
+-- cells for a PID and a word
+abbrev pub reference_cells : CellWord → ℕ → List Cell
+reference_cells word pid = Number pid Same ∷ Word word ∷ []
+
+-- cells for a packet that is refused
+unfoldable pub cause_word : RefusalCause → CellWord
+cause_word causes.SyncByte = words.SyncByte
+cause_word causes.Header = words.RefusedHeader
+cause_word causes.TransportError = words.TransportError
+
+abbrev pub refused_cells : RefusedPacket → List Cell
+refused_cells e =
+    Word (cause_word e.cause) ∷ Word words.Nothing ∷ Number e.packet Same ∷ Word words.Nothing ∷ Word words.Nothing ∷ Word words.Nothing ∷ []
+
+-- cells for a continuity_counter that does not follow
+abbrev pub continuity_cells : CounterFault → List Cell
+continuity_cells e =
+    Word words.Continuity ∷ Number e.pid Same ∷ Number e.packet Same ∷ Number e.found Same ∷ Number e.expected Same ∷ Word words.Nothing ∷ []
+
+-- cells for a section with a wrong check word
+abbrev pub check_word_cells : CheckWordFault → List Cell
+check_word_cells e =
+    Word words.CheckWord ∷ Number e.pid Same ∷ Number e.packet Same ∷ Word words.Nothing ∷ Word words.Nothing ∷ Word words.Nothing ∷ []
+
+-- how often a check failed, with a mark if it did, or why it can't be made
+unfoldable pub result_cell : Option Untold → ℕ → Cell
+result_cell None faults = Checked faults (Some 0) Same
+result_cell (Some reasons.NoClock) faults = Word words.NoClock
+result_cell (Some reasons.VariableRate) faults = Word words.RateVaries
+
+-- cells for a check
+abbrev pub check_cells : CheckTotals → List Cell
+check_cells e =
+    CheckNumber e.check ∷ CheckName e.check ∷ result_cell e.untold e.count.faults ∷ Number e.count.first Same ∷ Number e.count.last Same ∷ []

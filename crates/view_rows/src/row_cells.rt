@@ -1,0 +1,376 @@
+//! The cells of the row of each event that has one.
+ghost use Rattle.std.specs.Prelude.{◌≡◌};
+ghost use Rattle.view_rows.specs.RowCells as spec;
+
+use crate::cells::{Cell, CellUnit, CellWord, limit_if, short};
+use events::{
+    BufferExcess, CheckTotals, CheckWordFault, ClockFault, ClockTotals, CounterFault,
+    ElementaryLate, ElementaryTotals, FarAhead, LateCause, LateUnit, MainTotals,
+    MultiplexingTotals, PidTotals, ProgramExcess, RefusalCause, RefusedPacket, StreamBegin,
+    SystemTotals, TableFault, TableTotals, TransportTotals, UnclockedPackets, Untold,
+};
+
+/// Returns the cells of a stream, after its PID and what that carries.
+pub(crate) fn stream_cells(e: &StreamBegin) -> [Cell; 3]
+    ensures { result ≡ spec.stream_cells e.now }
+{
+    [
+        Cell::Number(u64::from(e.stream_type), CellUnit::Same),
+        Cell::Number(u64::from(e.rx), CellUnit::Same),
+        Cell::Number(u64::from(e.main), CellUnit::Same),
+    ]
+}
+
+/// Returns the cells of a transport buffer.
+pub(crate) fn transport_cells(e: &TransportTotals) -> [Cell; 10]
+    ensures { result ≡ spec.transport_cells e.now }
+{
+    [
+        Cell::Number(u64::from(e.pid), CellUnit::Same),
+        Cell::Carried(e.pid),
+        Cell::Word(CellWord::Transport),
+        Cell::Number(e.size, CellUnit::Same),
+        Cell::Checked(short(e.most), Some(e.size), CellUnit::Same),
+        Cell::Bar(short(e.most), Some(e.size)),
+        Cell::Checked(short(e.excesses), Some(0), CellUnit::Same),
+        Cell::Word(CellWord::Nothing),
+        Cell::Word(CellWord::Nothing),
+        Cell::Word(CellWord::Nothing),
+    ]
+}
+
+/// Returns the cells of a main buffer.
+pub(crate) fn main_cells(e: &MainTotals) -> [Cell; 10]
+    ensures { result ≡ spec.main_cells e.now }
+{
+    [
+        Cell::Number(u64::from(e.pid), CellUnit::Same),
+        Cell::Carried(e.pid),
+        Cell::Word(CellWord::Main),
+        Cell::Number(e.size, CellUnit::Same),
+        Cell::Checked(e.most, Some(e.size), CellUnit::Same),
+        Cell::Bar(e.most, Some(e.size)),
+        Cell::Checked(short(e.excesses), Some(0), CellUnit::Same),
+        Cell::Number(e.units, CellUnit::Same),
+        Cell::Checked(e.late, Some(0), CellUnit::Same),
+        Cell::Checked(e.unread, Some(0), CellUnit::Same),
+    ]
+}
+
+/// Returns the cells of a multiplexing buffer.
+pub(crate) fn multiplexing_cells(e: &MultiplexingTotals) -> [Cell; 10]
+    ensures { result ≡ spec.multiplexing_cells e.now }
+{
+    [
+        Cell::Number(u64::from(e.pid), CellUnit::Same),
+        Cell::Carried(e.pid),
+        Cell::Word(CellWord::Multiplexing),
+        Cell::Number(e.size, CellUnit::Same),
+        Cell::Checked(short(e.most), Some(e.size), CellUnit::Same),
+        Cell::Bar(short(e.most), Some(e.size)),
+        Cell::Checked(short(e.excesses), Some(0), CellUnit::Same),
+        Cell::Word(CellWord::Nothing),
+        Cell::Word(CellWord::Nothing),
+        Cell::Word(CellWord::Nothing),
+    ]
+}
+
+/// Returns the cells of an elementary stream buffer.
+pub(crate) fn elementary_cells(e: &ElementaryTotals) -> [Cell; 10]
+    ensures { result ≡ spec.elementary_cells e.now }
+{
+    [
+        Cell::Number(u64::from(e.pid), CellUnit::Same),
+        Cell::Carried(e.pid),
+        Cell::Word(CellWord::Elementary),
+        Cell::Number(e.size, CellUnit::Same),
+        Cell::Checked(e.most, Some(e.size), CellUnit::Same),
+        Cell::Bar(e.most, Some(e.size)),
+        Cell::Checked(short(e.excesses), Some(0), CellUnit::Same),
+        Cell::Number(e.units, CellUnit::Same),
+        Cell::Checked(e.late, Some(0), CellUnit::Same),
+        Cell::Word(CellWord::Nothing),
+    ]
+}
+
+/// Returns the cells of the buffers of a program's tables.
+pub(crate) fn system_cells(e: &SystemTotals) -> [Cell; 7]
+    ensures { result ≡ spec.system_cells e.now }
+{
+    [
+        Cell::Program(e.program),
+        Cell::Checked(short(e.transport), Some(e.transport_size), CellUnit::Same),
+        Cell::Bar(short(e.transport), Some(e.transport_size)),
+        Cell::Checked(short(e.transport_excesses), Some(0), CellUnit::Same),
+        Cell::Checked(short(e.main), Some(e.main_size), CellUnit::Same),
+        Cell::Bar(short(e.main), Some(e.main_size)),
+        Cell::Checked(short(e.main_excesses), Some(0), CellUnit::Same),
+    ]
+}
+
+/// Returns the cells of clock references.
+pub(crate) fn clock_cells(e: &ClockTotals) -> [Cell; 8]
+    ensures { result ≡ spec.clock_cells e.now }
+{
+    [
+        Cell::Number(u64::from(e.pid), CellUnit::Same),
+        Cell::Number(e.references, CellUnit::Same),
+        Cell::Number(e.announced, CellUnit::Same),
+        Cell::Number(short(e.rate), CellUnit::Same),
+        Cell::Checked(short(e.interval), Some(2_700_000), CellUnit::Ticks),
+        Cell::Bar(short(e.interval), Some(2_700_000)),
+        Cell::Checked(short(e.inaccuracy), Some(500), CellUnit::Same),
+        Cell::Bar(short(e.inaccuracy), Some(500)),
+    ]
+}
+
+/// Returns the cells of a table.
+pub(crate) fn table_cells(e: &TableTotals) -> [Cell; 6]
+    ensures { result ≡ spec.table_cells e.now }
+{
+    [
+        Cell::Number(u64::from(e.pid), CellUnit::Same),
+        Cell::Number(u64::from(e.table), CellUnit::Same),
+        Cell::Number(e.sections, CellUnit::Same),
+        Cell::Checked(short(e.interval), limit_if(e.limit), CellUnit::Ticks),
+        Cell::Number(e.limit, CellUnit::Ticks),
+        Cell::Bar(short(e.interval), limit_if(e.limit)),
+    ]
+}
+
+/// Returns the cells of a PID.
+pub(crate) fn pid_cells(e: &PidTotals) -> [Cell; 4]
+    ensures { result ≡ spec.pid_cells e.now }
+{
+    [
+        Cell::Number(u64::from(e.number), CellUnit::Same),
+        Cell::Carried(e.number),
+        Cell::Number(e.packets, CellUnit::Same),
+        Cell::Number(e.pcrs, CellUnit::Same),
+    ]
+}
+
+/// Returns the cells of an excess of a buffer.
+pub(crate) fn excess_cells(word: CellWord, e: &BufferExcess) -> [Cell; 6]
+    ensures { result ≡ spec.excess_cells word e.now }
+{
+    [
+        Cell::Word(word),
+        Cell::Number(u64::from(e.pid), CellUnit::Same),
+        Cell::Number(e.packet, CellUnit::Same),
+        Cell::Number(short(e.peak), CellUnit::Same),
+        Cell::Number(e.size, CellUnit::Same),
+        Cell::Word(CellWord::Bytes),
+    ]
+}
+
+/// Returns the cells of an excess of a buffer of tables.
+pub(crate) fn program_excess_cells(word: CellWord, e: &ProgramExcess) -> [Cell; 6]
+    ensures { result ≡ spec.program_excess_cells word e.now }
+{
+    [
+        Cell::Word(word),
+        Cell::Program(e.program),
+        Cell::Number(e.packet, CellUnit::Same),
+        Cell::Number(short(e.peak), CellUnit::Same),
+        Cell::Number(e.size, CellUnit::Same),
+        Cell::Word(CellWord::Bytes),
+    ]
+}
+
+/// Returns the cells of a late unit.
+pub(crate) fn late_cells(e: &LateUnit) -> [Cell; 6]
+    ensures { result ≡ spec.late_cells e.now }
+{
+    [
+        Cell::Word(CellWord::LateUnit),
+        Cell::Number(u64::from(e.pid), CellUnit::Same),
+        Cell::Number(e.packet, CellUnit::Same),
+        Cell::Number(short(e.by), CellUnit::Ticks),
+        Cell::Word(CellWord::Nothing),
+        Cell::Word(CellWord::Millis),
+    ]
+}
+
+// What makes a unit of video late.
+#[tactic(auto, unfolding(crate::specs::RowCells::late_word))]
+fn late_word(cause: LateCause) -> CellWord
+    ensures { result ≡ spec.late_word cause }
+{
+    match cause {
+        LateCause::Multiplex => CellWord::LateByMultiplex,
+        LateCause::FullBuffer => CellWord::LateByFullBuffer,
+    }
+}
+
+/// Returns the cells of a unit that is late in its elementary stream buffer.
+pub(crate) fn elementary_late_cells(e: &ElementaryLate) -> [Cell; 6]
+    ensures { result ≡ spec.elementary_late_cells e.now }
+{
+    [
+        Cell::Word(late_word(e.cause)),
+        Cell::Number(u64::from(e.pid), CellUnit::Same),
+        Cell::Number(e.packet, CellUnit::Same),
+        Cell::Number(short(e.by), CellUnit::Ticks),
+        Cell::Word(CellWord::Nothing),
+        Cell::Word(CellWord::Millis),
+    ]
+}
+
+/// Returns the cells of a unit too far ahead.
+pub(crate) fn ahead_cells(e: &FarAhead) -> [Cell; 6]
+    ensures { result ≡ spec.ahead_cells e.now }
+{
+    [
+        Cell::Word(CellWord::FarAhead),
+        Cell::Number(u64::from(e.pid), CellUnit::Same),
+        Cell::Number(e.packet, CellUnit::Same),
+        Cell::Number(e.by, CellUnit::Ticks),
+        Cell::Number(e.limit, CellUnit::Ticks),
+        Cell::Word(CellWord::Millis),
+    ]
+}
+
+/// Returns the cells of a clock reference whose time is wrong.
+pub(crate) fn clock_time_cells(word: CellWord, e: &ClockFault) -> [Cell; 6]
+    ensures { result ≡ spec.clock_time_cells word e.now }
+{
+    [
+        Cell::Word(word),
+        Cell::Number(u64::from(e.pid), CellUnit::Same),
+        Cell::Number(e.packet, CellUnit::Same),
+        Cell::Number(short(e.value), CellUnit::Ticks),
+        Cell::Number(e.limit, CellUnit::Ticks),
+        Cell::Word(CellWord::Millis),
+    ]
+}
+
+/// Returns the cells of an inaccurate clock reference.
+pub(crate) fn clock_place_cells(e: &ClockFault) -> [Cell; 6]
+    ensures { result ≡ spec.clock_place_cells e.now }
+{
+    [
+        Cell::Word(CellWord::PcrAccuracy),
+        Cell::Number(u64::from(e.pid), CellUnit::Same),
+        Cell::Number(e.packet, CellUnit::Same),
+        Cell::Number(short(e.value), CellUnit::Same),
+        Cell::Number(e.limit, CellUnit::Same),
+        Cell::Word(CellWord::Nanos),
+    ]
+}
+
+/// Returns the cells of a section that begins too late.
+pub(crate) fn table_fault_cells(e: &TableFault) -> [Cell; 6]
+    ensures { result ≡ spec.table_fault_cells e.now }
+{
+    [
+        Cell::Word(CellWord::TableRepetition),
+        Cell::Number(u64::from(e.pid), CellUnit::Same),
+        Cell::Number(e.packet, CellUnit::Same),
+        Cell::Number(short(e.value), CellUnit::Ticks),
+        Cell::Number(e.limit, CellUnit::Ticks),
+        Cell::Word(CellWord::Millis),
+    ]
+}
+
+/// Returns the cells of packets without a moment.
+pub(crate) fn unclocked_cells(e: &UnclockedPackets) -> [Cell; 6]
+    ensures { result ≡ spec.unclocked_cells e.now }
+{
+    [
+        Cell::Word(CellWord::Unclocked),
+        Cell::Word(CellWord::Nothing),
+        Cell::Number(e.packet, CellUnit::Same),
+        Cell::Number(e.packets, CellUnit::Same),
+        Cell::Word(CellWord::Nothing),
+        Cell::Word(CellWord::Packets),
+    ]
+}
+
+/// Returns the cells of a PID and a word.
+pub(crate) fn reference_cells(word: CellWord, pid: u16) -> [Cell; 2]
+    ensures { result ≡ spec.reference_cells word pid }
+{
+    [
+        Cell::Number(u64::from(pid), CellUnit::Same),
+        Cell::Word(word),
+    ]
+}
+
+#[tactic(auto, unfolding(crate::specs::RowCells::cause_word))]
+fn cause_word(cause: RefusalCause) -> CellWord
+    ensures { result ≡ spec.cause_word cause }
+{
+    match cause {
+        RefusalCause::SyncByte => CellWord::SyncByte,
+        RefusalCause::Header => CellWord::RefusedHeader,
+        RefusalCause::TransportError => CellWord::TransportError,
+    }
+}
+
+/// Returns the cells of a refused packet.
+pub(crate) fn refused_cells(e: &RefusedPacket) -> [Cell; 6]
+    ensures { result ≡ spec.refused_cells e.now }
+{
+    [
+        Cell::Word(cause_word(e.cause)),
+        Cell::Word(CellWord::Nothing),
+        Cell::Number(e.packet, CellUnit::Same),
+        Cell::Word(CellWord::Nothing),
+        Cell::Word(CellWord::Nothing),
+        Cell::Word(CellWord::Nothing),
+    ]
+}
+
+/// Returns the cells of a continuity_counter that does not follow: its value, beside the expected value.
+pub(crate) fn continuity_cells(e: &CounterFault) -> [Cell; 6]
+    ensures { result ≡ spec.continuity_cells e.now }
+{
+    [
+        Cell::Word(CellWord::Continuity),
+        Cell::Number(u64::from(e.pid), CellUnit::Same),
+        Cell::Number(e.packet, CellUnit::Same),
+        Cell::Number(u64::from(e.found), CellUnit::Same),
+        Cell::Number(u64::from(e.expected), CellUnit::Same),
+        Cell::Word(CellWord::Nothing),
+    ]
+}
+
+/// Returns the cells of a section with a wrong check word.
+pub(crate) fn check_word_cells(e: &CheckWordFault) -> [Cell; 6]
+    ensures { result ≡ spec.check_word_cells e.now }
+{
+    [
+        Cell::Word(CellWord::CheckWord),
+        Cell::Number(u64::from(e.pid), CellUnit::Same),
+        Cell::Number(e.packet, CellUnit::Same),
+        Cell::Word(CellWord::Nothing),
+        Cell::Word(CellWord::Nothing),
+        Cell::Word(CellWord::Nothing),
+    ]
+}
+
+// How often a check failed, or why it can't be made.
+#[tactic(auto, unfolding(crate::specs::RowCells::result_cell))]
+fn result_cell(untold: Option<Untold>, faults: u64) -> Cell
+    ensures { result ≡ spec.result_cell untold faults }
+{
+    match untold {
+        None => Cell::Checked(faults, Some(0), CellUnit::Same),
+        Some(Untold::NoClock) => Cell::Word(CellWord::NoClock),
+        Some(Untold::VariableRate) => Cell::Word(CellWord::RateVaries),
+    }
+}
+
+/// Returns the cells of a check: its number and name, its faults, and the packets of the first and the last of them.
+pub(crate) fn check_cells(e: &CheckTotals) -> [Cell; 5]
+    ensures { result ≡ spec.check_cells e.now }
+{
+    [
+        Cell::CheckNumber(e.check),
+        Cell::CheckName(e.check),
+        result_cell(e.untold, e.count.faults),
+        Cell::Number(e.count.first, CellUnit::Same),
+        Cell::Number(e.count.last, CellUnit::Same),
+    ]
+}
