@@ -1,3 +1,0 @@
-pub mod PendingOutput
-pub mod ToldLines
-pub mod PassedStreams

@@ -1,7 +1,0 @@
-pub mod JobArguments
-pub mod Streams
-pub mod RecodingLines
-pub mod Outcomes
-pub mod SeveralInputs
-pub mod StreamFiles
-pub mod Laws

@@ -1,4 +1,0 @@
-pub mod CutLists
-pub mod MapLists
-pub mod MovedFindings
-pub mod PartOrder
