@@ -438,10 +438,10 @@ def place_of(section):
 
 def steady(stream, pid):
     """The sections of a PID, each once, and the greatest number of packets from one start of a section to its next; None where they change, where
-    one does not come again, where there are more than 8, or where anything else is found."""
+    one does not come again, where there are more than 8, or where anything else is found: also splice commands (SCTE 35) but a splice_null alone."""
     found = {}
     for packet, begins, kind, value in stream.found(pid):
-        if kind == "section":
+        if kind == "section" and not (value[0] == 0xFC and any(value[13:16])):
             found.setdefault(bytes(value), []).append(begins)
         elif kind not in ("duplicate", "stray") and not (kind == "truncated" and packet >= stream.count):
             return None

@@ -1,4 +1,4 @@
--- A run over records, record by record.
+-- A run over records, record by record
 use Rattle.std.proofs.Common.{◌≡◌, ℕ, suc, ◌+◌, ◌-◌, ◌%◌, ◌≤◌, Bool, List, [], ◌∷◌, ◌++◌, length, take, drop, Option, Some, None, Ok, Err, refl, sym, ap, ◌∙◌}
 use Rattle.std.proofs.Common.{subst, arith, append_assoc, append-nil, take_at, take_all}
 use Rattle.std.proofs.lemmas.List.{length-append, length-drop, take-append-drop}
@@ -20,12 +20,12 @@ use Rattle.std.proofs.KnownBytes.{Appends-nil}
 use Rattle.packet_output.proofs.Written.{took_longer}
 use Rattle.unit_records.proofs.RecordReading.{record_long}
 
--- how many packets units become
+-- The number of packets of a list of units
 abbrev pub packet_number : ℕ → List AccessUnit → ℕ
 packet_number id [] = 0
 packet_number id (unit ∷ units) = unit_count id unit + packet_number id units
 
--- a run after units
+-- A run after earlier units
 abbrev pub before : List AccessUnit → Run → Run
 before units run = record { units = units ++ run.units; ending = run.ending }
 
@@ -48,7 +48,7 @@ stream_packets_one : (pid id n : ℕ) (u : AccessUnit) → stream_packets pid id
 unfolding stream_packets
 stream_packets_one pid id n u = append-nil (unit_packets pid id n u)
 
--- the output of one unit more
+-- The output with one more unit
 carried_more : (hex : Bool) (pid id : ℕ) (us : List AccessUnit) (u : AccessUnit)
     → carried hex pid id (us ++ u ∷ []) ≡ carried hex pid id us ++ formatted_all hex (unit_packets pid id (packet_number id us) u)
 carried_more hex pid id us u =
@@ -57,7 +57,7 @@ carried_more hex pid id us u =
     ∙ ap (λ (t : List (List ℕ)). carried hex pid id us ++ formatted_all hex t)
     (stream_packets_one pid id (0 + packet_number id us) u ∙ ap (λ (n : ℕ). unit_packets pid id n u) (omega arith))
 
--- the output of units and others after them
+-- The output of units begins the output of a longer list.
 carried_front : (hex : Bool) (pid id : ℕ) (us vs : List AccessUnit) → (more : List ℕ) × (carried hex pid id (us ++ vs) ≡ carried hex pid id us ++ more)
 carried_front hex pid id us vs = (
   formatted_all hex (stream_packets pid id (0 + packet_number id us) vs),
@@ -88,7 +88,7 @@ run_more : (n id min_next_dts : ℕ) (xs : List ℕ) (unit : AccessUnit) → Hol
 unfolding run_from run_step judged
 run_more n id min_next_dts xs unit h = rw (h.record_is, h.judged_is) refl
 
--- records of xs that are carried, those that are left, and what their packets became
+-- The records of xs that are carried, the records that are left, and the output of the carried records
 pub record Midway (pid id : ℕ) (hex : Bool) (xs : List ℕ) (min_next_dts index counter : ℕ) (left start now : Option (List ℕ)) (packets : Buffered)
     (all : List ℕ) : Type 0 where
   pub done : List AccessUnit
@@ -121,7 +121,7 @@ before_before : (us : List AccessUnit) (u : AccessUnit) (run : Run) → before u
 before_before us u run =
     ap (λ (units : List AccessUnit). let r : Run = record { units = units; ending = run.ending } in r) (sym (append_assoc us (u ∷ []) run.units))
 
--- one record more is carried
+-- One more record is carried.
 pub midway_more : (pid id : ℕ) (hex now_hex : Bool) (xs : List ℕ) (min_next_dts index counter next : ℕ) (left later start now after : Option (List ℕ))
     (packets packets_after : Buffered) (all : List ℕ) (unit : AccessUnit)
     (w : Midway pid id hex xs min_next_dts index counter left start now packets all)
@@ -153,7 +153,7 @@ midway_more pid id hex now_hex xs min_next_dts index counter next left later sta
           pushed.1;
     }
 
--- the writer failed at a record
+-- The writer fails at a record.
 pub midway_failed : (pid id : ℕ) (hex now_hex : Bool) (xs : List ℕ) (min_next_dts index counter sent : ℕ) (left later start now after : Option (List ℕ))
     (packets : Buffered) (all : List ℕ) (unit : AccessUnit)
     (w : Midway pid id hex xs min_next_dts index counter left start now packets all)
@@ -177,7 +177,7 @@ midway_failed pid id hex now_hex xs min_next_dts index counter sent left later s
     ∙ ap (λ (t : List ℕ). all ++ t) (sym front.1 ∙ ap (λ (r : Run). carried hex pid id r.units) (sym is)))
     (took_longer start after sent (all ++ carried hex pid id (w.done ++ unit ∷ [])) front.0 so_far)
 
--- what is carried is the output of the records so far
+-- The bytes that were written are the output of the records so far.
 pub midway_holds : (pid id : ℕ) (hex : Bool) (xs : List ℕ) (min_next_dts index counter : ℕ) (left start now : Option (List ℕ)) (packets : Buffered)
     (all : List ℕ)
     → Midway pid id hex xs min_next_dts index counter left start now packets all
@@ -200,7 +200,7 @@ ends pid id hex xs min_next_dts index counter left start now packets all ending 
     let units : (run_of id xs).units ≡ w.done = ap (λ (r : Run). r.units) is ∙ append-nil w.done in
     (ap (λ (r : Run). r.ending) is, w.index_is ∙ ap (length {A = AccessUnit}) (sym units))
 
--- the input is at its end
+-- The input is at its end.
 pub midway_ended : (pid id : ℕ) (hex : Bool) (xs : List ℕ) (min_next_dts index counter : ℕ) (left start now : Option (List ℕ)) (packets : Buffered)
     (all : List ℕ)
     (w : Midway pid id hex xs min_next_dts index counter left start now packets all)
@@ -208,14 +208,14 @@ pub midway_ended : (pid id : ℕ) (hex : Bool) (xs : List ℕ) (min_next_dts ind
 midway_ended pid id hex xs min_next_dts index counter left start now packets all w e =
     ends pid id hex xs min_next_dts index counter left start now packets all Finished w (run_ended w.spare id min_next_dts w.rest e)
 
--- no record was accepted
+-- The next record is not accepted.
 pub midway_stopped : (pid id : ℕ) (hex : Bool) (xs : List ℕ) (min_next_dts index counter : ℕ) (left later start now : Option (List ℕ)) (packets : Buffered)
     (all : List ℕ) (stop : Stop)
     (w : Midway pid id hex xs min_next_dts index counter left start now packets all)
     → ReadsNext id min_next_dts w.rest later (Err stop) → EndsRun (run_of id xs) index (Some stop)
 midway_stopped pid id hex xs min_next_dts index counter left later start now packets all (Refused cause) w r =
     ends pid id hex xs min_next_dts index counter left start now packets all (UnitRefused cause) w
-    (run_refused w.spare id min_next_dts w.rest r.unit cause r.stands)
+    (run_refused w.spare id min_next_dts w.rest r.unit cause r.is_refused)
 midway_stopped pid id hex xs min_next_dts index counter left later start now packets all (Unread Cut) w r =
     ends pid id hex xs min_next_dts index counter left start now packets all (FileRefused Cut) w (run_unread w.spare id min_next_dts w.rest Cut r.0)
 midway_stopped pid id hex xs min_next_dts index counter left later start now packets all (Unread Size) w r =
@@ -226,11 +226,11 @@ midway_stopped pid id hex xs min_next_dts index counter left later start now pac
 midway_stopped pid id hex xs min_next_dts index counter left later start now packets all OutOfMemory w r =
     (midway_holds pid id hex xs min_next_dts index counter left start now packets all w).0
 
--- no unit, no output
+-- No units have no output.
 pub written_none : (hex : Bool) (pid id : ℕ) (a : Option (List ℕ)) → Appends a a (carried hex pid id [])
 written_none hex pid id a = rw (carried_none hex pid id) (Appends-nil a)
 
--- what is answered of a run that ended so
+-- The answer for a run that ended in this way
 pub answers_of : (run : Run) (index sent : ℕ) (stop : Option Stop) → EndsRun run index stop → Answers run (answer_of index stop sent)
 answers_of run index sent None h = h.0
 answers_of run index sent (Some (Refused cause)) h = h
@@ -240,7 +240,7 @@ answers_of run index sent (Some (Unread Device)) h = h
 answers_of run index sent (Some (Unread Memory)) h = absurd h
 answers_of run index sent (Some OutOfMemory) h = h
 
--- and what the writer took
+-- The bytes that the writer took
 pub writes_of : (out : List AccessUnit → List ℕ) (run : Run) (index sent : ℕ) (old new : Option (List ℕ)) (stop : Option Stop) → EndsRun run index stop
     → (sent ≡ byte_count (length (out (take index run.units)))) × Appends old new (out (take index run.units))
     → Writes out run.units old new (answer_of index stop sent)
@@ -251,7 +251,7 @@ writes_of out run index sent old new (Some (Refused cause)) h w = w.1
 writes_of out run index sent old new (Some (Unread fault)) h w = w.1
 writes_of out run index sent old new (Some OutOfMemory) h w = w.1
 
--- the writer failed after some of the units
+-- The writer fails after some of the units.
 pub took_units : (hex : Bool) (pid id index sent : ℕ) (units : List AccessUnit) (start now : Option (List ℕ))
     → Took start now sent (carried hex pid id (take index units)) → Took start now sent (carried hex pid id units)
 took_units hex pid id index sent units start now t =
@@ -260,7 +260,7 @@ took_units hex pid id index sent units start now t =
     (sym front.1 ∙ ap (carried hex pid id) (take-append-drop index units))
     (took_longer start now sent (carried hex pid id (take index units)) front.0 t)
 
--- the output of a fresh start, by the form that it was made with
+-- The output of a fresh start, by the form that it was made with
 pub took_new : (hex made : Bool) (pid id sent : ℕ) (units : List AccessUnit) (start now : Option (List ℕ)) → made ≡ hex →
     Took start now sent ([] ++ carried made pid id units) → Took start now sent (carried hex pid id units)
 took_new hex made pid id sent units start now e t = subst (λ (x : Bool). Took start now sent (carried x pid id units)) e t

@@ -31,7 +31,7 @@ pub record HoldsUnit (id min_next_dts : ℕ) (xs : List ℕ) (unit : AccessUnit)
 -- a record at the front whose unit is refused
 pub record IsRefused (id min_next_dts : ℕ) (xs : List ℕ) (left : Option (List ℕ)) (cause : FeedError) : Type 0 where
   pub unit : AccessUnit
-  pub stands : HoldsUnit id min_next_dts xs unit (Some cause)
+  pub is_refused : HoldsUnit id min_next_dts xs unit (Some cause)
   pub rest : left ≡ Some (after_record xs)
 
 -- the result of reading the next record of these bytes

@@ -35,6 +35,7 @@ is_variable_rule (rules.SectionDistance e) = false
 is_variable_rule (rules.OtherTable e) = false
 is_variable_rule (rules.ScrambledTable e) = false
 is_variable_rule (rules.NoCat e) = false
+is_variable_rule (rules.NoTable e) = false
 is_variable_rule (rules.NotEmpty e) = false
 is_variable_rule (rules.Delayed e) = false
 is_variable_rule (rules.VariableRate e) = true

@@ -17,7 +17,7 @@ abbrev pub no_check : CheckVerdict
 no_check = record { checks = 0; failed = 0; first = None }
 
 abbrev pub has_failed : CheckTotals → Bool
-has_failed t = is_none t.untold && not (t.count.faults == 0)
+has_failed t = is_none t.no_verdict && not (t.count.faults == 0)
 
 unfoldable pub first_failed : Option CheckTotals → CheckTotals → Option CheckTotals
 first_failed (Some first) t = Some first
@@ -28,7 +28,7 @@ one_if b = if b then 1 else 0
 
 abbrev pub with_check : CheckVerdict → CheckTotals → CheckVerdict
 with_check v t = record {
-  checks = min (v.checks + one_if (is_none t.untold)) (2 ^ 64 - 1);
+  checks = min (v.checks + one_if (is_none t.no_verdict)) (2 ^ 64 - 1);
   failed = min (v.failed + one_if (has_failed t)) (2 ^ 64 - 1);
   first = first_failed v.first t;
 }

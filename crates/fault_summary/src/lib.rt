@@ -2,7 +2,8 @@
 //! stream, and a verdict for a person.
 //!
 //! - [`Summary`]: takes events with their faults; `push_end` appends the rows and the verdict.
-//! - [`FaultRows`]: faults by kind and source. [`BufferFigures`]: how many buffers were over their size, and which one most.
+//! - [`FaultRows`]: faults by kind and source. [`BufferFigures`]: how many buffers were over their size, and which one
+//!   most.
 //! - [`laws`]: each row counts exactly its faults.
 //!
 //! Memory: one row for each kind and source that has a fault, whatever the length of the stream.

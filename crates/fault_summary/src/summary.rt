@@ -25,7 +25,8 @@ impl Model for Summary {
 
     ghost Value = { SummaryState };
 
-    ghost view = { λ s. record { counts = s.counts; rows = s.rows; faults = s.faults; figures = s.figures; varies = s.varies } };
+    ghost view = { λ s.
+        record { counts = s.counts; rows = s.rows; faults = s.faults; figures = s.figures; varies = s.varies } };
 }
 
 // Returns whether an event says that the rate varies.

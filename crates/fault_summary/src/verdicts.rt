@@ -21,7 +21,7 @@ fn no_check() -> CheckVerdict
 fn has_failed(totals: &CheckTotals) -> bool
     ensures { result ≡ spec.has_failed totals.now }
 {
-    totals.untold.is_none() && totals.count.faults != 0
+    totals.no_verdict.is_none() && totals.count.faults != 0
 }
 
 #[tactic(auto, unfolding(crate::specs::Verdicts::first_failed))]
@@ -46,7 +46,7 @@ fn with_check(verdict: CheckVerdict, totals: &CheckTotals) -> CheckVerdict
     CheckVerdict {
         checks: verdict
             .checks
-            .saturating_add(u64::from(totals.untold.is_none())),
+            .saturating_add(u64::from(totals.no_verdict.is_none())),
         failed: verdict.failed.saturating_add(u64::from(has_failed(totals))),
         first: first_failed(verdict.first, totals),
     }

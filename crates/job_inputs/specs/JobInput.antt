@@ -31,7 +31,7 @@ use Rattle.job_programs.specs.Warnings.{packet_warnings, association_warnings, a
 use Rattle.job_programs.specs.Warnings.{pid_warnings}
 use Rattle.job_units.specs.WireStreams.{wire_streams, all_left_out_warnings}
 use Rattle.job_programs.specs.JobOptions.{JobOptionsView, is_selected_program}
-use Rattle.job_programs.specs.JobTables.{JobTableView, job_tables, told}
+use Rattle.job_programs.specs.JobTables.{JobTableView, job_tables, reported}
 use Rattle.job_programs.specs.JobStreams.{TimedStreamView, WireStreamView}
 use Rattle.job_programs.specs.FoundUnits.{IsMoved, FitsQueue}
 
@@ -160,7 +160,7 @@ unfoldable pub with_found : JobOptionsView → ℕ → List FindingView → Asso
 with_found options count findings a named found assigned streams =
     with_streams options findings a.transport_stream_id (job_programs streams found.programs assigned)
     (tables_of options count findings found assigned streams)
-    (told (tables_of options count findings found assigned streams) (job_warnings options count findings a named found assigned streams)) streams
+    (reported (tables_of options count findings found assigned streams) (job_warnings options count findings a named found assigned streams)) streams
 
 -- with the streams that can be carried
 unfoldable pub with_pids : JobOptionsView → ℕ → List FindingView → AssociationView → List Program → FoundProgramsView → List ProgramPids →

@@ -11,7 +11,7 @@ ghost use Rattle.job_programs.specs.FoundUnits.{IsCarried, IsMoved};
 ghost use Rattle.job_programs.specs.Answers.{Leads};
 
 use crate::earliest::earliest_of;
-use crate::job_tables::{JobTable, job_tables, told};
+use crate::job_tables::{JobTable, job_tables, reported};
 use crate::nothing_carried::nothing_carried;
 use es_units::PidLinks;
 use given_values::ServiceName;
@@ -248,10 +248,10 @@ fn with_pids(
         &streams,
         &found.tables,
     )?;
-    let told = told(&tables, warnings);
+    let reported = reported(&tables, warnings);
     let id = association.transport_stream_id;
     with_streams(
-        alloc, options, findings, &links, id, programs, tables, told, streams,
+        alloc, options, findings, &links, id, programs, tables, reported, streams,
     )
 }
 

@@ -29,7 +29,7 @@ table_line (table.NoMap program) = codes "program " ++ decimal program ++ codes 
 table_line (table.ConditionalAccess program) = codes "CA descriptors of program " ++ decimal program ++ codes " left out\n"
 table_line (table.Multiplex program) = codes "multiplex descriptors of program " ++ decimal program ++ codes " left out\n"
 table_line (table.NoPes program pid stream_type) = codes "pid " ++ decimal pid ++ codes " of program " ++ decimal program ++ codes " stream_type "
-    ++ decimal stream_type ++ codes " has no PES: left out\n"
+    ++ decimal stream_type ++ codes " has no PES and no sections to repeat: left out\n"
 table_line (table.Reserved program pid) = codes "pid " ++ decimal pid ++ codes " of program " ++ decimal program ++ codes " is reserved: left out\n"
 table_line (table.Taken program pid holder) = codes "pid " ++ decimal pid ++ codes " of program " ++ decimal program ++ codes " is in program "
     ++ decimal holder ++ codes " already: left out\n"
@@ -143,11 +143,11 @@ is_open_ended (warning.Units pid left_out) = is_unknown_end left_out.cause
 is_open_ended _ = false
 
 -- whether a warning is reported: an open end only if the input is not declared whole; a warning about no loss only if all lines are asked for
-unfoldable pub is_told : Reporting → Warning → Bool
-is_told r w = not (r.whole && is_open_ended w) && (r.all || is_damage w)
+unfoldable pub is_reported : Reporting → Warning → Bool
+is_reported r w = not (r.whole && is_open_ended w) && (r.all || is_damage w)
 
-abbrev pub told_warnings : Reporting → List Warning → List Warning
-told_warnings r warnings = filter (is_told r) warnings
+abbrev pub reported_warnings : Reporting → List Warning → List Warning
+reported_warnings r warnings = filter (is_reported r) warnings
 
 -- a run of packets with this cause has one line: whether they are stray and not scrambled
 abbrev pub run_cause : UnitWarningCause → Option Bool

@@ -1,8 +1,12 @@
--- Events of the end of a stream: the monitor has no rule of them.
-use Rattle.std.proofs.Common.{ℕ, Bool, List, [], ◌∷◌, Option, Some, None, refl}
+-- Events of the end of a stream: the monitor has no rule for them.
+use Rattle.std.proofs.Common.{ℕ, Bool, true, false, List, [], ◌∷◌, Option, Some, None, refl}
 use Rattle.std.specs.Option.{option_to_list}
-use Rattle.std.specs.Prelude.{flat_map}
+use Rattle.std.specs.Prelude.{◌||◌, flat_map, is_some}
+use Rattle.pid_findings.specs.Views.{FindingView}
 use Rattle.pid_windows.specs.declared.pid_windows.PidCounts.{PidCounts}
+use Rattle.program_tables.specs.KnownTables.{known_in}
+use Rattle.program_tables.specs.ProgramMaps.{program_map}
+use Rattle.psi_tables.specs.declared.pat.programs.Program.{Program}
 use Rattle.arrival.specs.declared.arrival.Arrival.{Arrival}
 use Rattle.system_tables.specs.Programs.{ProgramState, known}
 use Rattle.tstd_rows.specs.Held.{Held, transport_busy_under_way, transport_under_way, unit_before}
@@ -32,16 +36,18 @@ use Rattle.es_view.specs.Entries.{EntryState, closed_seen, place_at, seen_held, 
 use Rattle.es_view.specs.Entries as entry_views
 use Rattle.ts_watch.specs.Choices.{ChoiceView, takes}
 use Rattle.ts_watch.specs.ClockEvents.{clock_event, clock_events, inaccuracy_events, variable_events}
+use Rattle.ts_watch.specs.AbsentTables.{absent_events, absent_tables, absent_unless, association_events, map_events, maps_events}
 use Rattle.ts_watch.specs.ReferenceEvents.{events_by, missing_events, reference_events, unreferenced_events}
 use Rattle.ts_watch.specs.RuleEvents.{RuleState, cat_events, ends_varying}
 use Rattle.ts_watch.specs.RuleEvents as rule_views
 use Rattle.ts_watch.specs.SystemEvents.{event_if, system_event, system_events, under_way}
 use Rattle.ts_watch.specs.SystemEvents as systems
-use Rattle.ts_watch.specs.TableEvents.{has_table, table_event, table_events}
+use Rattle.ts_tables.specs.NamedStreams.{NamedView}
+use Rattle.ts_watch.specs.TableEvents.{TablesState, has_table, table_event, table_events}
 use Rattle.ts_watch.specs.WindowEvents.{pid_event, pid_events}
 use Rattle.tr101290.specs.Packets.{missing_pids, unreferenced_pids}
 use Rattle.tr101290.specs.References.{referenced_pids}
-use Rattle.ts_report.specs.Seen.{SeenState, arrival_events, end_event, pid_ends, unclocked, unclocked_event, window_ends}
+use Rattle.ts_report.specs.Seen.{SeenState, arrival_events, end_event, is_stream, pid_ends, rule_ends, unclocked, unclocked_event, window_ends}
 use Rattle.ts_report.specs.StreamTables.{TableState, table_end}
 use Rattle.ts_report.specs.Views.{ViewState, end_events}
 use Rattle.laws_monitor.specs.ViewedFaults.{fault_in}
@@ -134,16 +140,41 @@ rules_end s packets has_cat =
     (join (variable_events (ends_varying s.judge) packets s.judge) (cat_events s.scrambled has_cat)
     (variables (ends_varying s.judge) packets s.judge) (access_table s.scrambled has_cat))
 
-pids_end : (s : SeenState) → Quiet (pid_ends s)
+absent : (has : Bool) (pid table : ℕ) → Quiet (absent_unless has pid table)
 unfolding fault_in
+absent has pid table = one_unless has (found.Rule (rule_events.NoTable (record { pid = pid; table = table }))) refl
+
+absent_map : (findings : List FindingView) (tables : TablesState) (program : Program) → Quiet (map_events findings tables program)
+absent_map findings tables program = absent (is_some (program_map program findings) || has_table tables program.pid 2) program.pid 2
+
+absent_maps : (findings : List FindingView) (tables : TablesState) (programs : List Program) → Quiet (maps_events findings tables programs)
+absent_maps findings tables programs = all_of (map_events findings tables) programs (absent_map findings tables)
+
+tables_absent : (findings : List FindingView) (tables : TablesState) → Quiet (absent_tables findings tables)
+tables_absent findings tables =
+    join (association_events (known_in findings) tables) (maps_events findings tables (known_in findings).programs)
+    (absent (is_some (known_in findings).version || has_table tables 0 0) 0 0) (absent_maps findings tables (known_in findings).programs)
+
+absent_end : (stream : Bool) (named : NamedView) (tables : TablesState) → Quiet (absent_events stream named tables)
+absent_end true named tables = tables_absent named.demux.found tables
+absent_end false named tables = refl
+
+rules_of : (s : SeenState) → Quiet (rule_ends s)
+unfolding rule_ends
+rules_of s =
+    join (absent_events (is_stream s) s.named s.tables) (rule_views.end_events s.rules s.packets (has_table s.tables 0x01 0x01))
+    (absent_end (is_stream s) s.named s.tables) (rules_end s.rules s.packets (has_table s.tables 0x01 0x01))
+
+pids_end : (s : SeenState) → Quiet (pid_ends s)
+unfolding pid_ends fault_in
 pids_end s =
     join (clock_events s.watches) _ (each clock_event s.watches.watches (λ x. refl))
     (join (table_events s.tables) _ (each (table_event s.tables.times.intervals.timing) s.tables.times.intervals.entries (λ x. refl))
     (join (pid_events s.totals) _ (each pid_event s.totals.counts (λ x. refl))
-    (join (reference_events s.named s.totals) (rule_views.end_events s.rules s.packets (has_table s.tables 0x01 0x01))
-    (named_end s.totals.counts (referenced_pids s.named)) (rules_end s.rules s.packets (has_table s.tables 0x01 0x01)))))
+    (join (reference_events s.named s.totals) (rule_ends s)
+    (named_end s.totals.counts (referenced_pids s.named)) (rules_of s))))
 
--- 4. All of them
+-- 4. All events of the end
 
 pub ends : (s : ViewState) (left : ℕ) → Quiet (end_events s left)
 unfolding fault_in

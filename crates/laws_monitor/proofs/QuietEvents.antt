@@ -1,4 +1,4 @@
--- Events of which the monitor has no rule: those of windows, of buffers, and of other checks.
+-- Events for which the monitor has no rule: events of windows, of buffers, and of further checks.
 use Rattle.std.proofs.Common.{◌≡◌, ◌∙◌, ℕ, ◌==◌, Bool, true, false, cond, nat_eq, List, [], ◌∷◌, ◌++◌, map, Option, Some, None, refl, ap₂}
 use Rattle.std.specs.Prelude.{◌&&◌, min, nat_lt, slice_get}
 use Rattle.std.specs.List.{filter_map, flat_map}
@@ -60,7 +60,7 @@ use Rattle.ts_report.specs.StreamTables.{TableState, begin_events, begin_events_
 use Rattle.monitor.specs.declared.fault.StreamFault.{StreamFault}
 use Rattle.laws_monitor.specs.ViewedFaults.{fault_in}
 
--- 1. Lists of such events
+-- 1. Lists of events without a rule
 
 abbrev pub Quiet : List Event → Type 0
 Quiet events = filter_map fault_in events ≡ []
@@ -91,7 +91,7 @@ pub windows : (options : ViewOptions) (named : NamedView) (names : Option (List 
 unfolding fault_in
 windows options named names window = each (window_event options named names window.number) window.counts (λ x. refl)
 
--- clock references by window
+-- Clock references, window by window.
 clocks_of : (s : ClocksState) → Quiet (clock_windows.all_events s)
 unfolding fault_in
 clocks_of s = each (clock_windows.window_event s.number s.drifts) s.counts (λ x. refl)

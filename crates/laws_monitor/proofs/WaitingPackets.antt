@@ -1,4 +1,4 @@
--- Packets that wait until it is known when they arrive: by rules that do not depend on this, what is found in them is the same.
+-- Packets that wait for their arrival times: rules that do not depend on arrival find the same faults in them.
 use Rattle.std.proofs.Common.{◌≡◌, ◌∙◌, ℕ, ◌+◌, ◌-◌, ◌/◌, ◌^◌, ◌%◌, ◌<◌, List, [], ◌∷◌, ◌++◌, length, map, filter, Option, Some, None, Bool, refl, sym, ap, ap₂}
 use Rattle.std.proofs.Common.{append_assoc, arith}
 use Rattle.std.specs.List.{enumerate_from}
@@ -24,7 +24,7 @@ use Rattle.laws_monitor.proofs.QuietEnds.{arrivals, ends}
 use Rattle.laws_monitor.proofs.ViewedPackets.{of_quiet, part, part_append}
 use Rattle.laws_monitor.proofs.ViewedRules.{Refuses, counters_along, next_count, refused_along}
 
--- 1. Packets after others
+-- 1. Packets after other packets
 
 all_append : (v : ViewState) (xs ys : List (List ℕ)) → events_all v (xs ++ ys) ≡ events_all v xs ++ events_all (after_all v xs) ys
 unfolding events_all after_all
@@ -41,7 +41,7 @@ count_after v (x ∷ xs) n =
     let k : (after_all (after_packet v x) xs).seen.packets ≡ (after_packet v x).seen.packets + length xs = count_after (after_packet v x) xs (omega arith) in
     omega (arith, e, k)
 
--- 2. A part that does not depend on when packets arrive
+-- 2. Faults that do not depend on arrival times
 
 abbrev pub Still : (StreamFault → Bool) → Type 0
 Still p = (v : ViewState) (arrival : Arrival) (count : ℕ) (packets : List (List ℕ)) → v.seen.packets + length packets < 2 ^ 64 →
@@ -50,7 +50,7 @@ Still p = (v : ViewState) (arrival : Arrival) (count : ℕ) (packets : List (Lis
 abbrev with_queue : ViewState → Option QueueState → ClockedState
 with_queue v queue = record { view = v; queue = queue }
 
--- those that waited, and then others
+-- The packets that waited give the faults that they would have given at once.
 released_part : (p : StreamFault → Bool) (v : ViewState) (q : QueueState) (arrival : Arrival) → Still p → v.seen.packets + length q.held < 2 ^ 64 →
     part p (events_with v q arrival) ≡ part p (events_all v q.held)
 released_part p v q arrival still n =
@@ -102,7 +102,7 @@ waiting p v q (bytes ∷ packets) left still n = by (released q bytes) (λ w r k
         ∙ ap (part p) (sym (all_append before q.held (bytes ∷ packets)))
         ∙ still v arrival (length q.held) (q.held ++ bytes ∷ packets) (omega (arith, n, all))
 
--- 3. Packets of which none waits
+-- 3. Packets that do not wait
 
 pub at_once : (p : StreamFault → Bool) (v : ViewState) (packets : List (List ℕ)) (left : ℕ) →
     part p (events_to_end (with_queue v None) packets left) ≡ part p (events_all v packets)

@@ -55,7 +55,8 @@ pub fn clock_references()
 
 /// States that the monitor reports a section of a table if and only if it begins later after the one before than ETSI
 /// TR 101 290 allows: NIT, SDT and EIT of the actual stream and TDT (5.2.3, 3.1.a, 3.5.a, 3.6.a and 3.8); the PAT from
-/// the beginning to the end of the stream (5.2.1, 1.3.a), and program maps from where they are named to the end (1.5.a).
+/// the beginning to the end of the stream (5.2.1, 1.3.a), and program maps from where they are named to the end
+/// (1.5.a).
 pub fn late_tables()
     ensures pat { PatFaultLaw }
     ensures pmt { MapFaultLaw }
@@ -72,8 +73,8 @@ pub fn sections()
     ensures section { FindingFaultLaw rules.Section }
 {}
 
-/// States that the monitor reports a PES packet with a PTS if and only if it begins more than 700 ms after the one before
-/// on its PID (5.2.2, 2.5).
+/// States that the monitor reports a PES packet with a PTS if and only if it begins more than 700 ms after the one
+/// before on its PID (5.2.2, 2.5).
 pub fn late_stamps()
     ensures { StampFaultLaw }
 {}

@@ -1,4 +1,4 @@
--- The sections of tables need no body of a PES packet.
+-- The sections of tables do not depend on the body of a PES packet.
 use Rattle.std.proofs.Common.{◌≡◌, ◌∙◌, ℕ, ◌+◌, ◌^◌, ◌-◌, Bool, List, [], ◌∷◌, ◌++◌, map, Option, Some, None, refl, sym, ap, ap₂}
 use Rattle.std.specs.Prelude.{min, if◌then◌else◌, option_and_then, unwrap_or}
 use Rattle.psi_tables.specs.declared.error.SectionError.TheVariants as refusals
@@ -78,7 +78,7 @@ wrong_besides (IsBadPacket error) = refl
 wrong_besides IsErrored = refl
 wrong_besides (IsStray size) = refl
 
--- 2. What it leaves, and what is said of it
+-- 2. The state after a finding, and its events
 
 abbrev with_by : ViewOptions → TimesState → Bool → Option WholeSection → Option SectionBegin → TimesState
 with_by options s wrong whole section =

@@ -1,4 +1,4 @@
--- Findings one by one.
+-- Findings one by one
 use Rattle.std.proofs.Common.{◌≡◌, ◌∙◌, ◌<◌, ◌≤◌, ℕ, ◌+◌, ◌++◌, List, [], ◌∷◌, length, map, drop, get_or, refl, sym, ap, add-one}
 use Rattle.std.proofs.Math.Seq.{drop-cons}
 use Rattle.std.proofs.lemmas.List.{append_assoc, append-nil, drop_all}
@@ -11,7 +11,7 @@ all_step : {X : Type 0} (view : X → FindingView) (i : ℕ) (fs : List X) (f : 
     map view (drop i fs) ≡ view f ∷ map view (drop (i + 1) fs)
 all_step view i fs f below at = rw (drop-cons fs i f below, add-one i, sym at) refl
 
--- the sections of those that are left
+-- The state after one finding and the rest is the state after all remaining findings.
 pub times_step : {X : Type 0} (view : X → FindingView) (options : ViewOptions) (whole s next : TimesState) (i : ℕ) (fs : List X) (f : X) → i < length fs →
     f ≡ get_or fs i f →
     whole ≡ with_findings options s (map view (drop i fs)) → next ≡ with_finding options s (view f) →
@@ -27,7 +27,7 @@ unfolding with_findings
 times_end view options whole s i fs over is =
     let none : map view (drop i fs) ≡ [] = rw (drop_all i fs over) refl in sym (is ∙ ap (λ (l : List FindingView). with_findings options s l) none)
 
--- and what is wrong with them
+-- The events of one finding come before the events of the later findings.
 pub events_step : {X : Type 0} (view : X → FindingView) (options : ViewOptions) (s next : TimesState) (i : ℕ) (fs : List X) (f : X)
     (whole before after : List Event) → i < length fs → f ≡ get_or fs i f →
     whole ≡ before ++ findings_events options s (map view (drop i fs)) → next ≡ with_finding options s (view f) →

@@ -1,4 +1,4 @@
--- A packet in the demultiplexer of tables, where no part of one is held and no finding.
+-- A packet in the demultiplexer of tables, which holds no part of a packet and no findings
 use Rattle.std.proofs.Common.{◌≡◌, ◌∙◌, ℕ, List, [], ◌++◌, length, refl, sym, ap, ap₂}
 use Rattle.ts_packet.specs.Packets.{null_packet}
 use Rattle.ts_packet.proofs.PlainWritten.{null_again}
@@ -13,7 +13,7 @@ use Rattle.es_events.specs.declared.view_options.ViewOptions.{ViewOptions}
 use Rattle.ts_watch.specs.TableEvents.{TablesState, TakesPackets, TimesState, findings_events, packet_events, with_findings, with_packet}
 use Rattle.ts_watch.proofs.HeaderTables.{events_alike, times_alike}
 
--- its bytes, pushed, leave what it leaves that is taken, and find what is found in it
+-- The bytes of a packet, pushed, give the state and the findings of the packet taken whole.
 pushed_state : (s : StreamState) (bytes : List ℕ) → TakesPackets s → length bytes ≡ 188 →
     pushed s bytes ≡ record (taken s bytes) { found = s.found ++ found_in s bytes }
 pushed_state s bytes takes size = taken_as_pushed s bytes (rw takes.held refl) size
@@ -32,12 +32,12 @@ pub taken_takes : (s : StreamState) (bytes : List ℕ) → TakesPackets s → Ta
 unfolding taken
 taken_takes s bytes takes = record { held = takes.held; found = ap all_without_body takes.found }
 
--- the null packet finds nothing
+-- The null packet has no findings.
 pub null_found : (s : StreamState) → found_in s null_packet ≡ []
 unfolding found_in findings_by
 null_found s = rw (null_again.read) refl
 
--- so it leaves the sections as they are, and has no event
+-- The null packet leaves the sections unchanged and has no event.
 pub null_passed : (options : ViewOptions) (t : TablesState) (demux : StreamState) → TakesPackets t.demux → demux ≡ headers_taken t.demux null_packet →
     ◌≡◌ {A = TablesState} (record { demux = demux; times = t.times }) (with_packet options t null_packet)
 unfolding with_findings
@@ -52,11 +52,11 @@ unfolding findings_events
 null_events options t takes =
     ap (λ (fs : List FindingView). findings_events options t.times fs) (pushed_found t.demux null_packet takes null_again.size ∙ null_found t.demux)
 
--- what follows no findings
+-- If there were no findings before, the findings are the added findings.
 pub added_to_none : (none new found : List FindingView) → none ≡ [] → AddsHeaders none new found → all_without_body new ≡ all_without_body found
 added_to_none none new found e added = added ∙ ap (λ (x : List FindingView). all_without_body x ++ all_without_body found) e
 
--- and any packet leaves what is found in it
+-- The state and the events after any packet follow from its findings.
 pub packet_passed : (options : ViewOptions) (t : TablesState) (bytes : List ℕ) (demux : StreamState) (times : TimesState) (found : List FindingView) →
     TakesPackets t.demux →
     length bytes ≡ 188 → demux ≡ headers_taken t.demux bytes → all_without_body found ≡ all_without_body (found_in t.demux bytes) →

@@ -6,6 +6,7 @@ pub mod ClockDrifts
 pub mod ClockWindows
 pub mod ReferenceEvents
 pub mod TableEvents
+pub mod AbsentTables
 pub mod RuleEvents
 pub mod SystemEvents
 pub mod Laws

@@ -2,6 +2,7 @@
 //! of TR 101 290, and the buffers of system data.
 #![tactic(auto)]
 
+pub mod absent_tables;
 mod clock_drift;
 pub mod clock_events;
 pub mod clock_windows;

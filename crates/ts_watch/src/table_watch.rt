@@ -207,7 +207,8 @@ impl TableTimes {
         events: &mut Vec<Event>,
     ) -> Result<(), AllocError>
         ensures times { OnOk result (self.new ≡ spec.with_whole self.old section.now) }
-        ensures found { OnOk result (events.new.items ≡ events.old.items ++ spec.distance_events self.old.distances section.now) }
+        ensures found { OnOk result (events.new.items
+            ≡ events.old.items ++ spec.distance_events self.old.distances section.now) }
     {
         match section {
             None => Ok(()),
@@ -264,7 +265,8 @@ impl TableTimes {
         findings: &[Finding<'_>],
         events: &mut Vec<Event>,
     ) -> Result<(), AllocError>
-        ensures times { OnOk result (self.new ≡ spec.with_findings options.now self.old (map finding_view findings.now)) }
+        ensures times { OnOk result (self.new
+            ≡ spec.with_findings options.now self.old (map finding_view findings.now)) }
         ensures found { OnOk result (events.new.items
             ≡ events.old.items ++ spec.findings_events options.now self.old (map finding_view findings.now)) }
     {

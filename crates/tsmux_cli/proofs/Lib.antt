@@ -9,3 +9,4 @@ pub mod JobTaking
 pub mod MuxJobs
 pub mod MuxOutcomes
 pub mod Monitored
+pub mod GoodRuns
